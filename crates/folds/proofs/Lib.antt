@@ -1,0 +1,5 @@
+pub mod Tests
+pub mod Folds
+pub mod Find
+pub mod Put
+pub mod Parts

@@ -1,0 +1,5 @@
+pub mod Numbers
+pub mod Values
+pub mod Coverage
+pub mod ClassDef
+pub mod PairPos
