@@ -4,6 +4,7 @@ use mathlib.Core.Bool.{Bool, cond, not, _&&_, _||_}
 use mathlib.Core.List.{List, [], _∷_, _++_}
 use mathlib.Core.Option.{Option, some, none}
 use lib.ListN.{length, replicate}
+use lib.IntN.{ℤ}
 use lib.Dec.{leb, ltb, eqb}
 use Rattle.folds.specs.Lists.{put, join, isEmpty}
 use Rattle.opentype.specs.PairPos.{formatOf, exact}
@@ -143,17 +144,22 @@ splitCall s t w list =
 unfoldable pub planCall : Store → ℕ → Scratch → List ℕ → Outcome
 planCall s t w list = settle (firstCase (planCases s t w list)) s list w (done s (cutPlaces s t) list w)
 
--- "The pair reading takes 16-bit glyph numbers and no scratch, writes nothing, and refuses by 1 to 5 in this order with no pair and sixteen zeros; another format is 0 and no pair."
+-- at exit of a pair reading: 1 where there is a pair, else 0, and "eight numbers for the first glyph and eight for the second"
 pub record PairOutcome : Type 0 where
   pub answer : ℕ
-  pub pair : Pair
+  pub found : ℕ
+  pub values : List ℤ
 
--- a refusal has no pair
+-- an answer with what the pair holds
+abbrev pub reported : ℕ → Pair → PairOutcome
+reported n p = record { answer = n; found = cond (p .found) 1 0; values = p .first ++ p .second }
+
+-- "refuses by 1 to 5 in this order with no pair and sixteen zeros; another format is 0 and no pair"
 unfoldable pub settlePair : Option ℕ → Pair → PairOutcome
-settlePair (some n) p = record { answer = n; pair = noPair }
-settlePair none p = record { answer = 0; pair = p }
+settlePair (some n) p = reported n noPair
+settlePair none p = reported 0 p
 
--- the outcome of a pair reading
+-- the outcome of a pair reading, which "takes 16-bit glyph numbers and no scratch, writes nothing"
 unfoldable pub pairCall : Store → ℕ → ℕ → ℕ → PairOutcome
 pairCall s t a b = settlePair (firstCase (readCases s t)) (pairOf s t a b)
 

@@ -5,3 +5,4 @@ pub mod Table
 pub mod Written
 pub mod Pairs
 pub mod Answers
+pub mod Computing
