@@ -1,4 +1,4 @@
-//! Writers of Coverage and ClassDef.
+//! Writers of Coverage and ClassDef, and of plain numbers.
 
 use crate::{
     read::tables::layout::{ClassDef, CoverageTable},
@@ -59,6 +59,11 @@ pub fn class_def(glyph_classes: &[(u16, u16)]) -> Vec<u8> {
     }
 }
 
+/// The big-endian bytes of 16-bit numbers.
+pub fn words(numbers: impl IntoIterator<Item = u16>) -> Vec<u8> {
+    numbers.into_iter().flat_map(u16::to_be_bytes).collect()
+}
+
 impl<'a> Serialize<'a> for CoverageTable<'_> {
     type Args = &'a [GlyphId];
 
@@ -104,8 +109,4 @@ fn span(runs: &[Run]) -> Option<(u16, usize)> {
 
 fn count(len: usize) -> u16 {
     u16::try_from(len).expect("a count of 16 bits")
-}
-
-fn words(numbers: impl Iterator<Item = u16>) -> Vec<u8> {
-    numbers.flat_map(u16::to_be_bytes).collect()
 }

@@ -1,18 +1,16 @@
 //! Stores that hold one PairPos table, as object 0.
 
-use oracle::{write, ObjIdx, Store};
+use oracle::{
+    write::{self, words},
+    ObjIdx, Store,
+};
 
 /// The table of every store here.
 pub const TABLE: ObjIdx = 0;
 
-/// Big-endian bytes.
-pub fn words(numbers: &[u16]) -> Vec<u8> {
-    numbers.iter().flat_map(|n| n.to_be_bytes()).collect()
-}
-
 /// A table of its header and then zeros, up to this length.
 pub fn table(header: &[u16], len: usize) -> Vec<u8> {
-    let mut bytes = words(header);
+    let mut bytes = words(header.iter().copied());
     bytes.resize(len, 0);
     bytes
 }
