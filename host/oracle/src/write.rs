@@ -16,18 +16,15 @@ struct Run {
 
 /// The coverage table of ascending glyphs: in format 2 only where that is shorter.
 pub fn coverage(glyphs: &[u16]) -> Vec<u8> {
-    let runs = runs(glyphs.iter().map(|&glyph| (glyph, 0)));
+    let glyphs = glyphs.iter().copied();
+    let runs = runs(glyphs.clone().map(|glyph| (glyph, 0)));
     if 6 * runs.len() >= 2 * glyphs.len() {
-        return words(
-            [1, count(glyphs.len())]
-                .into_iter()
-                .chain(glyphs.iter().copied()),
-        );
+        return words([1, count(glyphs.len())].into_iter().chain(glyphs));
     }
     let mut index = 0;
     let ranges = runs.iter().flat_map(|run| {
-        let start_index = index;
-        index += run.last - run.first + 1;
+        let start_index = count(index);
+        index += (run.last - run.first) as usize + 1;
         [run.first, run.last, start_index]
     });
     words([2, count(runs.len())].into_iter().chain(ranges))
