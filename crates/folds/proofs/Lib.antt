@@ -3,3 +3,4 @@ pub mod Folds
 pub mod Find
 pub mod Put
 pub mod Parts
+pub mod FromTheFront

@@ -1,0 +1,120 @@
+-- Entries in ascending order and their runs: the runs rise, and spread out again to the entries' glyphs. Assumes nothing.
+use Prim.Native.Nat.{ℕ, suc, _+_, _-_, _<_, _≤_}
+use mathlib.Core.Path.{_≡_, refl, sym, ap, ap₂, _∙_}
+use mathlib.Core.Bool.{Bool, true, false, cond}
+use mathlib.Core.List.{List, [], _∷_, _++_, map}
+use native.Mathlib.Omega.{arith}
+use lib.Dec.{eqb}
+use borrow.Author.Tests.{eqb-true}
+use Rattle.folds.specs.Folds.{flat, run}
+use Rattle.folds.specs.Lists.{sift}
+use Rattle.folds.proofs.Tests.{and-both}
+use Rattle.folds.proofs.Folds.{upto-cons, upto-same}
+use Rattle.opentype.specs.Coverage.{Entry, Run, single, longer, joins, extend, runs, plain}
+
+-- ---- entries in order
+
+-- the glyphs ascend, from lo on
+abbrev pub Ascends : ℕ → List Entry → Type 0
+Ascends lo [] = Unit {0}
+Ascends lo (e ∷ es) = (lo ≤ e .glyph) × Ascends (e .glyph + 1) es
+
+-- all glyphs lie below n
+abbrev pub Under : ℕ → List Entry → Type 0
+Under n [] = Unit {0}
+Under n (e ∷ es) = (e .glyph < n) × Under n es
+
+pub ascends-lower : (es : List Entry) (lo lo′ : ℕ) → lo′ ≤ lo → Ascends lo es → Ascends lo′ es
+ascends-lower [] lo lo′ h a = tt
+ascends-lower (e ∷ es) lo lo′ h a = let b : lo ≤ e .glyph = a .0 in (omega arith, a .1)
+
+pub ascends-sift : (p : Entry → Bool) (es : List Entry) (lo : ℕ) → Ascends lo es → Ascends lo (sift p es)
+unfolding sift
+ascends-sift p [] lo a = tt
+ascends-sift p (e ∷ es) lo a = go (p e) (ascends-sift p es (e .glyph + 1) (a .1))
+  where
+    go : (b : Bool) → Ascends (e .glyph + 1) (sift p es) → Ascends lo (cond b (e ∷ sift p es) (sift p es))
+    go true i = (a .0, i)
+    go false i = let b : lo ≤ e .glyph = a .0 in ascends-lower (sift p es) (e .glyph + 1) lo (omega arith) i
+
+pub under-sift : (p : Entry → Bool) (es : List Entry) (n : ℕ) → Under n es → Under n (sift p es)
+unfolding sift
+under-sift p [] n a = tt
+under-sift p (e ∷ es) n a = go (p e) (under-sift p es n (a .1))
+  where
+    go : (b : Bool) → Under n (sift p es) → Under n (cond b (e ∷ sift p es) (sift p es))
+    go true i = (a .0, i)
+    go false i = i
+
+pub plain-glyphs : (gs : List ℕ) → map (λ e. e .glyph) (plain gs) ≡ gs
+plain-glyphs [] = refl
+plain-glyphs (g ∷ gs) = ap {B = List ℕ} (λ x. g ∷ x) (plain-glyphs gs)
+
+-- ---- runs in order
+
+-- the runs rise, from lo on
+abbrev pub Rise : ℕ → List Run → Type 0
+Rise lo [] = Unit {0}
+Rise lo (r ∷ rs) = (lo ≤ r .start) × (r .start ≤ r .end) × Rise (r .end + 1) rs
+
+-- by the test of an entry before runs
+module _ (P : List Run → Type 0) (e : Entry) where
+  pub by-extend : (rs : List Run) → P (single e ∷ rs) → ((r : Run) (ts : List Run) → rs ≡ r ∷ ts → e .glyph + 1 ≡ r .start → e .class ≡ r .class → P (longer e r ∷ ts)) → P (extend e rs)
+  unfolding extend
+  by-extend [] a b = a
+  by-extend (r ∷ rs) a b = go (joins e r) refl
+    where
+      go : (x : Bool) → joins e r ≡ x → P (cond x (longer e r ∷ rs) (single e ∷ r ∷ rs))
+      go true h = let (c, d) = and-both (eqb (e .glyph + 1) (r .start)) (eqb (e .class) (r .class)) h in b r rs refl (eqb-true (e .glyph + 1) (r .start) c) (eqb-true (e .class) (r .class) d)
+      go false h = a
+
+pub runs-rise : (es : List Entry) (lo : ℕ) → Ascends lo es → Rise lo (runs es)
+unfolding runs
+runs-rise [] lo a = tt
+runs-rise (e ∷ es) lo a =
+    let i : Rise (e .glyph + 1) (runs es) = runs-rise es (e .glyph + 1) (a .1) in
+    by-extend (Rise lo) e (runs es) (a .0, omega arith, i)
+    (λ r ts q c d. let j : Rise (e .glyph + 1) (r ∷ ts) = rw q at i in
+    let k : r .start ≤ r .end = j .1 in
+    (a .0, omega arith, j .2))
+
+-- ---- the glyphs of runs
+
+-- how many glyphs a run has
+abbrev pub runSize : Run → ℕ
+runSize r = r .end + 1 - r .start
+
+-- the glyphs of a run
+abbrev pub spread : Run → List ℕ
+spread r = run (r .start) (runSize r)
+
+-- the glyphs of runs in a row
+abbrev pub expand : List Run → List ℕ
+expand [] = []
+expand (r ∷ rs) = spread r ++ expand rs
+
+spread-single : (e : Entry) → spread (single e) ≡ e .glyph ∷ []
+unfolding flat
+spread-single e =
+    let z : e .glyph + 1 - e .glyph ≡ 1 = omega arith in
+    let y : e .glyph + 0 ≡ e .glyph = omega arith in
+    ap (run (e .glyph)) z ∙ ap {B = List ℕ} (λ (n : ℕ). n ∷ []) y
+
+spread-longer : (e : Entry) (r : Run) → e .glyph + 1 ≡ r .start → r .start ≤ r .end → spread (longer e r) ≡ e .glyph ∷ spread r
+spread-longer e r h l =
+    let z : r .end + 1 - e .glyph ≡ suc (runSize r) = omega arith in
+    let y : e .glyph + 0 ≡ e .glyph = omega arith in
+    ap (run (e .glyph)) z
+    ∙ upto-cons (λ j. e .glyph + j) (runSize r)
+    ∙ ap₂ (λ (x : ℕ) (ys : List ℕ). x ∷ ys) y (upto-same (λ j. e .glyph + suc j) (λ j. r .start + j) (runSize r) (λ j k. omega arith))
+
+pub expand-runs : (es : List Entry) (lo : ℕ) → Ascends lo es → expand (runs es) ≡ map (λ e. e .glyph) es
+unfolding runs
+expand-runs [] lo a = refl
+expand-runs (e ∷ es) lo a =
+    let i = expand-runs es (e .glyph + 1) (a .1) in
+    let r : Rise (e .glyph + 1) (runs es) = runs-rise es (e .glyph + 1) (a .1) in
+    by-extend (λ rs. expand rs ≡ e .glyph ∷ map (λ e. e .glyph) es) e (runs es)
+    (ap₂ (λ (x y : List ℕ). x ++ y) (spread-single e) i)
+    (λ q ts w c d. let j : Rise (e .glyph + 1) (q ∷ ts) = rw w at r in
+    ap (λ (x : List ℕ). x ++ expand ts) (spread-longer e q c (j .1)) ∙ ap (λ (x : List ℕ). e .glyph ∷ x) (sym (ap expand w) ∙ i))
