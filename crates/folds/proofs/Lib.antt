@@ -4,3 +4,4 @@ pub mod Find
 pub mod Put
 pub mod Parts
 pub mod FromTheFront
+pub mod Table

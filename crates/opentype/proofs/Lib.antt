@@ -5,3 +5,4 @@ pub mod RangeBytes
 pub mod CoverageRoundTrip
 pub mod Classes
 pub mod ClassDefRoundTrip
+pub mod Values
