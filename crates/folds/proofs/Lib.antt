@@ -5,3 +5,4 @@ pub mod Put
 pub mod Parts
 pub mod FromTheFront
 pub mod Table
+pub mod Writing

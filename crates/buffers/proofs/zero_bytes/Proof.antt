@@ -1,0 +1,56 @@
+-- `buffers::zero_bytes` meets its contract: zeros stand over the bytes passed. Assumes nothing.
+use Prim.Native.Nat.{_-_}
+use mathlib.Core.Path.{ap, _∙_}
+use borrow.Author.Needs.{needs}
+use Rattle.folds.specs.Lists.{put}
+use Rattle.folds.proofs.Writing.{Writing, write-start, write-turn, write-stop, upto-const}
+use Rattle.buffers.proofs.zero_bytes.Statement.{statement}
+use Rattle.buffers.proofs.zero_bytes.Tie as tie
+
+abbrev Inv-loop : tie.InvT-loop
+Inv-loop s₀ at count k₀ s k = Writing (λ i. 0) s₀ at count s k
+
+abbrev μ-loop : tie.MeasureT-loop
+μ-loop s₀ at count k₀ s k = count - k
+
+loop-holds : tie.Need-loop-holds Inv-loop μ-loop
+loop-holds c = write-start (λ i. 0) _ _ _ (c .pre)
+
+add-s : tie.Need-add-s Inv-loop μ-loop
+add-s c = search needs
+
+slice-write-s : tie.Need-slice-write-s Inv-loop μ-loop
+slice-write-s c = search needs
+
+add-k : tie.Need-add-k Inv-loop μ-loop
+add-k c = search needs
+
+loop-less : tie.Need-loop-less Inv-loop μ-loop
+loop-less c = search needs
+
+loop-again : tie.Need-loop-again Inv-loop μ-loop
+loop-again c = write-turn (λ i. 0) _ _ _ (c .before .before .pre) _ _ (c .before .loop .inv) (search needs)
+
+same-length : tie.Need-same-length Inv-loop μ-loop
+same-length c = search needs
+
+returns : tie.Need-returns Inv-loop μ-loop
+returns c =
+    let a = c .before .before .args in
+    write-stop (λ i. 0) _ _ _ (c .before .before .pre) _ _ (c .before .loop .inv) (search needs)
+    ∙ ap (put (a .s .now) (a .at)) (upto-const 0 (a .count))
+
+pub zero-bytes-spec : {M : Type 1} → statement M
+zero-bytes-spec =
+    tie.close
+    (tie.spec
+    Inv-loop
+    μ-loop
+    loop-holds
+    add-s
+    slice-write-s
+    add-k
+    loop-less
+    loop-again
+    same-length
+    returns)

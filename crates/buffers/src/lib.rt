@@ -1,0 +1,63 @@
+// Lent buffers: numbers zeroed, and bytes copied further up.
+ghost use mathlib.Core.Path.{_≡_};
+ghost use Prim.Native.Nat.{_+_, _≤_};
+ghost use lib.ListN.{length, replicate};
+ghost use Rattle.folds.specs.Lists.{put, part};
+
+// Writes `count` zeros from byte `at` on.
+pub fn zero_bytes(s: &mut [u8], at: usize, count: usize)
+    requires { ⌜ at + count ≤ length (now s) ⌝ }
+    ensures { λ _. ⌜ now (s .exit) ≡ put (now (s .entry)) at (replicate count 0) ⌝ }
+{
+    let mut k: usize = 0;
+    while k < count {
+        s[at + k] = 0;
+        k += 1;
+    }
+}
+
+// Copies `count` bytes from byte `from` on to byte `at` on, which lies past them.
+pub fn copy_up(s: &mut [u8], from: usize, at: usize, count: usize)
+    requires { ⌜ from + count ≤ at ⌝ }
+    requires { ⌜ at + count ≤ length (now s) ⌝ }
+    ensures { λ _. ⌜ now (s .exit) ≡ put (now (s .entry)) at (part (now (s .entry)) from (from + count)) ⌝ }
+{
+    let mut k: usize = 0;
+    while k < count {
+        s[at + k] = s[from + k];
+        k += 1;
+    }
+}
+
+// Zeroes a whole slice.
+pub fn clear_u8(s: &mut [u8])
+    ensures { λ _. ⌜ now (s .exit) ≡ replicate (length (now (s .entry))) 0 ⌝ }
+{
+    let mut k: usize = 0;
+    while k < s.len() {
+        s[k] = 0;
+        k += 1;
+    }
+}
+
+// The same, of 16-bit numbers.
+pub fn clear_u16(s: &mut [u16])
+    ensures { λ _. ⌜ now (s .exit) ≡ replicate (length (now (s .entry))) 0 ⌝ }
+{
+    let mut k: usize = 0;
+    while k < s.len() {
+        s[k] = 0;
+        k += 1;
+    }
+}
+
+// The same, of 32-bit numbers.
+pub fn clear_u32(s: &mut [u32])
+    ensures { λ _. ⌜ now (s .exit) ≡ replicate (length (now (s .entry))) 0 ⌝ }
+{
+    let mut k: usize = 0;
+    while k < s.len() {
+        s[k] = 0;
+        k += 1;
+    }
+}
