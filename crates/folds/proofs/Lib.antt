@@ -6,3 +6,6 @@ pub mod Parts
 pub mod FromTheFront
 pub mod Table
 pub mod Writing
+pub mod Sums
+pub mod Agree
+pub mod Among

@@ -1,14 +1,17 @@
--- The rule of the fixed table of eight rows, proved once over the whole table. Assumes nothing.
-use Prim.Native.Nat.{ℕ, _^_, _<_}
+-- The rule of the fixed table of eight rows, proved once over the whole table, and what follows for a format's fields. Assumes nothing.
+use Prim.Native.Nat.{ℕ, _+_, _/_, _%_, _^_, _<_, _≤_}
 use mathlib.Core.Path.{_≡_, refl, sym, ap, ap₂, _∙_}
 use mathlib.Core.Bool.{Bool, true, false, _&&_}
+use native.Mathlib.Omega.{arith}
 use lib.Dec.{leb, eqb}
 use lib.ListN.{getD}
 use borrow.Author.Tests.{eqb-true}
 use Rattle.folds.proofs.Tests.{and-both}
+use Rattle.folds.proofs.Folds.{sum-more, sum-le}
+use Rattle.folds.proofs.Sums.{sum-bound}
 use Rattle.folds.proofs.Table.{rule-at}
 use Rattle.opentype.specs.declared.Field.{Field}
-use Rattle.opentype.specs.Values.{field, fields, fieldAt}
+use Rattle.opentype.specs.Values.{field, fields, fieldAt, bit, fieldCount, position}
 
 -- two tests have one value
 same : Bool → Bool → Bool
@@ -47,3 +50,30 @@ row-rule d j h = is-ruled j (getD fields j d) (rule-at isRuled d fields refl j h
 
 pub field-rule : (j : ℕ) → j < 8 → fieldAt j ≡ ruled j
 field-rule j h = row-rule (field 1 false 8) j h
+
+-- ---- fields of a format
+
+pub bit-digit : (vf j : ℕ) → j < 8 → bit vf j ≡ vf / 2 ^ j % 2
+unfolding bit
+bit-digit vf j h = ap (λ (f : Field). vf / f .mask % 2) (field-rule j h)
+
+pub bit-below : (vf j : ℕ) → bit vf j < 2
+unfolding bit
+bit-below vf j = omega arith
+
+pub position-more : (vf j : ℕ) → position vf (j + 1) ≡ position vf j + bit vf j
+unfolding position
+position-more vf j = sum-more (bit vf) j
+
+-- the positions ascend, and the last is the count
+pub position-le : (vf i j : ℕ) → i ≤ j → position vf i ≤ position vf j
+unfolding position
+position-le vf i j h = sum-le (bit vf) i j h
+
+pub position-all : (vf : ℕ) → position vf 8 ≡ fieldCount vf
+unfolding position fieldCount
+position-all vf = refl
+
+pub fieldCount-le : (vf : ℕ) → fieldCount vf ≤ 8
+unfolding fieldCount
+fieldCount-le vf = omega (arith, sum-bound (bit vf) 1 8 (λ k l. omega (arith, bit-below vf k)))

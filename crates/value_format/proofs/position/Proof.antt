@@ -1,0 +1,27 @@
+-- `value_format::position` meets its contract: the mask keeps the bits below row j, and their ones are the fields before it. Assumes nothing.
+use borrow.Author.Needs.{needs}
+use native.Mathlib.Omega.{arith}
+use lib.Pow.{pow-pos}
+use Rattle.value_format.proofs.Ones.{masked-ones, position-fits, one-shifted}
+use Rattle.value_format.proofs.position.Statement.{statement}
+use Rattle.value_format.proofs.position.Tie as tie
+
+cast-below : tie.Need-cast-below
+cast-below c = search needs
+
+shl-below : tie.Need-shl-below
+shl-below c = search needs
+
+sub-below : tie.Need-sub-below
+sub-below c = rw (one-shifted (c .args .j) (c .pre)) (pow-pos (c .args .j))
+
+cast-result : tie.Need-cast-result
+cast-result c =
+    rw (one-shifted (c .args .j) (c .pre))
+    (omega (arith, masked-ones (c .args .format) (c .args .j) (c .pre), position-fits (c .args .format) (c .args .j) (c .pre)))
+
+returns : tie.Need-returns
+returns c = rw (one-shifted (c .args .j) (c .pre)) (masked-ones (c .args .format) (c .args .j) (c .pre))
+
+pub position-spec : {M : Type 1} → statement M
+position-spec = tie.close (tie.spec cast-below shl-below sub-below cast-result returns)
