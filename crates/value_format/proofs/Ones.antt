@@ -9,7 +9,7 @@ use lib.Dec.{eqb, lit<}
 use lib.Pow.{pow-pos, pow-add, shl-exact, mod-pow-add}
 use borrow.Author.Tests.{eq-eqb, ne-eqb}
 use Rattle.folds.specs.Folds.{sum}
-use Rattle.folds.proofs.Sums.{sum-same}
+use Rattle.folds.proofs.FromTheFront.{sum-same}
 use Rattle.opentype.specs.Values.{bit, position}
 use Rattle.opentype.proofs.Values.{bit-digit, position-le, position-all, fieldCount-le}
 
