@@ -9,3 +9,4 @@ pub mod Writing
 pub mod Sums
 pub mod Agree
 pub mod Among
+pub mod Halving

@@ -1,6 +1,7 @@
 pub mod Numbers
 pub mod Head
 pub mod Runs
+pub mod RunCount
 pub mod RangeBytes
 pub mod CoverageRoundTrip
 pub mod Classes

@@ -1,7 +1,7 @@
 -- Entries in ascending order and their runs: the runs rise, and spread out again to the entries' glyphs. Assumes nothing.
 use Prim.Native.Nat.{ℕ, suc, _+_, _-_, _<_, _≤_}
 use mathlib.Core.Path.{_≡_, refl, sym, ap, ap₂, _∙_}
-use mathlib.Core.Bool.{Bool, true, false, cond}
+use mathlib.Core.Bool.{Bool, true, false, cond, _&&_}
 use mathlib.Core.List.{List, [], _∷_, _++_, map}
 use native.Mathlib.Omega.{arith}
 use lib.Dec.{eqb}
@@ -9,7 +9,7 @@ use borrow.Author.Tests.{eqb-true}
 use Rattle.folds.specs.Folds.{flat, run}
 use Rattle.folds.specs.Lists.{sift}
 use Rattle.folds.proofs.Tests.{and-both}
-use Rattle.folds.proofs.Folds.{upto-cons, upto-same}
+use Rattle.folds.proofs.FromTheFront.{run-cons}
 use Rattle.opentype.specs.Coverage.{Entry, Run, single, longer, joins, extend, runs, plain}
 
 -- ---- entries in order
@@ -78,6 +78,52 @@ runs-rise (e ∷ es) lo a =
     let k : r .start ≤ r .end = j .1 in
     (a .0, omega arith, j .2))
 
+-- ---- an entry before others
+
+-- f follows e in the same run
+abbrev pub follows : Entry → Entry → Bool
+follows e f = eqb (e .glyph + 1) (f .glyph) && eqb (e .class) (f .class)
+
+-- the runs, the first of them from glyph g on
+abbrev pub from : ℕ → List Run → List Run
+from g [] = []
+from g (r ∷ rs) = record { start = g; end = r .end; class = r .class } ∷ rs
+
+-- the first run starts with the first entry
+pub head-run : (e : Entry) (es : List Entry) → (r : Run) × (ts : List Run) × (runs (e ∷ es) ≡ r ∷ ts) × (r .start ≡ e .glyph) × (r .class ≡ e .class)
+unfolding runs
+head-run e es =
+    by-extend (λ rs. (r : Run) × (ts : List Run) × (rs ≡ r ∷ ts) × (r .start ≡ e .glyph) × (r .class ≡ e .class)) e (runs es)
+    (single e, runs es, refl, refl, refl) (λ r ts q c d. (longer e r, ts, refl, refl, sym d))
+
+pub from-own : (e : Entry) (es : List Entry) → from (e .glyph) (runs (e ∷ es)) ≡ runs (e ∷ es)
+from-own e es =
+    let (r, ts, q, a, b) = head-run e es in
+    ap (from (e .glyph)) q ∙ ap (λ (g : ℕ). from g (r ∷ ts)) (sym a) ∙ sym q
+
+extend-first : (e f : Entry) (es : List Entry) → runs (e ∷ f ∷ es) ≡ cond (follows e f) (from (e .glyph) (runs (f ∷ es))) (single e ∷ runs (f ∷ es))
+unfolding runs extend
+extend-first e f es =
+    let (r, ts, q, a, b) = head-run f es in
+    ap (extend e) q
+    ∙ ap₂ (λ (x y : ℕ). cond (eqb (e .glyph + 1) x && eqb (e .class) y) (longer e r ∷ ts) (single e ∷ r ∷ ts)) a b
+    ∙ ap (λ (rs : List Run). cond (follows e f) (from (e .glyph) rs) (single e ∷ rs)) (sym q)
+
+module _ (e f : Entry) (es : List Entry) where
+  pub runs-join : follows e f ≡ true → runs (e ∷ f ∷ es) ≡ from (e .glyph) (runs (f ∷ es))
+  runs-join h = extend-first e f es ∙ rw h
+
+  pub runs-part : follows e f ≡ false → runs (e ∷ f ∷ es) ≡ single e ∷ runs (f ∷ es)
+  runs-part h = extend-first e f es ∙ rw h
+
+pub runs-none : runs [] ≡ []
+unfolding runs
+runs-none = refl
+
+pub runs-one : (e : Entry) → runs (e ∷ []) ≡ single e ∷ []
+unfolding runs extend
+runs-one e = refl
+
 -- ---- the glyphs of runs
 
 -- how many glyphs a run has
@@ -103,10 +149,7 @@ spread-single e =
 spread-longer : (e : Entry) (r : Run) → e .glyph + 1 ≡ r .start → r .start ≤ r .end → spread (longer e r) ≡ e .glyph ∷ spread r
 spread-longer e r h l =
     let z : r .end + 1 - e .glyph ≡ suc (runSize r) = omega arith in
-    let y : e .glyph + 0 ≡ e .glyph = omega arith in
-    ap (run (e .glyph)) z
-    ∙ upto-cons (λ j. e .glyph + j) (runSize r)
-    ∙ ap₂ (λ (x : ℕ) (ys : List ℕ). x ∷ ys) y (upto-same (λ j. e .glyph + suc j) (λ j. r .start + j) (runSize r) (λ j k. omega arith))
+    ap (run (e .glyph)) z ∙ run-cons (e .glyph) (runSize r) ∙ ap (λ (g : ℕ). e .glyph ∷ run g (runSize r)) h
 
 pub expand-runs : (es : List Entry) (lo : ℕ) → Ascends lo es → expand (runs es) ≡ map (λ e. e .glyph) es
 unfolding runs
