@@ -6,18 +6,18 @@ use mathlib.Core.List.{List, [], _∷_, _++_}
 use native.Mathlib.Omega.{arith}
 use native.Mathlib.Nat.{not-suc-le-zero}
 use lib.ListN.{length, getD}
-use lib.Dec.{leb, ltb}
-use borrow.Author.Tests.{eq-eqb, le-leb}
+use lib.Dec.{ltb}
 use Rattle.folds.specs.Folds.{before, sum, flat, run}
 use Rattle.folds.proofs.Tests.{by-test}
-use Rattle.folds.proofs.Folds.{all-intro, upto-same}
+use Rattle.folds.proofs.Folds.{upto-same}
 use Rattle.folds.proofs.FromTheFront.{sum-cons, sum-same, flat-cons, flat-same, upto-getD}
 use Rattle.opentype.specs.Numbers.{u16At, be16, words}
-use Rattle.opentype.specs.Coverage.{Run, runs, plain, glyphAt, startAt, besideAt, sizeAt, listFits, indexed, coverReadable, coverGlyphs, coverRanges, coverageBytes}
+use Rattle.opentype.specs.Coverage.{Run, runs, plain, glyphAt, startAt, besideAt, sizeAt, coverReadable, coverGlyphs, coverRanges, coverageBytes}
 use Rattle.opentype.specs.ClassDef.{classRanges}
 use Rattle.opentype.proofs.Numbers.{length-words}
 use Rattle.opentype.proofs.Head.{two-bytes, u16At-past, head-format, head-count, head-past, head-length}
 use Rattle.opentype.proofs.Runs.{Ascends, Rise, runs-rise, runSize, spread, expand, expand-runs, plain-glyphs}
+use Rattle.opentype.proofs.CoverageRead.{list-fits, index-fits}
 use Rattle.opentype.proofs.RangeBytes.{noRun, ranged, ranged-format, ranged-count, ranged-start, ranged-end, ranged-beside, ranged-fits}
 
 -- ---- in ranges: each with the glyphs before it beside it
@@ -72,18 +72,17 @@ module _ (rs : List Run) where
       ∙ omega (arith, sum-same (λ j. runSize (getD ns j noRun)) (sizeAt (ranged ns)) k (λ j l. omega (arith, ranged-start ns j (omega arith), ranged-end ns j (omega arith))))
 
   ranges-readable : Rise 0 rs → coverReadable inRanges ≡ true
-  unfolding coverReadable indexed
+  unfolding coverReadable
   ranges-readable a =
       let ns = numbered 0 rs in
-      rw (as-numbered)
-      (rw (ranged-format ns, ranged-count ns, ranged-fits ns (numbered-rise 0 0 rs a))
-      (all-intro _ (length ns) (λ k h. eq-eqb (besideAt (ranged ns) k) (sum (sizeAt (ranged ns)) k) (numbered-index k h))))
+      rw as-numbered
+      (rw (ranged-format ns, ranged-count ns, ranged-fits ns (numbered-rise 0 0 rs a), index-fits (ranged ns) (length ns) numbered-index))
 
   ranges-glyphs : coverGlyphs inRanges ≡ expand rs
   unfolding coverGlyphs
   ranges-glyphs =
       let ns = numbered 0 rs in
-      rw (as-numbered)
+      rw as-numbered
       (rw (ranged-format ns, ranged-count ns)
       (flat-same (λ k. run (startAt (ranged ns) k) (sizeAt (ranged ns) k)) (λ k. spread (getD ns k noRun)) (length ns)
       (λ k h. ap₂ (λ (x y : ℕ). run x (y + 1 - x)) (ranged-start ns k h) (ranged-end ns k h))
@@ -118,10 +117,10 @@ module _ (gs : List ℕ) where
   list-length = omega (arith, head-length 1 (length gs) (words gs), length-words gs)
 
   list-readable : Ascends 0 (plain gs) → coverReadable inList ≡ true
-  unfolding coverReadable listFits before
+  unfolding coverReadable before
   list-readable a =
-      rw (head-format 1 (length gs) (words gs), head-count 1 (length gs) (words gs), eq-eqb (length inList) (4 + 2 * length gs) list-length)
-      (rw (all-intro (λ k. leb (before (λ j. glyphAt inList j + 1) k) (glyphAt inList k)) (length gs) (λ k h. le-leb (before (λ j. glyphAt inList j + 1) k) (glyphAt inList k) (above k h))))
+      rw (head-format 1 (length gs) (words gs), head-count 1 (length gs) (words gs))
+      (rw (list-fits inList (length gs) (record { long = list-length; rising = record { above = above; ordered = λ k h. omega arith } })))
     where
       above : (k : ℕ) → k < length gs → before (λ j. glyphAt inList j + 1) k ≤ glyphAt inList k
       above zero h = omega arith

@@ -2,8 +2,12 @@ pub mod Numbers
 pub mod Head
 pub mod Runs
 pub mod RunCount
+pub mod RangesRead
 pub mod RangeBytes
+pub mod CoverageRead
+pub mod CoverageGlyphs
 pub mod CoverageRoundTrip
+pub mod CoverageLength
 pub mod Classes
 pub mod ClassDefRoundTrip
 pub mod Values

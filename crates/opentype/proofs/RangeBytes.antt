@@ -6,15 +6,13 @@ use mathlib.Core.List.{List, [], _∷_, _++_}
 use native.Mathlib.Omega.{arith}
 use native.Mathlib.Nat.{not-suc-le-zero}
 use lib.ListN.{length, getD, List·getD-append}
-use borrow.Author.Tests.{eq-eqb, le-leb}
 use Rattle.folds.specs.Folds.{before}
-use Rattle.folds.proofs.Tests.{and-intro}
-use Rattle.folds.proofs.Folds.{all-intro}
 use Rattle.opentype.specs.Numbers.{u16At, be16}
 use Rattle.opentype.specs.Coverage.{Run, startAt, endAt, besideAt, rangesFit}
 use Rattle.opentype.specs.ClassDef.{classRanges}
 use Rattle.opentype.proofs.Head.{two-bytes, u16At-past, head-format, head-count, head-past, head-length}
 use Rattle.opentype.proofs.Runs.{Rise}
+use Rattle.opentype.proofs.RangesRead.{ranges-fit}
 
 -- what stands past the last run
 pub noRun : Run
@@ -94,14 +92,12 @@ rise-next (r ∷ rs) lo zero a h = rise-first rs (r .end + 1) (a .2) (omega arit
 rise-next (r ∷ rs) lo (suc k) a h = rise-next rs (r .end + 1) k (a .2) (omega arith)
 
 pub ranged-fits : (rs : List Run) → Rise 0 rs → rangesFit (ranged rs) (length rs) ≡ true
-unfolding rangesFit before
-ranged-fits rs a =
-    and-intro _ _ (eq-eqb (length (ranged rs)) (4 + 6 * length rs) (ranged-length rs))
-    (all-intro _ (length rs) (λ k h. and-intro _ _ (le-leb (before (λ j. endAt (ranged rs) j + 1) k) (startAt (ranged rs) k) (above k h)) (le-leb _ _ (between k h))))
+unfolding before
+ranged-fits rs a = ranges-fit (ranged rs) (length rs) (record { long = ranged-length rs; rising = record { above = above; ordered = ordered } })
   where
-    between : (k : ℕ) → k < length rs → startAt (ranged rs) k ≤ endAt (ranged rs) k
-    between k h = omega (arith, ranged-start rs k h, ranged-end rs k h, rise-ordered rs 0 k a h)
-
     above : (k : ℕ) → k < length rs → before (λ j. endAt (ranged rs) j + 1) k ≤ startAt (ranged rs) k
     above zero h = omega arith
     above (suc k) h = omega (arith, ranged-start rs (suc k) h, ranged-end rs k (omega arith), rise-next rs 0 k a h)
+
+    ordered : (k : ℕ) → k < length rs → startAt (ranged rs) k ≤ endAt (ranged rs) k
+    ordered k h = omega (arith, ranged-start rs k h, ranged-end rs k h, rise-ordered rs 0 k a h)
