@@ -10,3 +10,4 @@ pub mod Sums
 pub mod Agree
 pub mod Among
 pub mod Halving
+pub mod Joined

@@ -1,3 +1,5 @@
 pub mod Samples
 pub mod Figures
 pub mod Examples
+pub mod Sound
+pub mod Reached
