@@ -1,0 +1,214 @@
+-- What a table of a range reads at an item is what the old table reads at that item. Assumes nothing.
+use Prim.Native.Nat.{ℕ, zero, suc, _+_, _-_, _*_, _<_, _≤_}
+use mathlib.Core.Path.{_≡_, refl, sym, ap, ap₂, _∙_}
+use mathlib.Core.Bool.{Bool, true, false, cond, _&&_}
+use mathlib.Core.List.{List}
+use mathlib.Core.Logic.{_⊎_, ⊎-elim}
+use mathlib.Core.Option.{Option, some, none}
+use native.Mathlib.Omega.{arith}
+use native.Mathlib.Nat.{le-of-suc-le-suc, eq-or-lt-of-le, mul-add, add-mul, mul-assoc, mul-comm, mul-le-mul-left, mul-le-mul-right}
+use lib.ListN.{getD}
+use lib.IntN.{pos}
+use lib.Dec.{eqb, ltb}
+use borrow.Author.Tests.{eqb-false, ltb-true, lt-ltb}
+use Rattle.folds.specs.Lists.{andThen, given}
+use Rattle.folds.specs.Folds.{upto, sum}
+use Rattle.opentype.specs.Numbers.{u16At, signed16}
+use Rattle.opentype.specs.Values.{bit, fieldAt, fieldCount, position}
+use Rattle.opentype.specs.ClassDef.{classOf}
+use Rattle.opentype.specs.PairPos.{Shape, value1, value2, columns, recordSize, itemAt, valuesAt, firstRecord, shape1, shape2}
+use Rattle.rules.specs.Store.{Store, bytesOf, childAt}
+use Rattle.rules.specs.Table.{shape, linkedBytes}
+use Rattle.rules.specs.Pairs.{Spot, Pair, deviceNumber, numberOf, pairAt}
+use Rattle.folds.proofs.Tests.{true-false}
+use Rattle.promises.proofs.Setting.{by-format}
+use Rattle.folds.proofs.Folds.{upto-same}
+use Rattle.promises.proofs.View.{View, u16-same}
+use Rattle.promises.proofs.Entries.{view-shape, view-value1, view-value2, view-columns, view-record, linked-some}
+use Rattle.promises.proofs.Items.{setSpot, rowSpot}
+
+-- ---- arithmetic
+
+row-shift : (r k i c lo : ℕ) → r * ((i + lo) * k + c) ≡ r * (i * k + c) + r * k * lo
+row-shift r k i c lo =
+    let a : (i + lo) * k ≡ i * k + lo * k = add-mul i lo k in
+    let b : r * k * lo ≡ r * (lo * k) = mul-assoc r k lo ∙ ap (λ (n : ℕ). r * n) (mul-comm k lo) in
+    let z : (i + lo) * k + c ≡ i * k + c + lo * k = omega arith in
+    ap (λ (n : ℕ). r * n) z ∙ mul-add r (i * k + c) (lo * k) ∙ omega arith
+
+row-fits : (r k i c lo hi : ℕ) → i + lo < hi → c < k → r * (i * k + c) + r + r * k * lo ≤ r * k * hi
+row-fits r k i c lo hi h l =
+    let n : i * k + c + 1 + lo * k ≤ hi * k = omega (arith, mul-le-mul-right {m = i + lo + 1} {n = hi} k (omega arith), add-mul (i + lo) 1 k, add-mul i lo k) in
+    let b : r * k * lo ≡ r * (lo * k) = mul-assoc r k lo ∙ ap (λ (n : ℕ). r * n) (mul-comm k lo) in
+    let d : r * k * hi ≡ r * (hi * k) = mul-assoc r k hi ∙ ap (λ (n : ℕ). r * n) (mul-comm k hi) in
+    omega (arith, mul-le-mul-left {m = i * k + c + 1 + lo * k} {n = hi * k} r n, mul-add r (i * k + c + 1) (lo * k), mul-add r (i * k + c) 1)
+
+-- ---- a field lies in its value record
+
+sum-le : (f : ℕ → ℕ) (k n : ℕ) → k ≤ n → sum f k ≤ sum f n
+unfolding sum
+sum-le f k zero l = let e : k ≡ 0 = omega arith in rw e (omega arith)
+sum-le f k (suc n) l =
+    ⊎-elim (λ e. rw e (omega arith))
+    (λ lt. let h : sum f k ≤ sum f n = sum-le f k n (le-of-suc-le-suc lt) in omega arith)
+    (eq-or-lt-of-le l)
+
+pub field-fits : (vf j : ℕ) → j < 8 → eqb (bit vf j) 0 ≡ false → position vf j + 1 ≤ fieldCount vf
+unfolding position fieldCount sum
+field-fits vf j h e =
+    let z : sum (bit vf) (suc j) ≤ sum (bit vf) 8 = sum-le (bit vf) (suc j) 8 h in
+    let n : bit vf j ≡ 0 → ⊥ = eqb-false (bit vf j) 0 e in
+    omega arith
+
+-- ---- numbers
+
+-- of another object that is as it was
+number-kept : (s s′ : Store) (o q vf j : ℕ) → bytesOf s′ o ≡ bytesOf s o → ((p : ℕ) → childAt s′ o p ≡ childAt s o p) → numberOf s′ o q vf j ≡ numberOf s o q vf j
+unfolding numberOf
+number-kept s s′ o q vf j b l =
+    ap₂ (λ (x : Option ℕ) (y : List ℕ). cond (eqb (bit vf j) 0) (pos 0) (cond (fieldAt j .device) (deviceNumber x) (signed16 (u16At y (q + 2 * position vf j))))) (l (q + 2 * position vf j)) b
+
+module _ {s : Store} {t : ℕ} {s′ : Store} {u lo hi : ℕ} (v : View s t s′ u lo hi) (two : eqb (shape s t .format) 1 ≡ false) where
+  number-row : (q vf j : ℕ) → j < 8 → shape s t .header ≤ q → q + 2 * fieldCount vf + shape s t .item * lo ≤ itemAt (shape s t) hi
+      → numberOf s′ u q vf j ≡ numberOf s t (q + shape s t .item * lo) vf j
+  unfolding numberOf
+  number-row q vf j h a b = go (eqb (bit vf j) 0) refl
+    where
+      go : (z : Bool) → eqb (bit vf j) 0 ≡ z
+          → cond z (pos 0) (cond (fieldAt j .device) (deviceNumber (childAt s′ u (q + 2 * position vf j))) (signed16 (u16At (bytesOf s′ u) (q + 2 * position vf j))))
+          ≡ cond z (pos 0) (cond (fieldAt j .device) (deviceNumber (childAt s t (q + shape s t .item * lo + 2 * position vf j))) (signed16 (u16At (bytesOf s t) (q + shape s t .item * lo + 2 * position vf j))))
+      go true e = refl
+      go false e =
+          let p = q + 2 * position vf j in
+          let f : position vf j + 1 ≤ fieldCount vf = field-fits vf j h e in
+          let w : p + shape s t .item * lo ≡ q + shape s t .item * lo + 2 * position vf j = omega arith in
+          let w1 : p + 1 + shape s t .item * lo ≡ q + shape s t .item * lo + 2 * position vf j + 1 = omega arith in
+          ap₂ (λ (x : Option ℕ) (y : ℕ). cond (fieldAt j .device) (deviceNumber x) (signed16 y))
+          (v .links p (omega arith) (omega arith) ∙ ap (childAt s t) w)
+          (u16-same (bytesOf s′ u) (bytesOf s t) p (q + shape s t .item * lo + 2 * position vf j)
+          (v .rows two p (omega arith) (omega arith) ∙ ap (λ (n : ℕ). getD (bytesOf s t) n 0) w)
+          (v .rows two (p + 1) (omega arith) (omega arith) ∙ ap (λ (n : ℕ). getD (bytesOf s t) n 0) w1))
+
+-- ---- format 2
+
+-- what a format 2 shape has
+shape-two : (s : Store) (t : ℕ) → eqb (shape s t .format) 1 ≡ false → (shape s t .header ≡ 16) × (shape s t .item ≡ recordSize (bytesOf s t) * columns (bytesOf s t))
+unfolding shape1 shape2
+shape-two s t = by-format (λ sh. eqb (sh .format) 1 ≡ false → (sh .header ≡ 16) × (sh .item ≡ recordSize (bytesOf s t) * columns (bytesOf s t))) (bytesOf s t) (λ e f. true-false f) (λ e f. (refl, refl))
+
+-- the pair at a byte of a table's own
+abbrev pairIn : Store → ℕ → ℕ → ℕ → ℕ → ℕ → Pair
+pairIn s o q vf1 vf2 j = record { found = true; first = upto (numberOf s o q vf1) 8; second = upto (numberOf s o (q + 2 * fieldCount vf1) vf2) 8 }
+
+record-is : (b : List ℕ) → recordSize b ≡ 2 * (fieldCount (value1 b) + fieldCount (value2 b))
+unfolding recordSize
+record-is b = refl
+
+module _ {s : Store} {t : ℕ} {s′ : Store} {u lo hi : ℕ} (v : View s t s′ u lo hi) (two : eqb (shape s t .format) 1 ≡ false) where
+  class2-view : (b : ℕ) → classOf (linkedBytes s′ u 10) b ≡ classOf (linkedBytes s t 10) b
+  class2-view b = let (c, e, f, g) = v .class2 two in ap (λ (x : List ℕ). classOf x b) (linked-some s′ u 10 c e ∙ g ∙ sym (linked-some s t 10 c f))
+
+  -- where the values stand in the row of item i
+  abbrev rowAt : ℕ → ℕ → ℕ
+  rowAt b i = 16 + recordSize (bytesOf s t) * (i * columns (bytesOf s t) + classOf (linkedBytes s t 10) b)
+
+  spot-new : (b i : ℕ) → i + lo < hi → rowSpot s′ u b i ≡ given (ltb (classOf (linkedBytes s t 10) b) (columns (bytesOf s t))) (record { object = u; at = rowAt b i })
+  unfolding rowSpot
+  spot-new b i h =
+      let count′ : shape s′ u .count ≡ hi - lo = ap (λ (sh : Shape). sh .count) (view-shape v) in
+      let x : ltb i (shape s′ u .count) ≡ true = lt-ltb i (shape s′ u .count) (omega arith) in
+      λ d. given (x d && ltb (class2-view b d) (view-columns v two d)) (record { object = u; at = 16 + view-record v d * (i * view-columns v two d + class2-view b d) })
+
+  spot-old : (b i : ℕ) → i + lo < hi → rowSpot s t b (i + lo) ≡ given (ltb (classOf (linkedBytes s t 10) b) (columns (bytesOf s t))) (record { object = t; at = rowAt b i + shape s t .item * lo })
+  unfolding rowSpot
+  spot-old b i h =
+      let hh = v .high in
+      let y : ltb (i + lo) (shape s t .count) ≡ true = lt-ltb (i + lo) (shape s t .count) (omega arith) in
+      let (e, f) = shape-two s t two in
+      let g : shape s t .item * lo ≡ recordSize (bytesOf s t) * columns (bytesOf s t) * lo = ap (λ (n : ℕ). n * lo) f in
+      let z : 16 + recordSize (bytesOf s t) * ((i + lo) * columns (bytesOf s t) + classOf (linkedBytes s t 10) b) ≡ rowAt b i + shape s t .item * lo
+      = omega (arith, row-shift (recordSize (bytesOf s t)) (columns (bytesOf s t)) i (classOf (linkedBytes s t 10) b) lo) in
+      λ d. given (y d && ltb (classOf (linkedBytes s t 10) b) (columns (bytesOf s t))) (record { object = t; at = z d })
+
+  pair-given : (b i : ℕ) → i + lo < hi → (x : Bool) → (x ≡ true → classOf (linkedBytes s t 10) b < columns (bytesOf s t))
+      → pairAt s′ u (given x (record { object = u; at = rowAt b i })) ≡ pairAt s t (given x (record { object = t; at = rowAt b i + shape s t .item * lo }))
+  unfolding pairAt
+  pair-given b i h false c = refl
+  pair-given b i h true c =
+      let (e, f) = shape-two s t two in
+      let g : shape s t .item * lo ≡ recordSize (bytesOf s t) * columns (bytesOf s t) * lo = ap (λ (n : ℕ). n * lo) f in
+      let g′ : shape s t .item * hi ≡ recordSize (bytesOf s t) * columns (bytesOf s t) * hi = ap (λ (n : ℕ). n * hi) f in
+      let r = record-is (bytesOf s t) in
+      let fits : rowAt b i + recordSize (bytesOf s t) + shape s t .item * lo ≤ itemAt (shape s t) hi = omega (arith, row-fits (recordSize (bytesOf s t)) (columns (bytesOf s t)) i (classOf (linkedBytes s t 10) b) lo hi h (c refl)) in
+      let z : rowAt b i + 2 * fieldCount (value1 (bytesOf s t)) + shape s t .item * lo ≡ rowAt b i + shape s t .item * lo + 2 * fieldCount (value1 (bytesOf s t)) = omega arith in
+      let p : upto (numberOf s′ u (rowAt b i) (value1 (bytesOf s′ u))) 8 ≡ upto (numberOf s t (rowAt b i + shape s t .item * lo) (value1 (bytesOf s t))) 8
+      = ap (λ (vf : ℕ). upto (numberOf s′ u (rowAt b i) vf) 8) (view-value1 v)
+      ∙ upto-same (numberOf s′ u (rowAt b i) (value1 (bytesOf s t))) (numberOf s t (rowAt b i + shape s t .item * lo) (value1 (bytesOf s t))) 8 (λ j l. number-row v two (rowAt b i) (value1 (bytesOf s t)) j l (omega arith) (omega arith)) in
+      let q : upto (numberOf s′ u (rowAt b i + 2 * fieldCount (value1 (bytesOf s′ u))) (value2 (bytesOf s′ u))) 8 ≡ upto (numberOf s t (rowAt b i + shape s t .item * lo + 2 * fieldCount (value1 (bytesOf s t))) (value2 (bytesOf s t))) 8
+      = ap₂ (λ (x y : ℕ). upto (numberOf s′ u (rowAt b i + 2 * fieldCount x) y) 8) (view-value1 v) (view-value2 v)
+      ∙ upto-same (numberOf s′ u (rowAt b i + 2 * fieldCount (value1 (bytesOf s t))) (value2 (bytesOf s t))) (numberOf s t (rowAt b i + 2 * fieldCount (value1 (bytesOf s t)) + shape s t .item * lo) (value2 (bytesOf s t))) 8
+      (λ j l. number-row v two (rowAt b i + 2 * fieldCount (value1 (bytesOf s t))) (value2 (bytesOf s t)) j l (omega arith) (omega arith))
+      ∙ ap (λ (n : ℕ). upto (numberOf s t n (value2 (bytesOf s t))) 8) z in
+      λ d. record { found = true; first = p d; second = q d }
+
+  pub row-pair : (b i : ℕ) → i + lo < hi → pairAt s′ u (rowSpot s′ u b i) ≡ pairAt s t (rowSpot s t b (i + lo))
+  row-pair b i h =
+      ap (pairAt s′ u) (spot-new b i h)
+      ∙ pair-given b i h (ltb (classOf (linkedBytes s t 10) b) (columns (bytesOf s t))) (λ e. ltb-true (classOf (linkedBytes s t 10) b) (columns (bytesOf s t)) e)
+      ∙ sym (ap (pairAt s t) (spot-old b i h))
+
+-- ---- format 1
+
+pub shape-one : (s : Store) (t : ℕ) → eqb (shape s t .format) 1 ≡ true → shape s t .item ≡ 2
+unfolding shape1 shape2
+shape-one s t = by-format (λ sh. eqb (sh .format) 1 ≡ true → sh .item ≡ 2) (bytesOf s t) (λ e f. refl) (λ e f. true-false (sym f))
+
+-- what t leads to is as it was
+abbrev pub Kin : Store → ℕ → Store → Type 0
+Kin s t s′ = (q c : ℕ) → childAt s t q ≡ some c → (bytesOf s′ c ≡ bytesOf s c) × ((p : ℕ) → childAt s′ c p ≡ childAt s c p)
+
+module _ {s : Store} {t : ℕ} {s′ : Store} {u lo hi : ℕ} (v : View s t s′ u lo hi) (one : eqb (shape s t .format) 1 ≡ true) (kin : Kin s t s′) where
+  -- the reading from a set on
+  abbrev inSet : Store → ℕ → ℕ → ℕ → Option Spot
+  inSet r size b c = andThen (firstRecord (bytesOf r c) size b) λ k. some (record { object = c; at = valuesAt size k })
+
+  set-pair-at : (b : ℕ) (o : Option ℕ) → ((c : ℕ) → o ≡ some c → (bytesOf s′ c ≡ bytesOf s c) × ((p : ℕ) → childAt s′ c p ≡ childAt s c p))
+      → pairAt s′ u (andThen o (inSet s′ (recordSize (bytesOf s′ u)) b)) ≡ pairAt s t (andThen o (inSet s (recordSize (bytesOf s t)) b))
+  unfolding andThen pairAt
+  set-pair-at b none k = refl
+  set-pair-at b (some c) k =
+      let (x, y) = k c refl in
+      ap₂ (λ (z : List ℕ) (n : ℕ). pairAt s′ u (andThen (firstRecord z n b) λ k. some (record { object = c; at = valuesAt n k }))) x (view-record v)
+      ∙ go x y (firstRecord (bytesOf s c) (recordSize (bytesOf s t)) b)
+    where
+      go : bytesOf s′ c ≡ bytesOf s c → ((p : ℕ) → childAt s′ c p ≡ childAt s c p) → (o : Option ℕ)
+          → pairAt s′ u (andThen o λ k. some (record { object = c; at = valuesAt (recordSize (bytesOf s t)) k })) ≡ pairAt s t (andThen o λ k. some (record { object = c; at = valuesAt (recordSize (bytesOf s t)) k }))
+      go x y none = refl
+      go x y (some k) =
+          let q = valuesAt (recordSize (bytesOf s t)) k in
+          let f : upto (numberOf s′ c q (value1 (bytesOf s′ u))) 8 ≡ upto (numberOf s c q (value1 (bytesOf s t))) 8
+          = ap (λ (vf : ℕ). upto (numberOf s′ c q vf) 8) (view-value1 v) ∙ upto-same (numberOf s′ c q (value1 (bytesOf s t))) (numberOf s c q (value1 (bytesOf s t))) 8 (λ j l. number-kept s s′ c q (value1 (bytesOf s t)) j x y) in
+          let g : upto (numberOf s′ c (q + 2 * fieldCount (value1 (bytesOf s′ u))) (value2 (bytesOf s′ u))) 8 ≡ upto (numberOf s c (q + 2 * fieldCount (value1 (bytesOf s t))) (value2 (bytesOf s t))) 8
+          = ap₂ (λ (m n : ℕ). upto (numberOf s′ c (q + 2 * fieldCount m) n) 8) (view-value1 v) (view-value2 v)
+          ∙ upto-same (numberOf s′ c (q + 2 * fieldCount (value1 (bytesOf s t))) (value2 (bytesOf s t))) (numberOf s c (q + 2 * fieldCount (value1 (bytesOf s t))) (value2 (bytesOf s t))) 8 (λ j l. number-kept s s′ c (q + 2 * fieldCount (value1 (bytesOf s t))) (value2 (bytesOf s t)) j x y) in
+          λ d. record { found = true; first = f d; second = g d }
+
+  pub set-pair : (b i : ℕ) → i + lo < hi → pairAt s′ u (setSpot s′ u b i) ≡ pairAt s t (setSpot s t b (i + lo))
+  unfolding setSpot andThen
+  set-pair b i h =
+      let hh = v .high in
+      let i2 = shape-one s t one in
+      let m : shape s t .item * (i + lo) ≡ 2 * (i + lo) = ap (λ (n : ℕ). n * (i + lo)) i2 in
+      let m1 : shape s t .item * i ≡ 2 * i = ap (λ (n : ℕ). n * i) i2 in
+      let m2 : shape s t .item * lo ≡ 2 * lo = ap (λ (n : ℕ). n * lo) i2 in
+      let m3 : shape s t .item * hi ≡ 2 * hi = ap (λ (n : ℕ). n * hi) i2 in
+      let count′ : shape s′ u .count ≡ hi - lo = ap (λ (sh : Shape). sh .count) (view-shape v) in
+      let place′ : itemAt (shape s′ u) i ≡ itemAt (shape s t) i = ap (λ (sh : Shape). itemAt sh i) (view-shape v) in
+      let x : ltb i (shape s′ u .count) ≡ true = lt-ltb i (shape s′ u .count) (omega arith) in
+      let y : ltb (i + lo) (shape s t .count) ≡ true = lt-ltb (i + lo) (shape s t .count) (omega arith) in
+      let e : itemAt (shape s t) i + shape s t .item * lo ≡ itemAt (shape s t) (i + lo) = omega arith in
+      let w : childAt s′ u (itemAt (shape s′ u) i) ≡ childAt s t (itemAt (shape s t) (i + lo)) = ap (childAt s′ u) place′ ∙ v .links (itemAt (shape s t) i) (omega arith) (omega arith) ∙ ap (childAt s t) e in
+      ap (λ (z : Bool). pairAt s′ u (andThen (given z (itemAt (shape s′ u) i)) λ q. andThen (childAt s′ u q) (inSet s′ (recordSize (bytesOf s′ u)) b))) x
+      ∙ ap (λ (o : Option ℕ). pairAt s′ u (andThen o (inSet s′ (recordSize (bytesOf s′ u)) b))) w
+      ∙ set-pair-at b (childAt s t (itemAt (shape s t) (i + lo))) (λ c r. kin (itemAt (shape s t) (i + lo)) c r)
+      ∙ sym (ap (λ (z : Bool). pairAt s t (andThen (given z (itemAt (shape s t) (i + lo))) λ q. andThen (childAt s t q) (inSet s (recordSize (bytesOf s t)) b))) y)
