@@ -11,3 +11,4 @@ pub mod Agree
 pub mod Among
 pub mod Halving
 pub mod Joined
+pub mod Behind
