@@ -7,8 +7,10 @@ pub mod FromTheFront
 pub mod Table
 pub mod Writing
 pub mod Sums
+pub mod Picked
 pub mod Agree
 pub mod Among
 pub mod Halving
 pub mod Joined
 pub mod Behind
+pub mod Bits

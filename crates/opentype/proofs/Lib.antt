@@ -11,3 +11,5 @@ pub mod CoverageLength
 pub mod Classes
 pub mod ClassDefRoundTrip
 pub mod Values
+pub mod RunStarts
+pub mod ByGlyph

@@ -3,12 +3,13 @@ use Prim.Native.Nat.{ℕ, zero, suc, _+_, _-_, _*_, _/_, _%_, _^_, _<_, _≤_}
 use mathlib.Core.Path.{_≡_, refl, sym, ap, ap₂, _∙_}
 use native.Mathlib.Nat.{mod-lt}
 use native.Mathlib.Omega.{arith}
-use lib.Bits.{bitAnd, and-mask, and-high}
+use lib.Bits.{bitAnd, and-mask}
 use lib.Count.{ones, ones-cat}
-use lib.Dec.{eqb, lit<}
-use lib.Pow.{pow-pos, pow-add, shl-exact, mod-pow-add}
+use lib.Dec.{eqb}
+use lib.Pow.{pow-pos, mod-pow-add}
 use borrow.Author.Tests.{eq-eqb, ne-eqb}
 use Rattle.folds.specs.Folds.{sum}
+use Rattle.folds.proofs.Bits.{masked-bit}
 use Rattle.folds.proofs.FromTheFront.{sum-same}
 use Rattle.opentype.specs.Values.{bit, position}
 use Rattle.opentype.proofs.Values.{bit-digit, position-le, position-all, fieldCount-le}
@@ -40,16 +41,7 @@ masked-ones vf j h =
 pub position-fits : (vf j : ℕ) → j ≤ 8 → position vf j ≤ 8
 position-fits vf j h = omega (arith, position-le vf j 8 h, position-all vf, fieldCount-le vf)
 
--- a one, shifted up to row j of the table or past its end
-pub one-shifted : (j : ℕ) → j ≤ 8 → 1 * 2 ^ j % 2 ^ 16 ≡ 2 ^ j
-one-shifted j h = shl-exact {a = 1} 1 j 16 (lit< tt) (omega arith) ∙ omega arith
-
 -- ---- one bit
-
-masked-bit : (vf j : ℕ) → bitAnd vf (2 ^ j) ≡ (vf / 2 ^ j % 2) * 2 ^ j
-masked-bit vf j =
-    let e : 2 ^ j ≡ 2 ^ (1 + j) - 2 ^ j = omega (arith, pow-add 2 1 j) in
-    ap (bitAnd vf) e ∙ and-high vf 1 j
 
 digit-test : (d m : ℕ) → d < 2 → 0 < m → eqb (d * m) m ≡ eqb d 1
 digit-test zero m h l = ne-eqb (0 * m) m (omega arith)

@@ -2,7 +2,8 @@
 use borrow.Author.Needs.{needs}
 use native.Mathlib.Omega.{arith}
 use lib.Pow.{pow-pos}
-use Rattle.value_format.proofs.Ones.{masked-ones, position-fits, one-shifted}
+use Rattle.folds.proofs.Bits.{one-shifted}
+use Rattle.value_format.proofs.Ones.{masked-ones, position-fits}
 use Rattle.value_format.proofs.position.Statement.{statement}
 use Rattle.value_format.proofs.position.Tie as tie
 
@@ -13,15 +14,15 @@ shl-below : tie.Need-shl-below
 shl-below c = search needs
 
 sub-below : tie.Need-sub-below
-sub-below c = rw (one-shifted (c .args .j) (c .pre)) (pow-pos (c .args .j))
+sub-below c = rw (one-shifted (c .args .j) 16 (omega arith)) (pow-pos (c .args .j))
 
 cast-result : tie.Need-cast-result
 cast-result c =
-    rw (one-shifted (c .args .j) (c .pre))
+    rw (one-shifted (c .args .j) 16 (omega arith))
     (omega (arith, masked-ones (c .args .format) (c .args .j) (c .pre), position-fits (c .args .format) (c .args .j) (c .pre)))
 
 returns : tie.Need-returns
-returns c = rw (one-shifted (c .args .j) (c .pre)) (masked-ones (c .args .format) (c .args .j) (c .pre))
+returns c = rw (one-shifted (c .args .j) 16 (omega arith)) (masked-ones (c .args .format) (c .args .j) (c .pre))
 
 pub position-spec : {M : Type 1} → statement M
 position-spec = tie.close (tie.spec cast-below shl-below sub-below cast-result returns)

@@ -1,0 +1,4 @@
+pub mod Marks
+pub mod Neighbours
+pub mod Members
+pub mod Emptied

@@ -1,0 +1,73 @@
+// A set of glyphs, one bit a glyph, in 8,192 lent bytes: the counterpart of `IntSet`. Runs are counted as glyphs come in: a glyph that joins
+// none of its neighbours starts a run, and one that joins both makes one run of two.
+ghost use mathlib.Core.Path.{_≡_};
+ghost use Prim.Native.Nat.{_≤_};
+ghost use lib.ListN.{length};
+ghost use Rattle.folds.specs.Folds.{before};
+ghost use Rattle.glyph_set.specs.GlyphSet.{member, mark, blank, present, behind, joined};
+
+// Whether the glyph is in the set.
+pub fn contains(set: &[u8], glyph: u16) -> bool
+    requires { ⌜ 8192 ≤ length (now set) ⌝ }
+    ensures { λ r. ⌜ r ≡ member (now (set .entry)) glyph ⌝ }
+{
+    let at = (glyph / 8) as usize;
+    (set[at] >> (glyph % 8)) & 1 == 1
+}
+
+// Puts the glyph in.
+pub fn insert(set: &mut [u8], glyph: u16)
+    requires { ⌜ 8192 ≤ length (now set) ⌝ }
+    ensures { λ _. ⌜ now (set .exit) ≡ mark (now (set .entry)) glyph ⌝ }
+{
+    let at = (glyph / 8) as usize;
+    set[at] = set[at] | (1u8 << (glyph % 8));
+}
+
+// Empties the glyph's byte: done for each glyph that was put in, it empties the set.
+pub fn clear_byte(set: &mut [u8], glyph: u16)
+    requires { ⌜ 8192 ≤ length (now set) ⌝ }
+    ensures { λ _. ⌜ now (set .exit) ≡ blank (now (set .entry)) glyph ⌝ }
+{
+    let at = (glyph / 8) as usize;
+    set[at] = 0;
+}
+
+// How many of the glyph's two neighbours are in the set: with a glyph more there are 1 - `joined` runs more.
+pub fn joined(set: &[u8], glyph: u16) -> usize
+    requires { ⌜ 8192 ≤ length (now set) ⌝ }
+    ensures { λ r. ⌜ r ≡ joined (now (set .entry)) glyph ⌝ }
+{
+    present_before(set, glyph) + present_behind(set, glyph)
+}
+
+// The glyph before, which 0 has none of.
+fn present_before(set: &[u8], glyph: u16) -> usize
+    requires { ⌜ 8192 ≤ length (now set) ⌝ }
+    ensures { λ r. ⌜ r ≡ before (present (now (set .entry))) glyph ⌝ }
+{
+    if glyph == 0 {
+        return 0;
+    }
+    present(set, glyph - 1)
+}
+
+// The glyph behind, which 65,535 has none of.
+fn present_behind(set: &[u8], glyph: u16) -> usize
+    requires { ⌜ 8192 ≤ length (now set) ⌝ }
+    ensures { λ r. ⌜ r ≡ behind (now (set .entry)) glyph ⌝ }
+{
+    if glyph == 65535 {
+        return 0;
+    }
+    present(set, glyph + 1)
+}
+
+// The glyph's bit.
+fn present(set: &[u8], glyph: u16) -> usize
+    requires { ⌜ 8192 ≤ length (now set) ⌝ }
+    ensures { λ r. ⌜ r ≡ present (now (set .entry)) glyph ⌝ }
+{
+    let at = (glyph / 8) as usize;
+    ((set[at] >> (glyph % 8)) & 1) as usize
+}
