@@ -4,6 +4,7 @@ pub mod Find
 pub mod Put
 pub mod Parts
 pub mod FromTheFront
+pub mod First
 pub mod Table
 pub mod Writing
 pub mod Sums

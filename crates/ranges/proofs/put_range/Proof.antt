@@ -1,0 +1,51 @@
+-- `ranges::put_range` meets its contract: three numbers are written, one behind the other. Assumes nothing.
+use borrow.Author.Needs.{needs}
+use Prim.Native.Nat.{ℕ, _+_, _≤_}
+use mathlib.Core.Path.{_≡_, refl}
+use mathlib.Core.List.{List}
+use native.Mathlib.Omega.{arith}
+use lib.ListN.{length}
+use Rattle.folds.specs.Lists.{put}
+use Rattle.folds.proofs.Put.{put-then}
+use Rattle.opentype.specs.Numbers.{be16}
+use Rattle.ranges.specs.Ranges.{rangeBytes}
+use Rattle.ranges.proofs.put_range.Statement.{statement}
+use Rattle.ranges.proofs.put_range.Tie as tie
+
+three : (d : List ℕ) (a x y z : ℕ) {o o′ o″ : List ℕ} → a + 6 ≤ length d → o ≡ put d a (be16 x) → o′ ≡ put o (a + 2) (be16 y) → o″ ≡ put o′ (a + 4) (be16 z)
+    → o″ ≡ put d a (rangeBytes x y z)
+unfolding be16
+three d a x y z l p q r = put-then d a _ (a + 4) _ (put-then d a _ (a + 2) _ p q refl (omega arith)) r refl (omega arith)
+
+put-u16-requires : tie.Need-put-u16-requires
+put-u16-requires c κs = search needs
+
+add-put-u16 : tie.Need-add-put-u16
+add-put-u16 c = search needs
+
+put-u16-requires-2 : tie.Need-put-u16-requires-2
+put-u16-requires-2 c κs = search needs
+
+add-put-u16-2 : tie.Need-add-put-u16-2
+add-put-u16-2 c = search needs
+
+put-u16-requires-3 : tie.Need-put-u16-requires-3
+put-u16-requires-3 c κs = search needs
+
+same-length : tie.Need-same-length
+same-length c = search needs
+
+returns : tie.Need-returns
+returns c = three _ _ _ _ _ (c .before .before .before .before .before .before .before .before .before .before .before .before .before .pre) (c .before .before .before .before .before .before .before .before .before .before .put-u16 .ensures) (c .before .before .before .before .before .before .put-u162 .ensures) (c .before .before .put-u163 .ensures)
+
+pub put-range-spec : {M : Type 1} → statement M
+put-range-spec =
+    tie.close
+    (tie.spec
+    put-u16-requires
+    add-put-u16
+    put-u16-requires-2
+    add-put-u16-2
+    put-u16-requires-3
+    same-length
+    returns)

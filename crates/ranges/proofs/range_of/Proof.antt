@@ -1,0 +1,122 @@
+-- `ranges::range_of` meets its contract: what halving knows of the ranges on either side decides where the glyph is. Assumes nothing.
+use borrow.Author.Needs.{needs}
+use Prim.Native.Nat.{ℕ, _-_, _≤_, _<_}
+use mathlib.Core.Path.{_≡_}
+use mathlib.Core.Bool.{false}
+use mathlib.Core.List.{List}
+use mathlib.Core.Logic.{⊎-elim}
+use mathlib.Core.Option.{some, none}
+use native.Mathlib.Omega.{arith}
+use lib.Dec.{leb}
+use borrow.Author.Tests.{le-leb, lt-leb}
+use Rattle.folds.proofs.Tests.{and-first, and-second}
+use Rattle.folds.proofs.First.{first-at, first-none}
+use Rattle.folds.proofs.Halving.{Between, begin, up, down, passed, met}
+use Rattle.opentype.specs.Coverage.{startAt, endAt}
+use Rattle.opentype.proofs.RangesRead.{RangesRead, ranges-read}
+use Rattle.ranges.specs.Ranges.{found, inRange, rangeOf}
+use Rattle.ranges.specs.declared.Found.the-variants.{At, Nowhere}
+use Rattle.ranges.proofs.range_of.Statement.{statement}
+use Rattle.ranges.proofs.range_of.Tie as tie
+
+record Inv (part : List ℕ) (count glyph lo hi : ℕ) : Type 0 where
+  read : RangesRead part count
+  between : Between (startAt part) (endAt part) count glyph lo hi
+
+ends-below : (part : List ℕ) (g k : ℕ) → endAt part k < g → inRange part g k ≡ false
+ends-below part g k h = and-second (leb (startAt part k) g) _ (lt-leb g (endAt part k) h)
+
+starts-above : (part : List ℕ) (g k : ℕ) → g < startAt part k → inRange part g k ≡ false
+starts-above part g k h = and-first _ (leb g (endAt part k)) (lt-leb (startAt part k) g h)
+
+module _ {part : List ℕ} {count g lo hi : ℕ} (i : Inv part count g lo hi) where
+  hit : {b e : ℕ} (m : ℕ) → m < hi → b ≡ startAt part m → e ≡ endAt part m → b ≤ g → g ≤ e → At m ≡ found (rangeOf part count g)
+  hit {b} {e} m l pb pe h o =
+      let f : rangeOf part count g ≡ some m
+      = first-at (inRange part g) m count (omega (arith, i .between .hi-n))
+      (λ j k. ends-below part g j (passed (i .read .rising) (i .between) m l (omega arith) j k))
+      (rw (le-leb (startAt part m) g (omega arith), le-leb g (endAt part m) (omega arith))) in
+      rw f
+
+  miss : hi ≤ lo → Nowhere ≡ found (rangeOf part count g)
+  miss l =
+      let f : rangeOf part count g ≡ none
+      = first-none (inRange part g) count (λ j k. ⊎-elim (ends-below part g j) (starts-above part g j) (met (i .between) l j k)) in
+      rw f
+
+abbrev Inv-loop : tie.InvT-loop
+Inv-loop part count glyph lo₀ hi₀ lo hi = Inv part count glyph lo hi
+
+abbrev μ-loop : tie.MeasureT-loop
+μ-loop part count glyph lo₀ hi₀ lo hi = hi - lo
+
+loop-holds : tie.Need-loop-holds Inv-loop μ-loop
+loop-holds c = record { read = ranges-read _ _ (c .before .pre); between = begin _ _ _ _ }
+
+sub-mid : tie.Need-sub-mid Inv-loop μ-loop
+sub-mid c = search needs
+
+add-mid : tie.Need-add-mid Inv-loop μ-loop
+add-mid c = search needs
+
+mul-u16-at : tie.Need-mul-u16-at Inv-loop μ-loop
+mul-u16-at c = search needs
+
+add-u16-at : tie.Need-add-u16-at Inv-loop μ-loop
+add-u16-at c = search needs
+
+u16-at-requires : tie.Need-u16-at-requires Inv-loop μ-loop
+u16-at-requires c κs = search needs
+
+mul-u16-at-2 : tie.Need-mul-u16-at-2 Inv-loop μ-loop
+mul-u16-at-2 c = search needs
+
+add-u16-at-2 : tie.Need-add-u16-at-2 Inv-loop μ-loop
+add-u16-at-2 c = search needs
+
+u16-at-requires-2 : tie.Need-u16-at-requires-2 Inv-loop μ-loop
+u16-at-requires-2 c κs = search needs
+
+add-lo : tie.Need-add-lo Inv-loop μ-loop
+add-lo c = search needs
+
+loop-less : tie.Need-loop-less Inv-loop μ-loop
+loop-less c = search needs
+
+loop-again : tie.Need-loop-again Inv-loop μ-loop
+loop-again c = let i = c .before .before .before .before .loop .inv in record { read = i .read; between = up (i .read .rising) (i .between) _ (omega arith) (omega arith) }
+
+loop-less-2 : tie.Need-loop-less-2 Inv-loop μ-loop
+loop-less-2 c = search needs
+
+loop-again-2 : tie.Need-loop-again-2 Inv-loop μ-loop
+loop-again-2 c = let i = c .before .before .before .before .before .loop .inv in record { read = i .read; between = down (i .read .rising) (i .between) _ (omega arith) (omega arith) (omega arith) }
+
+returns : tie.Need-returns Inv-loop μ-loop
+returns c = hit (c .before .before .before .before .before .loop .inv) _ (omega arith) (c .before .before .before .u16-at .ensures) (c .before .before .u16-at2 .ensures) (c .if2 .left) (c .before .if1 .left)
+
+returns-2 : tie.Need-returns-2 Inv-loop μ-loop
+returns-2 c = miss (c .before .loop .inv) (c .loop-test .left)
+
+pub range-of-spec : {M : Type 1} → statement M
+range-of-spec =
+    tie.close
+    (tie.spec
+    Inv-loop
+    μ-loop
+    loop-holds
+    sub-mid
+    add-mid
+    mul-u16-at
+    add-u16-at
+    u16-at-requires
+    mul-u16-at-2
+    add-u16-at-2
+    u16-at-requires-2
+    add-lo
+    loop-less
+    loop-again
+    loop-less-2
+    loop-again-2
+    returns
+    returns-2)
