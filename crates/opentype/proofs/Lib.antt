@@ -5,6 +5,7 @@ pub mod RunCount
 pub mod RangesRead
 pub mod RangeBytes
 pub mod CoverageRead
+pub mod ClassDefRead
 pub mod CoverageGlyphs
 pub mod CoverageRoundTrip
 pub mod CoverageLength

@@ -2,19 +2,13 @@
 use borrow.Author.Needs.{needs}
 use Prim.Native.Nat.{ℕ, _-_, _≤_, _<_}
 use mathlib.Core.Path.{_≡_}
-use mathlib.Core.Bool.{false}
 use mathlib.Core.List.{List}
-use mathlib.Core.Logic.{⊎-elim}
-use mathlib.Core.Option.{some, none}
 use native.Mathlib.Omega.{arith}
-use lib.Dec.{leb}
-use borrow.Author.Tests.{le-leb, lt-leb}
-use Rattle.folds.proofs.Tests.{and-first, and-second}
-use Rattle.folds.proofs.First.{first-at, first-none}
 use Rattle.folds.proofs.Halving.{Between, begin, up, down, passed, met}
 use Rattle.opentype.specs.Coverage.{startAt, endAt}
 use Rattle.opentype.proofs.RangesRead.{RangesRead, ranges-read}
-use Rattle.ranges.specs.Ranges.{found, inRange, rangeOf}
+use Rattle.ranges.specs.Ranges.{found, rangeOf}
+use Rattle.ranges.proofs.Place.{range-at, range-none}
 use Rattle.ranges.specs.declared.Found.the-variants.{At, Nowhere}
 use Rattle.ranges.proofs.range_of.Statement.{statement}
 use Rattle.ranges.proofs.range_of.Tie as tie
@@ -23,26 +17,13 @@ record Inv (part : List ℕ) (count glyph lo hi : ℕ) : Type 0 where
   read : RangesRead part count
   between : Between (startAt part) (endAt part) count glyph lo hi
 
-ends-below : (part : List ℕ) (g k : ℕ) → endAt part k < g → inRange part g k ≡ false
-ends-below part g k h = and-second (leb (startAt part k) g) _ (lt-leb g (endAt part k) h)
-
-starts-above : (part : List ℕ) (g k : ℕ) → g < startAt part k → inRange part g k ≡ false
-starts-above part g k h = and-first _ (leb g (endAt part k)) (lt-leb (startAt part k) g h)
-
 module _ {part : List ℕ} {count g lo hi : ℕ} (i : Inv part count g lo hi) where
   hit : {b e : ℕ} (m : ℕ) → m < hi → b ≡ startAt part m → e ≡ endAt part m → b ≤ g → g ≤ e → At m ≡ found (rangeOf part count g)
   hit {b} {e} m l pb pe h o =
-      let f : rangeOf part count g ≡ some m
-      = first-at (inRange part g) m count (omega (arith, i .between .hi-n))
-      (λ j k. ends-below part g j (passed (i .read .rising) (i .between) m l (omega arith) j k))
-      (rw (le-leb (startAt part m) g (omega arith), le-leb g (endAt part m) (omega arith))) in
-      rw f
+      rw (range-at part count g m (omega (arith, i .between .hi-n)) (passed (i .read .rising) (i .between) m l (omega arith)) (omega arith) (omega arith))
 
   miss : hi ≤ lo → Nowhere ≡ found (rangeOf part count g)
-  miss l =
-      let f : rangeOf part count g ≡ none
-      = first-none (inRange part g) count (λ j k. ⊎-elim (ends-below part g j) (starts-above part g j) (met (i .between) l j k)) in
-      rw f
+  miss l = rw (range-none part count g (met (i .between) l))
 
 abbrev Inv-loop : tie.InvT-loop
 Inv-loop part count glyph lo₀ hi₀ lo hi = Inv part count glyph lo hi

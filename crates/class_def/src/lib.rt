@@ -1,0 +1,45 @@
+// OpenType's ClassDef: the class of each glyph, read, looked up and written.
+use opentype::Header;
+use opentype::Kind;
+use opentype::Reading;
+use wire::u16_at;
+
+pub mod in_ranges;
+pub mod list;
+
+use in_ranges::class_in_ranges;
+use in_ranges::read_ranges;
+use list::class_in_list;
+use list::read_list;
+ghost use mathlib.Core.Path.{_≡_};
+ghost use Rattle.opentype.specs.ClassDef.{classDefOf, classOf};
+
+// What a class definition is read into; everything malformed is unreadable.
+pub fn read_class_def(part: &[u8]) -> Reading
+    ensures { λ r. ⌜ r ≡ classDefOf (now (part .entry)) ⌝ }
+{
+    if part.len() < 4 {
+        return Reading::Unreadable;
+    }
+    let format = u16_at(part, 0);
+    if format == 1 {
+        return read_list(part);
+    }
+    if format == 2 {
+        return read_ranges(part);
+    }
+    Reading::Unreadable
+}
+
+// The class of a glyph, 0 where it is not named.
+pub fn class_of(part: &[u8], header: Header, glyph: u16) -> u16
+    requires { ⌜ classDefOf (now part) ≡ Reading.Readable header ⌝ }
+    ensures { λ r. ⌜ r ≡ classOf (now (part .entry)) glyph ⌝ }
+{
+    let kind = header.kind;
+    let count = header.count;
+    match kind {
+        Kind::List => class_in_list(part, count, glyph),
+        Kind::Ranges => class_in_ranges(part, count, glyph),
+    }
+}

@@ -1,0 +1,48 @@
+// Format 1: the classes of glyphs in a row, two bytes each from byte 6 on, behind the start glyph and the count.
+use opentype::Header;
+use opentype::Kind;
+use opentype::Reading;
+use wire::u16_at;
+ghost use mathlib.Core.Path.{_≡_};
+ghost use Prim.Native.Nat.{_+_, _*_, _≤_};
+ghost use lib.ListN.{length};
+ghost use Rattle.opentype.specs.Numbers.{u16At};
+ghost use Rattle.opentype.specs.ClassDef.{classDefOf};
+ghost use Rattle.class_def.specs.Lookup.{listClass};
+
+pub fn read_list(part: &[u8]) -> Reading
+    requires { ⌜ u16At (now part) 0 ≡ 1 ⌝ }
+    ensures { λ r. ⌜ r ≡ classDefOf (now (part .entry)) ⌝ }
+{
+    if part.len() < 6 {
+        return Reading::Unreadable;
+    }
+    let start = u16_at(part, 2) as usize;
+    let count = u16_at(part, 4) as usize;
+    if part.len() != 6 + 2 * count {
+        return Reading::Unreadable;
+    }
+    if 65536 < start + count {
+        return Reading::Unreadable;
+    }
+    Reading::Readable(Header {
+        kind: Kind::List,
+        count,
+    })
+}
+
+pub fn class_in_list(part: &[u8], count: usize, glyph: u16) -> u16
+    requires { ⌜ length (now part) ≡ 6 + 2 * count ⌝ }
+    ensures { λ r. ⌜ r ≡ listClass (now (part .entry)) count glyph ⌝ }
+{
+    let start = u16_at(part, 2);
+    if glyph < start {
+        return 0;
+    }
+    let place = (glyph - start) as usize;
+    if place < count {
+        u16_at(part, 6 + 2 * place)
+    } else {
+        0
+    }
+}
