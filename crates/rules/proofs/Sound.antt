@@ -8,7 +8,7 @@ use native.Mathlib.Nat.{not-suc-le-zero, le-of-suc-le-suc, eq-or-lt-of-le}
 use lib.ListN.{length}
 use lib.Dec.{leb, ltb, eqb}
 use borrow.Author.Tests.{ltb-true, leb-true, eqb-true, lt-ltb, le-leb, eq-eqb}
-use Rattle.folds.specs.Folds.{all, before}
+use Rattle.folds.specs.Folds.{all, sum, before}
 use Rattle.folds.proofs.Folds.{all-at, all-intro}
 use Rattle.folds.proofs.Joined.{and-three, and-five, three-hold, five-hold}
 use Rattle.folds.proofs.Parts.{length-part}
@@ -107,3 +107,19 @@ module _ (s : Store) (f : Fits s) where
   pub size-bytes : (i : ℕ) → i < s .objectCount → length (bytesOf s i) ≡ sizeOf s i
   unfolding bytesOf
   size-bytes i h = let o = f .object i h in length-part (s .bytes) (headOf s i) (tailOf s i) (o .ordered) (omega (arith, f .bytesIn))
+
+  -- objects do not overlap, so that the first k of them take no more bytes than there are up to the last one's tail
+  sizes-before : (k : ℕ) → k ≤ s .objectCount → sum (sizeOf s) k ≤ before (tailOf s) k
+  unfolding sum before
+  sizes-before zero h = omega arith
+  sizes-before (suc k) h =
+      let o = f .object k (omega arith) in
+      omega (arith, sizes-before k (omega arith), o .after, o .ordered)
+
+  pub sizes-most : sum (sizeOf s) (s .objectCount) ≤ 16777216
+  unfolding before
+  sizes-most = go (s .objectCount) (sizes-before (s .objectCount) (omega arith)) (f .object)
+    where
+      go : (n : ℕ) → sum (sizeOf s) n ≤ before (tailOf s) n → ((i : ℕ) → i < n → ObjectFits s i) → sum (sizeOf s) n ≤ 16777216
+      go zero h o = omega arith
+      go (suc n) h o = omega (arith, h, o n (omega arith) .inside, f .bytesMost)

@@ -1,0 +1,4 @@
+pub mod Checks
+pub mod Bytes
+pub mod Rows
+pub mod Children
