@@ -1,0 +1,6 @@
+pub mod Spans
+pub mod RowLaws
+pub mod Reversing
+pub mod Moving
+pub mod Spreading
+pub mod Joining

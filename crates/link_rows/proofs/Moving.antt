@@ -1,0 +1,92 @@
+-- Rows that move up, from the last on. Assumes nothing.
+use mathlib.Core.Path.{_≡_, refl, sym, ap, ap₂, _∙_}
+use mathlib.Core.Logic.{_⊎_, ⊎-elim}
+use mathlib.Core.List.{List, _++_}
+use Prim.Native.Nat.{ℕ, _+_, _-_, _*_, _≤_, _<_}
+use native.Mathlib.Omega.{arith}
+use lib.ListN.{length, getD}
+use Rattle.folds.specs.Lists.{put}
+use Rattle.folds.proofs.Tests.{either}
+use Rattle.folds.proofs.Put.{put-nil, put-below, put-before}
+use Rattle.link_rows.specs.Rows.{span, positionIn, widthIn, childIn, four}
+use Rattle.link_rows.specs.Blocks.{movedRow, Moved}
+use Rattle.link_rows.proofs.Spans.{span-empty, span-front}
+use Rattle.link_rows.proofs.RowLaws.{length-span}
+
+length-moved : (ls : List ℕ) (parent down k : ℕ) → length (movedRow ls parent down k) ≡ 4
+unfolding movedRow
+length-moved ls parent down k = refl
+
+-- the moved rows are as many as they were
+pub moved-long : (ls : List ℕ) (parent down lo hi : ℕ) → lo ≤ hi → 4 * lo + length (span (movedRow ls parent down) lo hi) ≡ 4 * hi
+moved-long ls parent down lo hi l = length-span (movedRow ls parent down) (length-moved ls parent down) lo hi l
+
+pub record Up (ls : List ℕ) (q count to bound down parent : ℕ) (out : List ℕ) (left at : ℕ) : Type 0 where
+  pub few : left ≤ count
+  pub place : at + count ≡ to + left
+  pub free : q + count ≤ to
+  pub room : 4 * to ≤ length ls
+  pub down-le : down ≤ bound
+  pub same : length out ≡ length ls
+  pub above : (k : ℕ) → q + left ≤ k → k < q + count → bound ≤ positionIn ls k
+  pub is : out ≡ put ls (4 * at) (span (movedRow ls parent down) (q + left) (q + count))
+
+pub up-start : (ls : List ℕ) (q count to bound down parent : ℕ) → q + count ≤ to → 4 * to ≤ length ls → down ≤ bound → Up ls q count to bound down parent ls count to
+up-start ls q count to bound down parent f r d =
+    record {
+      few = omega arith;
+      place = refl;
+      free = f;
+      room = r;
+      down-le = d;
+      same = refl;
+      above = λ k l h. absurd (omega arith);
+      is = put-nil ls (4 * to) ∙ ap (put ls (4 * to)) (sym (span-empty (movedRow ls parent down) (q + count)));
+    }
+
+module _ (ls : List ℕ) (q count to bound down parent : ℕ) (out : List ℕ) (left at : ℕ) (u : Up ls q count to bound down parent out left at) where
+  -- what is not moved yet is as it was
+  pub up-read : (i : ℕ) → i < 4 * at → getD out i 0 ≡ getD ls i 0
+  up-read i l = ap (λ (o : List ℕ). getD o i 0) (u .is) ∙ put-below ls (4 * at) (span (movedRow ls parent down) (q + left) (q + count)) (omega (arith, u .place, u .few, u .room)) i l
+
+  pub up-turn : (out′ : List ℕ) (p : ℕ) → 0 < left → p ≡ getD out (4 * (q + left - 1) + 1) 0 → bound ≤ p → length out′ ≡ length out
+      → out′ ≡ put out (4 * (at - 1)) (four parent (p - down) (getD out (4 * (q + left - 1) + 2) 0) (getD out (4 * (q + left - 1) + 3) 0))
+      → Up ls q count to bound down parent out′ (left - 1) (at - 1)
+  unfolding movedRow
+  up-turn out′ p l e b n h =
+      let f = movedRow ls parent down in
+      let ep : p ≡ positionIn ls (q + left - 1) = e ∙ up-read (4 * (q + left - 1) + 1) (omega (arith, u .place, u .free)) in
+      let ew : getD out (4 * (q + left - 1) + 2) 0 ≡ widthIn ls (q + left - 1) = up-read (4 * (q + left - 1) + 2) (omega (arith, u .place, u .free)) in
+      let ec : getD out (4 * (q + left - 1) + 3) 0 ≡ childIn ls (q + left - 1) = up-read (4 * (q + left - 1) + 3) (omega (arith, u .place, u .free)) in
+      let r : four parent (p - down) (getD out (4 * (q + left - 1) + 2) 0) (getD out (4 * (q + left - 1) + 3) 0) ≡ f (q + left - 1) = cc in
+      let k : q + left - 1 ≡ q + (left - 1) = omega arith in
+      let k1 : q + left ≡ q + (left - 1) + 1 = omega arith in
+      let long = moved-long ls parent down (q + left) (q + count) (omega (arith, u .few)) in
+      record {
+        few = omega (arith, u .few);
+        place = omega (arith, u .place, u .free);
+        free = u .free;
+        room = u .room;
+        down-le = u .down-le;
+        same = n ∙ u .same;
+        above = λ i lo hi. ⊎-elim
+            (λ lt. let z : i ≡ q + left - 1 = omega arith in rw z (rw ep at b))
+            (λ ge. u .above i ge hi)
+            (either i (q + left));
+        is =
+            h
+            ∙ ap₂ (λ (o v : List ℕ). put o (4 * (at - 1)) v) (u .is) r
+            ∙ put-before ls (4 * (at - 1)) (f (q + left - 1)) (4 * at) (span f (q + left) (q + count)) (omega (arith, u .place, u .free)) (omega (arith, u .place, u .free, u .room))
+            ∙ ap (put ls (4 * (at - 1)))
+            (ap₂ (λ (x y : ℕ). f x ++ span f y (q + count)) k k1 ∙ sym (span-front f (q + (left - 1)) (q + count) (omega (arith, u .few))));
+      }
+
+  pub up-done : (0 < left → positionIn ls (q + left - 1) < bound) → Moved ls out q count to bound down parent left
+  up-done h =
+      let e : at ≡ to - (count - left) = omega (arith, u .place, u .few) in
+      record {
+        few = u .few;
+        above = u .above;
+        below = h;
+        is = u .is ∙ ap (λ (x : ℕ). put ls (4 * x) (span (movedRow ls parent down) (q + left) (q + count))) e;
+      }

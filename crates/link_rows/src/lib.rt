@@ -1,0 +1,184 @@
+// Link rows, four numbers each, rewritten in place when a table is split: the rows of the items that are cut off become rows of the new tables.
+ghost use mathlib.Core.Path.{_≡_};
+ghost use mathlib.Core.List.{List, [], _∷_, _++_};
+ghost use Prim.Native.Nat.{ℕ, _+_, _-_, _*_, _≤_, _<_};
+ghost use lib.ListN.{length, getD};
+ghost use Rattle.folds.specs.Lists.{put};
+ghost use Rattle.rules.specs.Store.{perLink};
+ghost use Rattle.link_rows.specs.Rows.{positionIn, four, row, rows, reversed, Ordered};
+ghost use Rattle.link_rows.specs.Blocks.{plan, tables, edge, heads, headCount, newRows, grown, Fit, Moved, Spread, PartedRows};
+
+// The numbers of a link row.
+const PER_LINK: usize = 4;
+
+fn wide(x: u32) -> usize
+    ensures { λ r. ⌜ (r ≡ x) × (r < 4294967296) ⌝ }
+{
+    x as usize
+}
+
+fn wide16(x: u16) -> usize
+    ensures { λ r. ⌜ (r ≡ x) × (r < 65536) ⌝ }
+{
+    x as usize
+}
+
+// Writes row k.
+fn put_row(links: &mut [u32], k: usize, parent: u32, position: u32, width: u32, child: u32)
+    requires { ⌜ perLink * k + 3 < length (now links) ⌝ }
+    ensures { λ _. ⌜ now (links .exit) ≡ put (now (links .entry)) (perLink * k) (four parent position width child) ⌝ }
+{
+    let at = PER_LINK * k;
+    links[at] = parent;
+    links[at + 1] = position;
+    links[at + 2] = width;
+    links[at + 3] = child;
+}
+
+// Exchanges rows i and j.
+fn swap_rows(links: &mut [u32], i: usize, j: usize)
+    requires { ⌜ (i < j) × (perLink * j + 3 < length (now links)) ⌝ }
+    ensures { λ _. ⌜ now (links .exit) ≡ put (put (now (links .entry)) (perLink * i) (row (now (links .entry)) j)) (perLink * j) (row (now (links .entry)) i) ⌝ }
+{
+    let a = PER_LINK * i;
+    let b = PER_LINK * j;
+    let parent = links[a];
+    let position = links[a + 1];
+    let width = links[a + 2];
+    let child = links[a + 3];
+    let parent2 = links[b];
+    let position2 = links[b + 1];
+    let width2 = links[b + 2];
+    let child2 = links[b + 3];
+    put_row(links, i, parent2, position2, width2, child2);
+    put_row(links, j, parent, position, width, child);
+}
+
+// Reverses the rows lo up to hi.
+fn reverse_rows(links: &mut [u32], lo: usize, hi: usize)
+    requires { ⌜ (lo ≤ hi) × (perLink * hi ≤ length (now links)) ⌝ }
+    ensures { λ _. ⌜ now (links .exit) ≡ put (now (links .entry)) (perLink * lo) (reversed (now (links .entry)) lo hi) ⌝ }
+{
+    let mut i = lo;
+    let mut j = hi;
+    while i + 1 < j {
+        j -= 1;
+        swap_rows(links, i, j);
+        i += 1;
+    }
+}
+
+// Moves the rows a up to b behind the rows b up to m.
+fn rotate_rows(links: &mut [u32], a: usize, b: usize, m: usize)
+    requires { ⌜ (a ≤ b) × (b ≤ m) × (perLink * m ≤ length (now links)) ⌝ }
+    ensures { λ _. ⌜ now (links .exit) ≡ put (now (links .entry)) (perLink * a) (rows (now (links .entry)) b m ++ rows (now (links .entry)) a b) ⌝ }
+{
+    if a == b {
+        return;
+    }
+    if b == m {
+        return;
+    }
+    reverse_rows(links, a, b);
+    reverse_rows(links, b, m);
+    reverse_rows(links, a, m);
+}
+
+// Of the `count` rows from row q on, moves those at the end whose positions are at `bound` or above up, so that they end before row `to`, as rows of
+// `parent` with positions lower by `down`. Returns how many are left.
+fn move_up(
+    links: &mut [u32],
+    q: usize,
+    count: usize,
+    to: usize,
+    bound: usize,
+    down: usize,
+    parent: u32,
+) -> usize
+    requires { ⌜ (q + count ≤ to) × (perLink * to ≤ length (now links)) × (down ≤ bound) ⌝ }
+    ensures { λ r. ⌜ Moved (now (links .entry)) (now (links .exit)) q count to bound down parent r ⌝ }
+{
+    let mut left = count;
+    let mut at = to;
+    while 0 < left {
+        let from = PER_LINK * (q + left - 1);
+        let position = wide(links[from + 1]);
+        if position < bound {
+            return left;
+        }
+        let width = links[from + 2];
+        let child = links[from + 3];
+        left -= 1;
+        at -= 1;
+        put_row(links, at, parent, (position - down) as u32, width, child);
+    }
+    left
+}
+
+// Writes the header's rows of the new table: to its coverage, and in format 2 to its class definition 1 and the shared class definition 2.
+fn put_heads(links: &mut [u32], k: usize, per_table: usize, table: u32, class2: u32)
+    requires { ⌜ (2 ≤ «per_table») × («per_table» ≤ 3) × (perLink * (k + headCount «per_table») ≤ length (now links)) × (table + «per_table» ≤ 4294967296) ⌝ }
+    ensures { λ _. ⌜ now (links .exit) ≡ put (now (links .entry)) (perLink * k) (heads «per_table» class2 table) ⌝ }
+{
+    put_row(links, k, table, 2, 2, table + 1);
+    if per_table != 2 {
+        put_row(links, k + 1, table, 8, 2, table + 2);
+        put_row(links, k + 2, table, 10, 2, class2);
+    }
+}
+
+// The last of m rows, those from row q on, become the rows of new tables, from the last table to the first.
+fn spread(
+    links: &mut [u32],
+    q: usize,
+    m: usize,
+    cuts: &[u16],
+    header: usize,
+    item: usize,
+    first: usize,
+    per_table: usize,
+    class2: u32,
+)
+    requires { ⌜ Fit (plan (now cuts) header item first «per_table» class2) ⌝ }
+    requires { ⌜ (q ≤ m) × (perLink * grown m (plan (now cuts) header item first «per_table» class2) ≤ length (now links)) ⌝ }
+    requires { ⌜ Ordered (now links) q m ⌝ }
+    requires { ⌜ ((k : ℕ) → q ≤ k → k < m → edge (plan (now cuts) header item first «per_table» class2) 0 ≤ positionIn (now links) k) ⌝ }
+    ensures { λ _. ⌜ Spread (now (links .entry)) (now (links .exit)) q m (plan (now (cuts .entry)) header item first «per_table» class2) ⌝ }
+{
+    let mut j = cuts.len();
+    let mut left = m - q;
+    let mut at = m + (2 * per_table - 3) * j;
+    let mut table = first + per_table * j;
+    while 0 < j {
+        j -= 1;
+        table -= per_table;
+        let down = item * wide16(cuts[j]);
+        let rest = move_up(links, q, left, at, header + down, down, table as u32);
+        at = at - (left - rest) - (2 * per_table - 3);
+        left = rest;
+        put_heads(links, at, per_table, table as u32, class2);
+    }
+}
+
+// Of m rows, those from a up to b become the rows of new tables, behind all others.
+fn part_rows(
+    links: &mut [u32],
+    m: usize,
+    a: usize,
+    b: usize,
+    cuts: &[u16],
+    header: usize,
+    item: usize,
+    first: usize,
+    per_table: usize,
+    class2: u32,
+)
+    requires { ⌜ Fit (plan (now cuts) header item first «per_table» class2) ⌝ }
+    requires { ⌜ (a ≤ b) × (b ≤ m) × (perLink * grown m (plan (now cuts) header item first «per_table» class2) ≤ length (now links)) ⌝ }
+    requires { ⌜ Ordered (now links) a b ⌝ }
+    requires { ⌜ ((k : ℕ) → a ≤ k → k < b → edge (plan (now cuts) header item first «per_table» class2) 0 ≤ positionIn (now links) k) ⌝ }
+    ensures { λ _. ⌜ PartedRows (now (links .entry)) (now (links .exit)) a b m (plan (now (cuts .entry)) header item first «per_table» class2) ⌝ }
+{
+    rotate_rows(links, a, b, m);
+    spread(links, a + (m - b), m, cuts, header, item, first, per_table, class2);
+}
