@@ -4,3 +4,4 @@ pub mod Reversing
 pub mod Moving
 pub mod Spreading
 pub mod Joining
+pub mod Keeping

@@ -7,7 +7,8 @@ use lib.ListN.{length, getD}
 use lib.Dec.{eqb, leb, ltb}
 use Rattle.folds.specs.Lists.{put}
 use Rattle.rules.specs.Store.{perLink}
-use Rattle.link_rows.specs.Rows.{span, positionIn, widthIn, childIn, four, rows}
+use Rattle.rules.specs.Written.{keptChild}
+use Rattle.link_rows.specs.Rows.{span, parentIn, positionIn, widthIn, childIn, four, rows}
 
 -- Items of `item` bytes each, from byte `header` of a table on, are parted: new table j, of number first + perTable * j, gets those from cuts[j] on.
 -- perTable is 2 or 3; new tables of 3 objects share the object class2.
@@ -99,3 +100,9 @@ pub record Spread (ls out : List ℕ) (q m : ℕ) (p : Plan) : Type 0 where
 pub record PartedRows (ls out : List ℕ) (a b m : ℕ) (p : Plan) : Type 0 where
   pub long : perLink * a + length (parted ls a b m p) ≡ perLink * grown m p
   pub is : out ≡ put ls (perLink * a) (parted ls a b m p)
+
+-- row k where it stays: the kept table t's coverage and class definition 1 are new objects, of which v is the first
+unfoldable pub keptRow : List ℕ → ℕ → ℕ → ℕ → List ℕ
+keptRow ls t v k =
+    four (parentIn ls k) (positionIn ls k) (widthIn ls k)
+    (cond (eqb (parentIn ls k) t) (keptChild v (positionIn ls k) (childIn ls k)) (childIn ls k))

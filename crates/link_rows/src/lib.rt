@@ -4,9 +4,19 @@ ghost use mathlib.Core.List.{List, [], _∷_, _++_};
 ghost use Prim.Native.Nat.{ℕ, _+_, _-_, _*_, _≤_, _<_};
 ghost use lib.ListN.{length, getD};
 ghost use Rattle.folds.specs.Lists.{put};
-ghost use Rattle.rules.specs.Store.{perLink};
-ghost use Rattle.link_rows.specs.Rows.{positionIn, four, row, rows, reversed, Ordered};
-ghost use Rattle.link_rows.specs.Blocks.{plan, tables, edge, heads, headCount, newRows, grown, Fit, Moved, Spread, PartedRows};
+ghost use Rattle.rules.specs.Store.{lent, perLink};
+ghost use Rattle.rules.specs.Written.{keptChild};
+ghost use Rattle.link_rows.specs.Rows.{span, positionIn, four, row, rows, reversed, Ordered};
+ghost use Rattle.link_rows.specs.Blocks.{plan, edge, heads, headCount, grown, keptRow, Fit, Moved, Spread, PartedRows};
+ghost use Rattle.link_rows.specs.Parting.{shapeOf, Parting, Parted};
+
+// What the two formats share of a table, as far as its links go: header bytes, item bytes, and how many items it has.
+pub struct Layout {
+    pub format: u16,
+    pub header: usize,
+    pub item: usize,
+    pub count: usize,
+}
 
 // The numbers of a link row.
 const PER_LINK: usize = 4;
@@ -181,4 +191,41 @@ fn part_rows(
 {
     rotate_rows(links, a, b, m);
     spread(links, a + (m - b), m, cuts, header, item, first, per_table, class2);
+}
+
+// The child of a link of the kept table: its coverage and class definition 1 are new objects, of which `first` is the first.
+fn kept_child(position: u32, child: u32, first: u32) -> u32
+    requires { ⌜ first + 1 < 4294967296 ⌝ }
+    ensures { λ r. ⌜ r ≡ keptChild first position child ⌝ }
+{
+    if position == 2 {
+        return first;
+    }
+    if position == 8 {
+        return first + 1;
+    }
+    child
+}
+
+// Row k, where it is the kept table's, leads to the kept table's new objects.
+fn keep_row(links: &mut [u32], k: usize, table: u32, first: u32)
+    requires { ⌜ (perLink * k + 3 < length (now links)) × (first + 1 < 4294967296) ⌝ }
+    ensures { λ _. ⌜ now (links .exit) ≡ put (now (links .entry)) (perLink * k) (keptRow (now (links .entry)) table first k) ⌝ }
+{
+    let at = PER_LINK * k;
+    if links[at] == table {
+        links[at + 3] = kept_child(links[at + 1], links[at + 3], first);
+    }
+}
+
+// The same of the first `count` rows.
+fn keep_rows(links: &mut [u32], count: usize, table: u32, first: u32)
+    requires { ⌜ (perLink * count ≤ length (now links)) × (first + 1 < 4294967296) ⌝ }
+    ensures { λ _. ⌜ now (links .exit) ≡ put (now (links .entry)) 0 (span (keptRow (now (links .entry)) table first) 0 count) ⌝ }
+{
+    let mut k = 0;
+    while k < count {
+        keep_row(links, k, table, first);
+        k += 1;
+    }
 }
