@@ -15,3 +15,4 @@ pub mod Halving
 pub mod Joined
 pub mod Behind
 pub mod Bits
+pub mod Sifted

@@ -9,7 +9,7 @@ use Rattle.folds.proofs.Put.{put-put, length-put, put-over}
 use Rattle.link_rows.specs.Rows.{seg, span, positionIn, widthIn, childIn, row, rows, Ordered}
 use Rattle.link_rows.specs.Blocks.{Plan, tables, tableId, movedRow, share, heads, tableRows, newRows, grown, Spread, PartedRows}
 use Rattle.link_rows.proofs.Spans.{seg-ext, span-ext}
-use Rattle.link_rows.proofs.RowLaws.{length-row, length-span, row-inside}
+use Rattle.link_rows.proofs.RowLaws.{length-row, length-span, row-of-rows}
 
 module _ (ls out : List ℕ) (i k : ℕ) (e : row out k ≡ row ls i) where
   pub position-is : positionIn out k ≡ positionIn ls i
@@ -34,17 +34,11 @@ module _ (ls : List ℕ) (a b m : ℕ) (ab : a ≤ b) (bm : b ≤ m) (room : 4 *
   pub there : (i : ℕ) → i < b - a → row out (a + (m - b) + i) ≡ row ls (a + i)
   there i l =
       let q = a + (m - b) in
-      let g : ℕ → ℕ = λ k. a + (k - q) in
       let e : 4 * q ≡ 4 * a + length (rows ls b m) = omega (arith, ahead) in
-      let n : b - a ≡ m - q = omega arith in
-      let x : rows ls a b ≡ span (λ k. row ls (g k)) q m =
-      ap (seg (row ls) a) n ∙ seg-ext (row ls) (λ k. row ls (g k)) a q (m - q) (λ i l. let z : a + i ≡ a + (q + i - q) = omega arith in ap (row ls) z) in
       let d = put ls (4 * a) (rows ls b m) in
       let nd : length d ≡ length ls = length-put ls (4 * a) (rows ls b m) (omega (arith, ahead)) in
-      let z : a + (q + i - q) ≡ a + i = omega arith in
-      ap (λ (o : List ℕ). row o (q + i)) (is ∙ sym (put-put ls (4 * a) (rows ls b m) (4 * q) (rows ls a b) (omega arith) e) ∙ ap (put d (4 * q)) x)
-      ∙ row-inside ls g d q m (q + i) (omega arith) (omega arith) (omega arith)
-      ∙ ap (row ls) z
+      ap (λ (o : List ℕ). row o (q + i)) (is ∙ sym (put-put ls (4 * a) (rows ls b m) (4 * q) (rows ls a b) (omega arith) e))
+      ∙ row-of-rows ls d q a (b - a) i (omega arith) l
 
   -- at a row's own number
   there-at : (k : ℕ) → a + (m - b) ≤ k → k < m → row out k ≡ row ls (k - (m - b))

@@ -7,8 +7,8 @@ use lib.ListN.{length, getD}
 use lib.Seq.{set-getD}
 use Rattle.folds.specs.Lists.{put}
 use Rattle.folds.proofs.Put.{put-nil, put-put, put-below, put-inside, put-above, put-four}
-use Rattle.link_rows.specs.Rows.{span, row, rows}
-use Rattle.link_rows.proofs.Spans.{length-seg, seg-at, span-empty, span-back}
+use Rattle.link_rows.specs.Rows.{seg, span, row, rows}
+use Rattle.link_rows.proofs.Spans.{seg-ext, length-seg, seg-at, span-empty, span-back}
 
 pub length-row : (ls : List ℕ) (k : ℕ) → length (row ls k) ≡ 4
 unfolding row
@@ -62,6 +62,19 @@ module _ (ls : List ℕ) (g : ℕ → ℕ) where
       let w : getD (put d (4 * lo) (span f lo hi)) (4 * k + 2) 0 ≡ getD ls (4 * g k + 2) 0 = span-at f n d lo hi k 2 room l h (omega arith) in
       let c : getD (put d (4 * lo) (span f lo hi)) (4 * k + 3) 0 ≡ getD ls (4 * g k + 3) 0 = span-at f n d lo hi k 3 room l h (omega arith) in
       cc
+
+-- a row of rows that were written, at other numbers than their own
+pub row-of-rows : (ls d : List ℕ) (a b n i : ℕ) → 4 * (a + n) ≤ length d → i < n → row (put d (4 * a) (seg (row ls) b n)) (a + i) ≡ row ls (b + i)
+row-of-rows ls d a b n i room l =
+    let g : ℕ → ℕ = λ k. b + (k - a) in
+    let e : n ≡ a + n - a = omega arith in
+    let x : seg (row ls) b n ≡ span (λ k. row ls (g k)) a (a + n) =
+    seg-ext (row ls) (λ k. row ls (g k)) b a n (λ i l. let z : b + i ≡ b + (a + i - a) = omega arith in ap (row ls) z)
+    ∙ ap (seg (λ k. row ls (g k)) a) e in
+    let z : b + (a + i - a) ≡ b + i = omega arith in
+    ap (λ (y : List ℕ). row (put d (4 * a) y) (a + i)) x
+    ∙ row-inside ls g d a (a + n) (a + i) room (omega arith) (omega arith)
+    ∙ ap (row ls) z
 
 -- rows at their own place
 own-from : (ls : List ℕ) (lo n : ℕ) → 4 * (lo + n) ≤ length ls → put ls (4 * lo) (rows ls lo (lo + n)) ≡ ls

@@ -41,6 +41,13 @@ module _ (f : ℕ → List ℕ) (four : (k : ℕ) → length (f k) ≡ perLink) 
       ap (λ (x : List ℕ). getD x (perLink * i + c) 0) (sym (append-nil (seg f a n)))
       ∙ even-at (λ i. f (a + i)) perLink (λ i. four (a + i)) [] 0 n i c l h
 
+-- from the first on
+pub flat-span : (f : ℕ → List ℕ) (n : ℕ) → flat f n ≡ span f 0 n
+unfolding seg
+flat-span f n =
+    let e : n ≡ n - 0 = omega arith in
+    flat-same f (λ i. f (0 + i)) n (λ i l. let z : i ≡ 0 + i = omega arith in ap f z) ∙ ap (seg f 0) e
+
 module _ (f : ℕ → List ℕ) where
   pub span-empty : (a : ℕ) → span f a a ≡ []
   span-empty a = seg-none f a (a - a) (λ i l. absurd (omega arith))

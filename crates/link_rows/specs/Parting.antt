@@ -18,8 +18,8 @@ abbrev pub layoutOf : Shape → Layout
 layoutOf sh = record { format = sh .format; header = sh .header; item = sh .item; count = sh .count }
 
 -- a shape of this layout
-abbrev pub shapeOf : Layout → Shape
-shapeOf a = record { format = a .format; header = a .header; heads = []; countAt = 0; count = a .count; item = a .item; unit = 0; slots = [] }
+abbrev pub shapeWith : Layout → Shape
+shapeWith a = record { format = a .format; header = a .header; heads = []; countAt = 0; count = a .count; item = a .item; unit = 0; slots = [] }
 
 -- links of a new table's header: "K links; .. 3K links"
 abbrev pub perHeader : Shape → ℕ

@@ -1,14 +1,16 @@
 // Link rows, four numbers each, rewritten in place when a table is split: the rows of the items that are cut off become rows of the new tables.
 ghost use mathlib.Core.Path.{_≡_};
+ghost use mathlib.Core.Bool.{cond};
 ghost use mathlib.Core.List.{List, [], _∷_, _++_};
 ghost use Prim.Native.Nat.{ℕ, _+_, _-_, _*_, _≤_, _<_};
 ghost use lib.ListN.{length, getD};
+ghost use lib.Dec.{eqb};
 ghost use Rattle.folds.specs.Lists.{put};
 ghost use Rattle.rules.specs.Store.{lent, perLink};
 ghost use Rattle.rules.specs.Written.{keptChild};
 ghost use Rattle.link_rows.specs.Rows.{span, positionIn, four, row, rows, reversed, Ordered};
 ghost use Rattle.link_rows.specs.Blocks.{plan, edge, heads, headCount, grown, keptRow, Fit, Moved, Spread, PartedRows};
-ghost use Rattle.link_rows.specs.Parting.{shapeOf, Parting, Parted};
+ghost use Rattle.link_rows.specs.Parting.{shapeWith, Parting, Parted};
 
 // What the two formats share of a table, as far as its links go: header bytes, item bytes, and how many items it has.
 pub struct Layout {
@@ -228,4 +230,36 @@ fn keep_rows(links: &mut [u32], count: usize, table: u32, first: u32)
         keep_row(links, k, table, first);
         k += 1;
     }
+}
+
+// Objects of a new table: itself, its coverage, in format 2 its class definition 1.
+fn objects_per_table(format: u16) -> usize
+    ensures { λ r. ⌜ r ≡ cond (eqb format 1) 2 3 ⌝ }
+{
+    if format == 1 { 2 } else { 3 }
+}
+
+// Rewrites the link rows for a split of `table` at `cuts`, where the rows from `first` up to `after` are those of the items that are cut off. Returns how
+// many rows are in use then.
+pub fn part_links(
+    links: &mut [u32],
+    counts: &[u32; 3],
+    table: u32,
+    layout: Layout,
+    cuts: &[u16],
+    first: usize,
+    after: usize,
+    class2: u32,
+) -> usize
+    requires { ⌜ Parting (lent [] [] (now links) (now counts)) table (shapeWith layout) (now cuts) first after class2 ⌝ }
+    ensures { λ r. ⌜ ((b o : List ℕ) → Parted (lent b o (now (links .entry)) (now (counts .entry))) table (shapeWith layout) (now (cuts .entry)) (now (links .exit)) r) ⌝ }
+{
+    let objects = counts[1] as usize;
+    let count = counts[2] as usize;
+    let header = layout.header;
+    let item = layout.item;
+    let per_table = objects_per_table(layout.format);
+    part_rows(links, count, first, after, cuts, header, item, objects, per_table, class2);
+    keep_rows(links, count - (after - first), table, (objects + per_table * cuts.len()) as u32);
+    count + (2 * per_table - 3) * cuts.len()
 }

@@ -1,0 +1,110 @@
+-- The rows at exit: those that stay, with the kept table's new objects, and the new tables' behind them. Assumes nothing.
+use Prim.Native.Nat.{ℕ, _+_, _-_, _*_, _≤_, _<_}
+use mathlib.Core.Path.{_≡_, sym, ap, ap₂, _∙_}
+use mathlib.Core.List.{List, _++_, append-assoc}
+use native.Mathlib.Omega.{arith}
+use lib.ListN.{length, length-append}
+use Rattle.folds.specs.Lists.{put}
+use Rattle.folds.proofs.Put.{put-put, put-before, put-over, length-put}
+use Rattle.opentype.specs.PairPos.{Shape}
+use Rattle.rules.specs.Store.{Store}
+use Rattle.rules.specs.Written.{perTable, newNumber, newLinks, rowNumbers}
+use Rattle.link_rows.specs.Rows.{seg, span, row, rows}
+use Rattle.link_rows.specs.Blocks.{Plan, newRows, parted, headCount, grown, keptRow, PartedRows}
+use Rattle.link_rows.specs.Parting.{Parting, Parted}
+use Rattle.link_rows.proofs.Spans.{seg-ext, span-join, span-ext}
+use Rattle.link_rows.proofs.RowLaws.{length-row, length-span, row-below, row-of-rows, own-rows}
+use Rattle.link_rows.proofs.Keeping.{kept-is, kept-long}
+use Rattle.link_rows.proofs.Links.{numbers-long}
+use Rattle.link_rows.proofs.Parting.{planOf, header-count}
+use Rattle.link_rows.proofs.Written.{link-numbers}
+
+module _ (ls : List ℕ) (a b m : ℕ) (p : Plan) (ab : a ≤ b) (bm : b ≤ m) (room : 4 * grown m p ≤ length ls) (out : List ℕ) (done : PartedRows ls out a b m p) where
+  ahead : 4 * b + length (rows ls b m) ≡ 4 * m
+  ahead = length-span (row ls) (length-row ls) b m bm
+
+  before-a : (k : ℕ) → k < a → row out k ≡ row ls k
+  before-a k l = ap (λ (o : List ℕ). row o k) (done .is) ∙ row-below ls (4 * a) (parted ls a b m p) (omega arith) k (omega arith)
+
+  -- those behind the rows that moved have come up
+  from-b : (i : ℕ) → i < m - b → row out (a + i) ≡ row ls (b + i)
+  from-b i l =
+      let q = a + (m - b) in
+      let R = rows ls b m in
+      let N = newRows ls a b p in
+      let e : 4 * q ≡ 4 * a + length R = omega (arith, ahead) in
+      let d = put ls (4 * a) R in
+      let nd : length d ≡ length ls = length-put ls (4 * a) R (omega (arith, ahead)) in
+      ap (λ (o : List ℕ). row o (a + i)) (done .is ∙ sym (put-put ls (4 * a) R (4 * q) N (omega arith) e))
+      ∙ row-below d (4 * q) N (omega arith) (a + i) (omega arith)
+      ∙ row-of-rows ls ls a b (m - b) i (omega arith) l
+
+  stay : (t v : ℕ) → span (keptRow out t v) 0 (m - (b - a)) ≡ span (keptRow ls t v) 0 a ++ span (keptRow ls t v) b m
+  stay t v =
+      let q = m - (b - a) in
+      let n : q - a ≡ m - b = omega arith in
+      span-join (keptRow out t v) 0 a q (omega arith) (omega arith)
+      ∙ ap₂ (λ (x y : List ℕ). x ++ y)
+      (span-ext (keptRow out t v) (keptRow ls t v) 0 a (λ k l h. kept-is ls out t v k k (before-a k h)))
+      (ap (seg (keptRow out t v) a) n ∙ seg-ext (keptRow out t v) (keptRow ls t v) a b (m - b) (λ i l. kept-is ls out t v (b + i) (a + i) (from-b i l)))
+
+  -- written once, from the first row on
+  whole : out ≡ put (put ls 0 (rows ls 0 a ++ rows ls b m)) (4 * (m - (b - a))) (newRows ls a b p)
+  whole =
+      let A = rows ls 0 a in
+      let R = rows ls b m in
+      let N = newRows ls a b p in
+      let front = length-span (row ls) (length-row ls) 0 a (omega arith) in
+      let e : 4 * a ≡ 0 + length A = omega arith in
+      let f : 4 * (m - (b - a)) ≡ 0 + length (A ++ R) = omega (arith, ahead, length-append A R) in
+      done .is
+      ∙ ap (λ (o : List ℕ). put o (4 * a) (R ++ N)) (sym (own-rows ls 0 a (omega arith) (omega arith)))
+      ∙ put-put ls 0 A (4 * a) (R ++ N) (omega arith) e
+      ∙ ap (put ls 0) (sym (append-assoc A R N))
+      ∙ sym (put-put ls 0 (A ++ R) (4 * (m - (b - a))) N (omega arith) f)
+
+  pub finished : (t v : ℕ) (out′ : List ℕ) → out′ ≡ put out 0 (span (keptRow out t v) 0 (m - (b - a)))
+      → out′ ≡ put ls 0 ((span (keptRow ls t v) 0 a ++ span (keptRow ls t v) b m) ++ newRows ls a b p)
+  finished t v out′ h =
+      let q = m - (b - a) in
+      let A = rows ls 0 a in
+      let R = rows ls b m in
+      let N = newRows ls a b p in
+      let S = span (keptRow ls t v) 0 a ++ span (keptRow ls t v) b m in
+      let front = length-span (row ls) (length-row ls) 0 a (omega arith) in
+      let nr = length-append A R in
+      let ns : length S ≡ 4 * q = ap length (sym (stay t v)) ∙ (let l = kept-long out t v 0 q (omega arith) in omega arith) in
+      let nn = length-append R N in
+      let nw = length-append S N in
+      let long = done .long in
+      let d = put ls 0 (A ++ R) in
+      let nd : length d ≡ length ls = length-put ls 0 (A ++ R) (omega (arith, ahead)) in
+      h
+      ∙ ap₂ (λ (o x : List ℕ). put o 0 x) whole (stay t v)
+      ∙ put-before d 0 S (4 * q) N (omega arith) (omega (arith, ahead))
+      ∙ put-over ls 0 (A ++ R) (S ++ N) (omega (arith, ahead)) (omega (arith, ahead))
+
+  pub finished-long : (t v : ℕ) → length ((span (keptRow ls t v) 0 a ++ span (keptRow ls t v) b m) ++ newRows ls a b p) ≡ 4 * grown m p
+  finished-long t v =
+      let x = kept-long ls t v 0 a (omega arith) in
+      let y = kept-long ls t v b m bm in
+      let u = length-append (span (keptRow ls t v) 0 a) (span (keptRow ls t v) b m) in
+      let w = length-append (span (keptRow ls t v) 0 a ++ span (keptRow ls t v) b m) (newRows ls a b p) in
+      let z = length-append (rows ls b m) (newRows ls a b p) in
+      omega (arith, ahead, done .long)
+
+-- THE END: what the code has written is what is to be written
+pub parted-links : (s : Store) (t : ℕ) (sh : Shape) (cs : List ℕ) (a b class2 : ℕ) → Parting s t sh cs a b class2 → (out out′ : List ℕ)
+    → PartedRows (s .links) out a b (s .linkCount) (planOf s sh cs class2)
+    → out′ ≡ put out 0 (span (keptRow out t (newNumber s sh (length cs))) 0 (s .linkCount - (b - a)))
+    → Parted s t sh cs out′ (s .linkCount + headCount (perTable sh) * length cs)
+parted-links s t sh cs a b class2 g out out′ done h =
+    let v = newNumber s sh (length cs) in
+    let p = planOf s sh cs class2 in
+    let e = link-numbers s t sh cs a b class2 g in
+    let room : 4 * grown (s .linkCount) p ≤ length (s .links) = rw (header-count sh) at (g .linkRoom) in
+    let n = finished-long (s .links) a b (s .linkCount) p (g .ordered) (g .used) room out done t v in
+    record {
+      count-is = omega (arith, numbers-long (newLinks s t sh cs), ap length e);
+      rows-are = finished (s .links) a b (s .linkCount) p (g .ordered) (g .used) room out done t v out′ h ∙ ap (put (s .links) 0) (sym e);
+    }
