@@ -1,16 +1,16 @@
 -- The rows at exit: those that stay, with the kept table's new objects, and the new tables' behind them. Assumes nothing.
 use Prim.Native.Nat.{ℕ, _+_, _-_, _*_, _≤_, _<_}
-use mathlib.Core.Path.{_≡_, sym, ap, ap₂, _∙_}
-use mathlib.Core.List.{List, _++_, append-assoc}
+use mathlib.Core.Path.{_≡_, refl, sym, ap, ap₂, _∙_}
+use mathlib.Core.List.{List, [], _++_, append-assoc}
 use native.Mathlib.Omega.{arith}
-use lib.ListN.{length, length-append}
+use lib.ListN.{length, getD, length-append}
 use Rattle.folds.specs.Lists.{put}
 use Rattle.folds.proofs.Put.{put-put, put-before, put-over, length-put}
 use Rattle.opentype.specs.PairPos.{Shape}
-use Rattle.rules.specs.Store.{Store}
-use Rattle.rules.specs.Written.{perTable, newNumber, newLinks, rowNumbers}
+use Rattle.rules.specs.Store.{Store, Link, lent, linksOf, childAt}
+use Rattle.rules.specs.Written.{perTable, newNumber, tableLinks, newLinks, rowNumbers}
 use Rattle.link_rows.specs.Rows.{seg, span, row, rows}
-use Rattle.link_rows.specs.Blocks.{Plan, newRows, parted, headCount, grown, keptRow, PartedRows}
+use Rattle.link_rows.specs.Blocks.{Plan, plan, newRows, parted, headCount, grown, keptRow, PartedRows}
 use Rattle.link_rows.specs.Parting.{Parting, Parted}
 use Rattle.link_rows.proofs.Spans.{seg-ext, span-join, span-ext}
 use Rattle.link_rows.proofs.RowLaws.{length-row, length-span, row-below, row-of-rows, own-rows}
@@ -108,3 +108,21 @@ parted-links s t sh cs a b class2 g out out′ done h =
       count-is = omega (arith, numbers-long (newLinks s t sh cs), ap length e);
       rows-are = finished (s .links) a b (s .linkCount) p (g .ordered) (g .used) room out done t v out′ h ∙ ap (put (s .links) 0) (sym e);
     }
+
+-- the bytes and the object rows of a store have no part in it
+pub rows-alone : (x y x′ y′ ls cts : List ℕ) (t : ℕ) (sh : Shape) (cs : List ℕ) → newLinks (lent x y ls cts) t sh cs ≡ newLinks (lent x′ y′ ls cts) t sh cs
+unfolding newLinks tableLinks linksOf childAt
+rows-alone x y x′ y′ ls cts t sh cs = refl
+
+pub parted-call : (ls cts : List ℕ) (t : ℕ) (sh : Shape) (cs : List ℕ) (a b class2 n : ℕ) → Parting (lent [] [] ls cts) t sh cs a b class2 → n ≡ perTable sh
+    → (out out′ : List ℕ) → PartedRows ls out a b (getD cts 2 0) (plan cs (sh .header) (sh .item) (getD cts 1 0) n class2)
+    → out′ ≡ put out 0 (span (keptRow out t (getD cts 1 0 + n * length cs)) 0 (getD cts 2 0 - (b - a)))
+    → (x y : List ℕ) → Parted (lent x y ls cts) t sh cs out′ (getD cts 2 0 + headCount n * length cs)
+parted-call ls cts t sh cs a b class2 n g e out out′ done h x y =
+    let r = parted-links (lent [] [] ls cts) t sh cs a b class2 g out out′ (rw e at done) (rw e at h) in
+    let same = rows-alone [] [] x y ls cts t sh cs in
+    rw e
+    (record {
+      count-is = r .count-is ∙ ap length same;
+      rows-are = r .rows-are ∙ ap (λ (l : List Link). put ls 0 (rowNumbers l)) same;
+    })

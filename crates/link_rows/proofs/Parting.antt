@@ -17,7 +17,7 @@ use Rattle.rules.specs.Store.{Store, linkAt, parentOf, positionOf, ascends}
 use Rattle.rules.specs.Walk.{ofItems}
 use Rattle.rules.specs.Written.{from, perTable}
 use Rattle.link_rows.specs.Rows.{positionIn, Ordered}
-use Rattle.link_rows.specs.Blocks.{Plan, plan, edge, tables, headCount, Fit}
+use Rattle.link_rows.specs.Blocks.{Plan, plan, edge, tables, headCount, grown, Fit}
 use Rattle.link_rows.specs.Parting.{perHeader, Parting}
 use Rattle.link_rows.proofs.Spreading.{edge-at}
 
@@ -95,3 +95,30 @@ module _ (s : Store) (t : ℕ) (sh : Shape) (cs : List ℕ) (a b class2 : ℕ) (
   floor k l h =
       let (p, x, y) = moves k l h in
       omega (arith, edge-at (planOf s sh cs class2) 0 (g .some))
+
+-- what the code asks where n is the number of objects of a new table
+pub record Ready (s : Store) (sh : Shape) (cs : List ℕ) (a b class2 n : ℕ) : Type 0 where
+  pub two : 2 ≤ n
+  pub three : n ≤ 3
+  pub fits : Fit (plan cs (sh .header) (sh .item) (s .objectCount) n class2)
+  pub few : a ≤ b
+  pub used : b ≤ s .linkCount
+  pub room : 4 * grown (s .linkCount) (plan cs (sh .header) (sh .item) (s .objectCount) n class2) ≤ length (s .links)
+  pub order : Ordered (s .links) a b
+  pub bottom : (k : ℕ) → a ≤ k → k < b → edge (plan cs (sh .header) (sh .item) (s .objectCount) n class2) 0 ≤ positionIn (s .links) k
+  pub numbers : s .objectCount + n * length cs + 1 < 4294967296
+
+pub ready : (s : Store) (t : ℕ) (sh : Shape) (cs : List ℕ) (a b class2 n : ℕ) → Parting s t sh cs a b class2 → n ≡ perTable sh → Ready s sh cs a b class2 n
+ready s t sh cs a b class2 n g e =
+    rw e
+    (record {
+      two = per-two sh;
+      three = per-three sh;
+      fits = fit s t sh cs a b class2 g;
+      few = g .ordered;
+      used = g .used;
+      room = rw (header-count sh) at (g .linkRoom);
+      order = in-order s t sh cs a b class2 g;
+      bottom = floor s t sh cs a b class2 g;
+      numbers = g .objectRoom;
+    })

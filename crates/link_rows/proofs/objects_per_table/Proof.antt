@@ -1,0 +1,17 @@
+-- `link_rows::objects_per_table` meets its contract: each answer by the test that led to it. Assumes nothing.
+use borrow.Author.Tests.{eq-eqb, ne-eqb}
+use Rattle.link_rows.proofs.objects_per_table.Statement.{statement}
+use Rattle.link_rows.proofs.objects_per_table.Tie as tie
+use Rattle.link_rows.proofs.objects_per_table.Reads as reads
+use Rattle.link_rows.proofs.objects_per_table.Lts as lts
+
+-- src/lib.rt:236:1
+returns : tie.Need-returns
+returns c = simp (eq-eqb _ _ (c .if1 .taken))
+
+-- src/lib.rt:236:1
+returns-2 : tie.Need-returns-2
+returns-2 c = simp (ne-eqb _ _ (c .if1 .left))
+
+pub objects-per-table-spec : {M : Type 1} → statement M
+objects-per-table-spec = tie.close (tie.spec returns returns-2)
