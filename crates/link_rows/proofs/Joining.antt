@@ -6,7 +6,7 @@ use native.Mathlib.Omega.{arith}
 use lib.ListN.{length, getD, length-append}
 use Rattle.folds.specs.Lists.{put}
 use Rattle.folds.proofs.Put.{put-put, length-put, put-over}
-use Rattle.link_rows.specs.Rows.{seg, span, positionIn, widthIn, childIn, row, rows, Ordered}
+use Rattle.link_rows.specs.Rows.{seg, positionIn, widthIn, childIn, row, rows, Ordered}
 use Rattle.link_rows.specs.Blocks.{Plan, tables, tableId, movedRow, share, heads, tableRows, newRows, grown, Spread, PartedRows}
 use Rattle.link_rows.proofs.Spans.{seg-ext, span-ext}
 use Rattle.link_rows.proofs.RowLaws.{length-row, length-span, row-of-rows}

@@ -9,3 +9,4 @@ pub mod Links
 pub mod Parting
 pub mod Written
 pub mod Finishing
+pub mod Callers

@@ -8,7 +8,7 @@ use lib.ListN.{length, getD}
 use Rattle.folds.specs.Lists.{put}
 use Rattle.folds.proofs.Tests.{either}
 use Rattle.folds.proofs.Put.{put-nil, put-below, put-before}
-use Rattle.link_rows.specs.Rows.{span, positionIn, widthIn, childIn, four}
+use Rattle.link_rows.specs.Rows.{span, positionIn}
 use Rattle.link_rows.specs.Blocks.{movedRow, Moved}
 use Rattle.link_rows.proofs.Spans.{span-empty, span-front}
 use Rattle.link_rows.proofs.RowLaws.{length-span}
@@ -49,16 +49,22 @@ module _ (ls : List ℕ) (q count to bound down parent : ℕ) (out : List ℕ) (
   pub up-read : (i : ℕ) → i < 4 * at → getD out i 0 ≡ getD ls i 0
   up-read i l = ap (λ (o : List ℕ). getD o i 0) (u .is) ∙ put-below ls (4 * at) (span (movedRow ls parent down) (q + left) (q + count)) (omega (arith, u .place, u .few, u .room)) i l
 
-  pub up-turn : (out′ : List ℕ) (p : ℕ) → 0 < left → p ≡ getD out (4 * (q + left - 1) + 1) 0 → bound ≤ p → length out′ ≡ length out
-      → out′ ≡ put out (4 * (at - 1)) (four parent (p - down) (getD out (4 * (q + left - 1) + 2) 0) (getD out (4 * (q + left - 1) + 3) 0))
-      → Up ls q count to bound down parent out′ (left - 1) (at - 1)
+  -- the last row that is not moved yet
+  last : 0 < left → movedRow out parent down (q + left - 1) ≡ movedRow ls parent down (q + left - 1)
   unfolding movedRow
-  up-turn out′ p l e b n h =
+  last l =
+      let p = up-read (4 * (q + left - 1) + 1) (omega (arith, u .place, u .free)) in
+      let w = up-read (4 * (q + left - 1) + 2) (omega (arith, u .place, u .free)) in
+      let c = up-read (4 * (q + left - 1) + 3) (omega (arith, u .place, u .free)) in
+      cc
+
+  last-position : 0 < left → positionIn out (q + left - 1) ≡ positionIn ls (q + left - 1)
+  last-position l = up-read (4 * (q + left - 1) + 1) (omega (arith, u .place, u .free))
+
+  pub up-turn : (out′ : List ℕ) → 0 < left → bound ≤ positionIn out (q + left - 1) → length out′ ≡ length out
+      → out′ ≡ put out (4 * (at - 1)) (movedRow out parent down (q + left - 1)) → Up ls q count to bound down parent out′ (left - 1) (at - 1)
+  up-turn out′ l b n h =
       let f = movedRow ls parent down in
-      let ep : p ≡ positionIn ls (q + left - 1) = e ∙ up-read (4 * (q + left - 1) + 1) (omega (arith, u .place, u .free)) in
-      let ew : getD out (4 * (q + left - 1) + 2) 0 ≡ widthIn ls (q + left - 1) = up-read (4 * (q + left - 1) + 2) (omega (arith, u .place, u .free)) in
-      let ec : getD out (4 * (q + left - 1) + 3) 0 ≡ childIn ls (q + left - 1) = up-read (4 * (q + left - 1) + 3) (omega (arith, u .place, u .free)) in
-      let r : four parent (p - down) (getD out (4 * (q + left - 1) + 2) 0) (getD out (4 * (q + left - 1) + 3) 0) ≡ f (q + left - 1) = cc in
       let k : q + left - 1 ≡ q + (left - 1) = omega arith in
       let k1 : q + left ≡ q + (left - 1) + 1 = omega arith in
       let long = moved-long ls parent down (q + left) (q + count) (omega (arith, u .few)) in
@@ -70,19 +76,20 @@ module _ (ls : List ℕ) (q count to bound down parent : ℕ) (out : List ℕ) (
         down-le = u .down-le;
         same = n ∙ u .same;
         above = λ i lo hi. ⊎-elim
-            (λ lt. let z : i ≡ q + left - 1 = omega arith in rw z (rw ep at b))
+            (λ lt. let z : i ≡ q + left - 1 = omega arith in rw z (rw (last-position l) at b))
             (λ ge. u .above i ge hi)
             (either i (q + left));
         is =
             h
-            ∙ ap₂ (λ (o v : List ℕ). put o (4 * (at - 1)) v) (u .is) r
-            ∙ put-before ls (4 * (at - 1)) (f (q + left - 1)) (4 * at) (span f (q + left) (q + count)) (omega (arith, u .place, u .free)) (omega (arith, u .place, u .free, u .room))
+            ∙ ap₂ (λ (o v : List ℕ). put o (4 * (at - 1)) v) (u .is) (last l)
+            ∙ put-before ls (4 * (at - 1)) (f (q + left - 1)) (4 * at) (span f (q + left) (q + count))
+            (omega (arith, u .place, u .free, length-moved ls parent down (q + left - 1))) (omega (arith, u .place, u .free, u .room))
             ∙ ap (put ls (4 * (at - 1)))
             (ap₂ (λ (x y : ℕ). f x ++ span f y (q + count)) k k1 ∙ sym (span-front f (q + (left - 1)) (q + count) (omega (arith, u .few))));
       }
 
-  pub up-done : (0 < left → positionIn ls (q + left - 1) < bound) → Moved ls out q count to bound down parent left
-  up-done h =
+  done : (0 < left → positionIn ls (q + left - 1) < bound) → Moved ls out q count to bound down parent left
+  done h =
       let e : at ≡ to - (count - left) = omega (arith, u .place, u .few) in
       record {
         few = u .few;
@@ -90,3 +97,9 @@ module _ (ls : List ℕ) (q count to bound down parent : ℕ) (out : List ℕ) (
         below = h;
         is = u .is ∙ ap (λ (x : ℕ). put ls (4 * x) (span (movedRow ls parent down) (q + left) (q + count))) e;
       }
+
+  pub up-stop : 0 < left → positionIn out (q + left - 1) < bound → Moved ls out q count to bound down parent left
+  up-stop l b = done (λ h. rw (last-position l) at b)
+
+  pub up-all : left ≤ 0 → Moved ls out q count to bound down parent left
+  up-all l = done (λ h. absurd (omega arith))

@@ -4,10 +4,10 @@ use mathlib.Core.Path.{_≡_, refl, sym, ap, _∙_}
 use mathlib.Core.Bool.{Bool, true, false, cond, _&&_}
 use mathlib.Core.List.{List}
 use mathlib.Core.Logic.{⊎-elim}
-use native.Mathlib.Nat.{mul-le-mul-left, mul-zero}
+use native.Mathlib.Nat.{mul-le-mul-left}
 use native.Mathlib.Numerals.{add-one}
 use native.Mathlib.Omega.{arith}
-use lib.ListN.{length, getD}
+use lib.ListN.{length}
 use lib.Dec.{eqb, leb, ltb}
 use borrow.Author.Tests.{ltb-true, leb-true, eqb-true, lt-ltb, le-ltb, le-leb, lt-leb}
 use Rattle.folds.proofs.Tests.{and-both, and-intro, and-second, cond-has}
@@ -17,7 +17,7 @@ use Rattle.rules.specs.Store.{Store, linkAt, parentOf, positionOf, ascends}
 use Rattle.rules.specs.Walk.{ofItems}
 use Rattle.rules.specs.Written.{from, perTable}
 use Rattle.link_rows.specs.Rows.{positionIn, Ordered}
-use Rattle.link_rows.specs.Blocks.{Plan, plan, edge, tables, headCount, grown, Fit}
+use Rattle.link_rows.specs.Blocks.{Plan, plan, edge, headCount, grown, Fit}
 use Rattle.link_rows.specs.Parting.{perHeader, Parting}
 use Rattle.link_rows.proofs.Spreading.{edge-at}
 

@@ -158,9 +158,9 @@ module _ (ls : List ℕ) (q m : ℕ) (p : Plan) (out : List ℕ) (j left at tabl
   room-left = omega (arith, s .place, counted)
 
   -- a row that has not moved yet
-  moved-same : (down k : ℕ) → down ≡ shift p i → k < q + left → table - p .perTable ≡ tableId p i → movedRow out (table - p .perTable) down k ≡ movedRow ls (tableId p i) (shift p i) k
+  moved-same : (k : ℕ) → k < q + left → table - p .perTable ≡ tableId p i → movedRow out (table - p .perTable) (shift p i) k ≡ movedRow ls (tableId p i) (shift p i) k
   unfolding movedRow
-  moved-same down k ed u t =
+  moved-same k u t =
       let rl = room-left in
       let a = at-read ls q m p out j left at table s (4 * k + 1) (omega arith) in
       let b = at-read ls q m p out j left at table s (4 * k + 2) (omega arith) in
@@ -180,14 +180,14 @@ module _ (ls : List ℕ) (q m : ℕ) (p : Plan) (out : List ℕ) (j left at tabl
       ∙ ap₂ (λ (x : List ℕ) (y : ℕ). (H ++ x) ++ span T y (tables p)) (sym part) e
       ∙ sym (span-front T i (tables p) ik)
 
-  pub at-turn : (mid out′ : List ℕ) (down rest : ℕ) → down ≡ shift p i → Moved out mid q left at (p .header + down) down (table - p .perTable) rest
+  pub at-turn : (mid out′ : List ℕ) (rest : ℕ) → Moved out mid q left at (p .header + shift p i) (shift p i) (table - p .perTable) rest
       → length out′ ≡ length out → out′ ≡ put mid (4 * (at - (left - rest) - headCount (p .perTable))) (heads (p .perTable) (p .class2) (table - p .perTable))
       → At ls q m p out′ i rest (at - (left - rest) - headCount (p .perTable)) (table - p .perTable)
-  at-turn mid out′ down rest ed mv n h =
+  at-turn mid out′ rest mv n h =
       let K = tables p in
       let t : table - p .perTable ≡ tableId p i = omega (arith, table-next) in
       let ik : i < K = omega (arith, s .turns) in
-      let ee : edge p i ≡ p .header + down = edge-at p i ik ∙ ap (λ (x : ℕ). p .header + x) (sym ed) in
+      let ee : edge p i ≡ p .header + shift p i = edge-at p i ik in
       let ej : edge p j ≡ edge p (i + 1) = ap (edge p) e in
       let fw : rest ≤ left = mv .few in
       let rl = room-left in
@@ -202,8 +202,8 @@ module _ (ls : List ℕ) (q m : ℕ) (p : Plan) (out : List ℕ) (j left at tabl
       let T = span (tableRows ls q m p) j K in
       let H = heads (p .perTable) (p .class2) (tableId p i) in
       let part : span (share ls p i) q m ≡ S = share-part ls p q (q + rest) (q + left) m i (omega arith) (omega arith) (s .few) low own under over in
-      let moved : span (movedRow out (table - p .perTable) down) (q + rest) (q + left) ≡ S =
-      span-ext (movedRow out (table - p .perTable) down) f (q + rest) (q + left) (λ k l u. moved-same down k ed u t) in
+      let moved : span (movedRow out (table - p .perTable) (shift p i)) (q + rest) (q + left) ≡ S =
+      span-ext (movedRow out (table - p .perTable) (shift p i)) f (q + rest) (q + left) (λ k l u. moved-same k u t) in
       let ns : 4 * (q + rest) + length S ≡ 4 * (q + left) = moved-long ls (tableId p i) (shift p i) (q + rest) (q + left) (omega arith) in
       let nh : length H ≡ 4 * headCount (p .perTable) = length-heads (p .perTable) (p .class2) (tableId p i) (s .given .fit .two) (s .given .fit .three) in
       let nt = s .long in

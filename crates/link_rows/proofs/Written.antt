@@ -5,9 +5,9 @@ use mathlib.Core.Bool.{Bool, true, false, cond, not, _&&_}
 use mathlib.Core.List.{List, [], _++_, append-nil, map}
 use mathlib.Core.Logic.{⊎-elim}
 use native.Mathlib.Omega.{arith}
-use lib.ListN.{length, getD, List·getD-eq-default}
+use lib.ListN.{length, List·getD-eq-default}
 use lib.Dec.{eqb, leb, ltb}
-use borrow.Author.Tests.{ltb-true, leb-true, eqb-true, lt-ltb, le-leb, eq-eqb}
+use borrow.Author.Tests.{ltb-true, leb-true, lt-ltb, le-leb, eq-eqb}
 use Rattle.folds.specs.Folds.{flat}
 use Rattle.folds.specs.Lists.{sift}
 use Rattle.folds.proofs.Tests.{either, by-test, true-false}
@@ -20,7 +20,7 @@ use Rattle.rules.specs.Walk.{ofItems}
 use Rattle.rules.specs.Table.{linkedAt}
 use Rattle.rules.specs.Written.{from, to, perTable, newNumber, headLinks, moved, kept, tableLinks, newLinks, rowNumbers}
 use Rattle.link_rows.specs.Rows.{span, positionIn}
-use Rattle.link_rows.specs.Blocks.{Plan, edge, inside, tableId, shift, movedRow, share, heads, tableRows, newRows, keptRow}
+use Rattle.link_rows.specs.Blocks.{edge, inside, movedRow, share, heads, tableRows, newRows, keptRow}
 use Rattle.link_rows.specs.Parting.{Parting}
 use Rattle.link_rows.proofs.Spans.{flat-span, span-join, span-none, span-ext}
 use Rattle.link_rows.proofs.Links.{numbers, numbers-append, numbers-flat, numbers-sifted}

@@ -23,18 +23,6 @@ pub struct Layout {
 // The numbers of a link row.
 const PER_LINK: usize = 4;
 
-fn wide(x: u32) -> usize
-    ensures { λ r. ⌜ (r ≡ x) × (r < 4294967296) ⌝ }
-{
-    x as usize
-}
-
-fn wide16(x: u16) -> usize
-    ensures { λ r. ⌜ (r ≡ x) × (r < 65536) ⌝ }
-{
-    x as usize
-}
-
 // Writes row k.
 fn put_row(links: &mut [u32], k: usize, parent: u32, position: u32, width: u32, child: u32)
     requires { ⌜ perLink * k + 3 < length (now links) ⌝ }
@@ -114,7 +102,7 @@ fn move_up(
     let mut at = to;
     while 0 < left {
         let from = PER_LINK * (q + left - 1);
-        let position = wide(links[from + 1]);
+        let position = links[from + 1] as usize;
         if position < bound {
             return left;
         }
@@ -164,7 +152,7 @@ fn spread(
     while 0 < j {
         j -= 1;
         table -= per_table;
-        let down = item * wide16(cuts[j]);
+        let down = item * (cuts[j] as usize);
         let rest = move_up(links, q, left, at, header + down, down, table as u32);
         at = at - (left - rest) - (2 * per_table - 3);
         left = rest;
@@ -192,7 +180,17 @@ fn part_rows(
     ensures { λ _. ⌜ PartedRows (now (links .entry)) (now (links .exit)) a b m (plan (now (cuts .entry)) header item first «per_table» class2) ⌝ }
 {
     rotate_rows(links, a, b, m);
-    spread(links, a + (m - b), m, cuts, header, item, first, per_table, class2);
+    spread(
+        links,
+        a + (m - b),
+        m,
+        cuts,
+        header,
+        item,
+        first,
+        per_table,
+        class2,
+    );
 }
 
 // The child of a link of the kept table: its coverage and class definition 1 are new objects, of which `first` is the first.
@@ -259,7 +257,23 @@ pub fn part_links(
     let header = layout.header;
     let item = layout.item;
     let per_table = objects_per_table(layout.format);
-    part_rows(links, count, first, after, cuts, header, item, objects, per_table, class2);
-    keep_rows(links, count - (after - first), table, (objects + per_table * cuts.len()) as u32);
+    part_rows(
+        links,
+        count,
+        first,
+        after,
+        cuts,
+        header,
+        item,
+        objects,
+        per_table,
+        class2,
+    );
+    keep_rows(
+        links,
+        count - (after - first),
+        table,
+        (objects + per_table * cuts.len()) as u32,
+    );
     count + (2 * per_table - 3) * cuts.len()
 }

@@ -4,71 +4,52 @@ use borrow.Author.Needs.{needs}
 use Rattle.link_rows.proofs.Keeping.{kept-own, kept-other}
 use Rattle.link_rows.proofs.keep_row.Statement.{statement}
 use Rattle.link_rows.proofs.keep_row.Tie as tie
-use Rattle.link_rows.proofs.keep_row.Reads as reads
-use Rattle.link_rows.proofs.keep_row.Lts as lts
-use Rattle.link_rows.proofs.kept_child.Reads as kept-child-reads
 
--- src/lib.rt:215:14
 mul-at : tie.Need-mul-at
 mul-at c = search needs
 
--- src/lib.rt:216:8
 mul-if1 : tie.Need-mul-if1
 mul-if1 c = search needs
 
--- src/lib.rt:216:8
 slice-read-if1 : tie.Need-slice-read-if1
 slice-read-if1 c = search needs
 
--- src/lib.rt:217:42
 add-kept-child : tie.Need-add-kept-child
 add-kept-child c = search needs
 
--- src/lib.rt:217:36
 mul-kept-child : tie.Need-mul-kept-child
 mul-kept-child c = search needs
 
--- src/lib.rt:217:36
 slice-read-kept-child : tie.Need-slice-read-kept-child
 slice-read-kept-child c = search needs
 
--- src/lib.rt:217:57
 add-kept-child-2 : tie.Need-add-kept-child-2
 add-kept-child-2 c = search needs
 
--- src/lib.rt:217:51
 mul-kept-child-2 : tie.Need-mul-kept-child-2
 mul-kept-child-2 c = search needs
 
--- src/lib.rt:217:51
 slice-read-kept-child-2 : tie.Need-slice-read-kept-child-2
 slice-read-kept-child-2 c = search needs
 
--- src/lib.rt:217:25
 kept-child-requires : tie.Need-kept-child-requires
 kept-child-requires c κs = search needs
 
--- src/lib.rt:217:15
 add-links : tie.Need-add-links
 add-links c = search needs
 
--- src/lib.rt:217:9
 mul-links : tie.Need-mul-links
 mul-links c = search needs
 
--- src/lib.rt:217:9
 slice-write-links : tie.Need-slice-write-links
 slice-write-links c = search needs
 
--- src/lib.rt:211:1
 same-length : tie.Need-same-length
 same-length c = search needs
 
--- src/lib.rt:211:1
 returns : tie.Need-returns
 returns c = kept-own _ _ _ _ _ (omega arith) (c .before .before .before .if1 .taken) (c .kept-child .ensures)
 
--- src/lib.rt:211:1
 returns-2 : tie.Need-returns-2
 returns-2 c = kept-other _ _ _ _ (omega arith) (c .if1 .left)
 

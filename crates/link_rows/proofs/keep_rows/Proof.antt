@@ -1,13 +1,9 @@
 -- `link_rows::keep_rows` meets its contract: the rows before k are done. Assumes nothing.
 use borrow.Author.Needs.{needs}
 use Prim.Native.Nat.{_-_}
-use native.Mathlib.Omega.{arith}
 use Rattle.link_rows.proofs.Keeping.{Kept, kept-start, kept-turn, kept-done}
 use Rattle.link_rows.proofs.keep_rows.Statement.{statement}
 use Rattle.link_rows.proofs.keep_rows.Tie as tie
-use Rattle.link_rows.proofs.keep_rows.Reads as reads
-use Rattle.link_rows.proofs.keep_rows.Lts as lts
-use Rattle.link_rows.proofs.keep_row.Reads as keep-row-reads
 
 abbrev Inv-loop : tie.InvT-loop
 Inv-loop links₀ count table first k₀ links k = Kept links₀ count table first links k
@@ -15,31 +11,24 @@ Inv-loop links₀ count table first k₀ links k = Kept links₀ count table fir
 abbrev μ-loop : tie.MeasureT-loop
 μ-loop links₀ count table first k₀ links k = count - k
 
--- src/lib.rt:227:5
 loop-holds : tie.Need-loop-holds Inv-loop μ-loop
 loop-holds c = kept-start _ _ _ _ (c .before .pre .0)
 
--- src/lib.rt:228:9
 keep-row-requires : tie.Need-keep-row-requires Inv-loop μ-loop
 keep-row-requires c κs = search needs
 
--- src/lib.rt:229:9
 add-k : tie.Need-add-k Inv-loop μ-loop
 add-k c = search needs
 
--- src/lib.rt:227:5
 loop-less : tie.Need-loop-less Inv-loop μ-loop
 loop-less c = search needs
 
--- src/lib.rt:227:5
 loop-again : tie.Need-loop-again Inv-loop μ-loop
 loop-again c = kept-turn _ _ _ _ _ _ (c .before .before .before .before .before .loop .inv) _ (c .before .before .before .before .loop-test .taken) (c .before .before .keep-row .kept .0) (c .before .before .keep-row .ensures)
 
--- src/lib.rt:222:1
 same-length : tie.Need-same-length Inv-loop μ-loop
 same-length c = search needs
 
--- src/lib.rt:222:1
 returns : tie.Need-returns Inv-loop μ-loop
 returns c = kept-done _ _ _ _ _ _ (c .before .loop .inv) (c .loop-test .left)
 

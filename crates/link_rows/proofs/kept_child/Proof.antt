@@ -4,24 +4,18 @@ use borrow.Author.Tests.{eq-eqb, ne-eqb}
 use Rattle.rules.specs.Written.{keptChild}
 use Rattle.link_rows.proofs.kept_child.Statement.{statement}
 use Rattle.link_rows.proofs.kept_child.Tie as tie
-use Rattle.link_rows.proofs.kept_child.Reads as reads
-use Rattle.link_rows.proofs.kept_child.Lts as lts
 
--- src/lib.rt:202:9
 returns : tie.Need-returns
 unfolding keptChild
 returns c = simp (eq-eqb _ _ (c .if1 .taken))
 
--- src/lib.rt:205:16
 add-result : tie.Need-add-result
 add-result c = search needs
 
--- src/lib.rt:205:9
 returns-2 : tie.Need-returns-2
 unfolding keptChild
 returns-2 c = simp (ne-eqb _ _ (c .before .if1 .left), eq-eqb _ _ (c .if2 .taken))
 
--- src/lib.rt:197:1
 returns-3 : tie.Need-returns-3
 unfolding keptChild
 returns-3 c = simp (ne-eqb _ _ (c .before .if1 .left), ne-eqb _ _ (c .if2 .left))

@@ -1,9 +1,9 @@
 -- `link_rows::move_up` meets its contract: rows move from the last on, so that none is written over before it is read. Assumes nothing.
 use borrow.Author.Needs.{needs}
-use Prim.Native.Nat.{_+_, _-_, _*_, _<_}
+use Prim.Native.Nat.{_+_, _-_, _*_}
 use native.Mathlib.Omega.{arith}
-use Rattle.link_rows.specs.Rows.{positionIn}
-use Rattle.link_rows.proofs.Moving.{Up, up-start, up-read, up-turn, up-done}
+use Rattle.link_rows.specs.Blocks.{movedRow}
+use Rattle.link_rows.proofs.Moving.{Up, up-start, up-turn, up-stop, up-all}
 use Rattle.link_rows.proofs.move_up.Statement.{statement}
 use Rattle.link_rows.proofs.move_up.Tie as tie
 
@@ -12,9 +12,6 @@ Inv-loop links₀ q count to bound down parent left₀ at₀ links left at = Up 
 
 abbrev μ-loop : tie.MeasureT-loop
 μ-loop links₀ q count to bound down parent left₀ at₀ links left at = left
-
-below : (c : tie.Then1 Inv-loop μ-loop) → positionIn (c .before .before .before .before .before .before .args .links .now) (c .before .before .before .before .before .before .args .q + c .before .before .before .before .loop .left - 1) < c .before .before .before .before .before .before .args .bound
-below c = omega (arith, c .if1 .taken, c .before .wide .ensures, up-read _ _ _ _ _ _ _ _ _ _ (c .before .before .before .before .loop .inv) (4 * (c .before .before .before .before .before .before .args .q + c .before .before .before .before .loop .left - 1) + 1) (omega arith))
 
 loop-holds : tie.Need-loop-holds Inv-loop μ-loop
 loop-holds c = up-start _ _ _ _ _ _ _ (omega arith) (omega arith) (omega arith)
@@ -28,23 +25,23 @@ sub-from c = search needs
 mul-from : tie.Need-mul-from Inv-loop μ-loop
 mul-from c = search needs
 
-add-wide : tie.Need-add-wide Inv-loop μ-loop
-add-wide c = search needs
+add-position : tie.Need-add-position Inv-loop μ-loop
+add-position c = search needs
 
-mul-wide : tie.Need-mul-wide Inv-loop μ-loop
-mul-wide c = search needs
+mul-position : tie.Need-mul-position Inv-loop μ-loop
+mul-position c = search needs
 
-slice-read-wide : tie.Need-slice-read-wide Inv-loop μ-loop
-slice-read-wide c = search needs
+slice-read-position : tie.Need-slice-read-position Inv-loop μ-loop
+slice-read-position c = search needs
 
-wide-requires : tie.Need-wide-requires Inv-loop μ-loop
-wide-requires c κs = search needs
+cast-position : tie.Need-cast-position Inv-loop μ-loop
+cast-position c = omega (arith, c .slice-known2 .given (4 * (c .before .before .before .before .args .q + c .before .before .loop .left - 1) + 1))
 
 same-length : tie.Need-same-length Inv-loop μ-loop
 same-length c = search needs
 
 returns : tie.Need-returns Inv-loop μ-loop
-returns c = up-done _ _ _ _ _ _ _ _ _ _ (c .before .before .before .before .loop .inv) (λ l. below c)
+returns c = up-stop _ _ _ _ _ _ _ _ _ _ (c .before .before .before .loop .inv) (c .before .before .loop-test .taken) (c .if1 .taken)
 
 add-width : tie.Need-add-width Inv-loop μ-loop
 add-width c = search needs
@@ -74,7 +71,7 @@ sub-put-row : tie.Need-sub-put-row Inv-loop μ-loop
 sub-put-row c = search needs
 
 cast-put-row : tie.Need-cast-put-row Inv-loop μ-loop
-cast-put-row c = search needs
+cast-put-row c = omega (arith, c .before .before .before .before .slice-known2 .given (4 * (c .before .before .before .before .before .before .before .before .args .q + c .before .before .before .before .before .before .loop .left - 1) + 1))
 
 put-row-requires : tie.Need-put-row-requires Inv-loop μ-loop
 put-row-requires c κs = search needs
@@ -83,13 +80,14 @@ loop-less : tie.Need-loop-less Inv-loop μ-loop
 loop-less c = search needs
 
 loop-again : tie.Need-loop-again Inv-loop μ-loop
-loop-again c = up-turn _ _ _ _ _ _ _ _ _ _ (c .before .before .before .before .before .before .before .before .before .before .loop .inv) _ _ (c .before .before .before .before .before .before .before .before .before .loop-test .taken) (c .before .before .before .before .before .before .before .wide .ensures .0) (c .before .before .before .before .before .before .if1 .left) (c .before .before .put-row .kept .0) (c .before .before .put-row .ensures)
+unfolding movedRow
+loop-again c = up-turn _ _ _ _ _ _ _ _ _ _ (c .before .before .before .before .before .before .before .before .before .loop .inv) _ (c .before .before .before .before .before .before .before .before .loop-test .taken) (c .before .before .before .before .before .before .if1 .left) (c .before .before .put-row .kept .0) (c .before .before .put-row .ensures)
 
 same-length-2 : tie.Need-same-length-2 Inv-loop μ-loop
 same-length-2 c = search needs
 
 returns-2 : tie.Need-returns-2 Inv-loop μ-loop
-returns-2 c = up-done _ _ _ _ _ _ _ _ _ _ (c .before .loop .inv) (λ l. absurd (omega arith))
+returns-2 c = up-all _ _ _ _ _ _ _ _ _ _ (c .before .loop .inv) (c .loop-test .left)
 
 pub move-up-spec : {M : Type 1} → statement M
 move-up-spec =
@@ -101,10 +99,10 @@ move-up-spec =
     add-from
     sub-from
     mul-from
-    add-wide
-    mul-wide
-    slice-read-wide
-    wide-requires
+    add-position
+    mul-position
+    slice-read-position
+    cast-position
     same-length
     returns
     add-width

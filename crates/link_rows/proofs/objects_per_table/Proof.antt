@@ -2,14 +2,10 @@
 use borrow.Author.Tests.{eq-eqb, ne-eqb}
 use Rattle.link_rows.proofs.objects_per_table.Statement.{statement}
 use Rattle.link_rows.proofs.objects_per_table.Tie as tie
-use Rattle.link_rows.proofs.objects_per_table.Reads as reads
-use Rattle.link_rows.proofs.objects_per_table.Lts as lts
 
--- src/lib.rt:236:1
 returns : tie.Need-returns
 returns c = simp (eq-eqb _ _ (c .if1 .taken))
 
--- src/lib.rt:236:1
 returns-2 : tie.Need-returns-2
 returns-2 c = simp (ne-eqb _ _ (c .if1 .left))
 

@@ -9,85 +9,62 @@ use Rattle.link_rows.proofs.Finishing.{parted-call}
 use borrow.Author.Needs.{needs}
 use Rattle.link_rows.proofs.part_links.Statement.{statement}
 use Rattle.link_rows.proofs.part_links.Tie as tie
-use Rattle.link_rows.proofs.part_links.Reads as reads
-use Rattle.link_rows.proofs.part_links.Lts as lts
-use Rattle.link_rows.proofs.keep_rows.Reads as keep-rows-reads
-use Rattle.link_rows.proofs.objects_per_table.Reads as objects-per-table-reads
-use Rattle.link_rows.proofs.part_rows.Reads as part-rows-reads
 
 known : (c : tie.After-objects-per-table)
     → Ready (lent [] [] (c .before .before .before .before .before .args .links .now) (c .before .before .before .before .before .args .counts .now)) (shapeWith (c .before .before .before .before .before .args .layout)) (c .before .before .before .before .before .args .cuts .now) (c .before .before .before .before .before .args .first) (c .before .before .before .before .before .args .after) (c .before .before .before .before .before .args .class2) (c .objects-per-table .result)
 known c = ready _ _ _ _ _ _ _ _ (c .before .before .before .before .before .pre) (c .objects-per-table .ensures)
 
--- src/lib.rt:257:19
 element-copy-out-objects : tie.Need-element-copy-out-objects
 element-copy-out-objects c = search needs
 
--- src/lib.rt:257:19
 cast-objects : tie.Need-cast-objects
 cast-objects c = search needs
 
--- src/lib.rt:258:17
 element-copy-out-count : tie.Need-element-copy-out-count
 element-copy-out-count c = search needs
 
--- src/lib.rt:258:17
 cast-count : tie.Need-cast-count
 cast-count c = search needs
 
--- src/lib.rt:261:9
 objects-per-table-requires : tie.Need-objects-per-table-requires
 objects-per-table-requires c κs = search needs
 
--- src/lib.rt:262:5
 part-rows-requires : tie.Need-part-rows-requires
 part-rows-requires c κs = let r = known (c .before) in (r .fits, ((r .few, r .used, r .room), (r .order, r .bottom)))
 
--- src/lib.rt:263:31
 sub-keep-rows : tie.Need-sub-keep-rows
 sub-keep-rows c = search needs
 
--- src/lib.rt:263:22
 sub-keep-rows-2 : tie.Need-sub-keep-rows-2
 sub-keep-rows-2 c = search needs
 
--- src/lib.rt:263:65
 mul-keep-rows : tie.Need-mul-keep-rows
 mul-keep-rows c = omega (arith, known (c .before .before .before .before .before))
 
--- src/lib.rt:263:55
 add-keep-rows : tie.Need-add-keep-rows
 add-keep-rows c = omega (arith, known (c .before .before .before .before .before))
 
--- src/lib.rt:263:54
 cast-keep-rows : tie.Need-cast-keep-rows
 cast-keep-rows c = omega (arith, known (c .before .before .before .before .before))
 
--- src/lib.rt:263:5
 keep-rows-requires : tie.Need-keep-rows-requires
 keep-rows-requires c κs = let r = known (c .before .before .before .before .before) in (omega (arith, r), r .numbers)
 
--- src/lib.rt:264:14
 mul-result : tie.Need-mul-result
 mul-result c = omega (arith, known (c .before .before .before .before .before .before .before .before))
 
--- src/lib.rt:264:14
 sub-result : tie.Need-sub-result
 sub-result c = omega (arith, known (c .before .before .before .before .before .before .before .before))
 
--- src/lib.rt:264:13
 mul-result-2 : tie.Need-mul-result-2
 mul-result-2 c = omega (arith, known (c .before .before .before .before .before .before .before .before))
 
--- src/lib.rt:264:5
 add-result : tie.Need-add-result
 add-result c = omega (arith, known (c .before .before .before .before .before .before .before .before))
 
--- src/lib.rt:244:1
 same-length : tie.Need-same-length
 same-length c = search needs
 
--- src/lib.rt:244:1
 returns : tie.Need-returns
 returns c = parted-call _ (c .before .before .before .before .before .before .before .before .before .before .before .before .before .args .counts .now) _ _ _ _ _ _ _ (c .before .before .before .before .before .before .before .before .before .before .before .before .before .pre) (c .before .before .before .before .before .before .before .before .objects-per-table .ensures) _ _ (c .before .before .before .before .before .before .part-rows .ensures) (c .before .before .keep-rows .ensures)
 

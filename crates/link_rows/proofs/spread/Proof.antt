@@ -1,18 +1,18 @@
 -- `link_rows::spread` meets its contract: from the last table on, the rows from `at` on are those of the tables from j on. Assumes nothing.
 use borrow.Author.Needs.{needs}
-use mathlib.Core.Path.{_≡_, ap, _∙_}
-use Prim.Native.Nat.{ℕ, _-_, _*_}
+use mathlib.Core.Path.{_∙_}
+use Prim.Native.Nat.{_-_}
 use native.Mathlib.Omega.{arith}
-use Rattle.link_rows.specs.Blocks.{plan, shift}
+use Rattle.link_rows.specs.Blocks.{plan}
 use Rattle.link_rows.proofs.Spreading.{Given, At, at-start, at-done, at-turn, Numbers, numbers}
 use Rattle.link_rows.proofs.spread.Statement.{statement}
 use Rattle.link_rows.proofs.spread.Tie as tie
 
 abbrev Inv-loop : tie.InvT-loop
-Inv-loop links₀ q m cuts header item first perTable class2 j₀ left₀ at₀ table₀ links j left at table = At links₀ q m (plan cuts header item first perTable class2) links j left at table
+Inv-loop links₀ q m cuts header item first per-table class2 j₀ left₀ at₀ table₀ links j left at table = At links₀ q m (plan cuts header item first per-table class2) links j left at table
 
 abbrev μ-loop : tie.MeasureT-loop
-μ-loop links₀ q m cuts header item first perTable class2 j₀ left₀ at₀ table₀ links j left at table = j
+μ-loop links₀ q m cuts header item first per-table class2 j₀ left₀ at₀ table₀ links j left at table = j
 
 given : (c : tie.After-shared-slice-known Inv-loop μ-loop) → Given (c .before .before .args .links .now) (c .before .before .args .q) (c .before .before .args .m) (plan (c .before .before .args .cuts .now) (c .before .before .args .header) (c .before .before .args .item) (c .before .before .args .first) (c .before .before .args .per-table) (c .before .before .args .class2))
 given c =
@@ -26,9 +26,6 @@ given c =
 
 turn : (c : tie.In-loop Inv-loop μ-loop) → Numbers (c .before .before .before .before .args .links .now) (plan (c .before .before .before .before .args .cuts .now) (c .before .before .before .before .args .header) (c .before .before .before .before .args .item) (c .before .before .before .before .args .first) (c .before .before .before .before .args .per-table) (c .before .before .before .before .args .class2)) (c .before .before .before .before .args .q) (c .before .loop .left) (c .before .loop .at) (c .before .loop .table) (c .before .loop .j - 1)
 turn c = numbers _ _ _ _ _ _ _ _ _ (c .before .loop .inv) (c .before .loop .j - 1) (omega arith)
-
-down : (c : tie.After-wide16 Inv-loop μ-loop) → c .before .before .before .before .before .before .args .item * c .wide16 .result ≡ shift (plan (c .before .before .before .before .before .before .args .cuts .now) (c .before .before .before .before .before .before .args .header) (c .before .before .before .before .before .before .args .item) (c .before .before .before .before .before .before .args .first) (c .before .before .before .before .before .before .args .per-table) (c .before .before .before .before .before .before .args .class2)) (c .before .before .before .loop .j - 1)
-down c = ap (λ (x : ℕ). c .before .before .before .before .before .before .args .item * x) (c .wide16 .ensures .0)
 
 sub-left : tie.Need-sub-left Inv-loop μ-loop
 sub-left c = search needs
@@ -58,55 +55,55 @@ sub-j : tie.Need-sub-j Inv-loop μ-loop
 sub-j c = search needs
 
 sub-table : tie.Need-sub-table Inv-loop μ-loop
-sub-table c = omega (arith, turn (c))
-
-mul-wide16 : tie.Need-mul-wide16 Inv-loop μ-loop
-mul-wide16 c = search needs
-
-shared-slice-read-wide16 : tie.Need-shared-slice-read-wide16 Inv-loop μ-loop
-shared-slice-read-wide16 c = search needs
-
-wide16-requires : tie.Need-wide16-requires Inv-loop μ-loop
-wide16-requires c κs = search needs
+sub-table c = omega (arith, turn c)
 
 mul-down : tie.Need-mul-down Inv-loop μ-loop
-mul-down c = omega (arith, turn (c .before .before), down (c))
+mul-down c = search needs
+
+shared-slice-read-down : tie.Need-shared-slice-read-down Inv-loop μ-loop
+shared-slice-read-down c = search needs
+
+cast-down : tie.Need-cast-down Inv-loop μ-loop
+cast-down c = omega (arith, c .shared-slice-known2 .given (c .before .before .loop .j - 1))
+
+mul-down-2 : tie.Need-mul-down-2 Inv-loop μ-loop
+mul-down-2 c = omega (arith, turn (c .before))
 
 add-move-up : tie.Need-add-move-up Inv-loop μ-loop
-add-move-up c = omega (arith, turn (c .before .before .before), down (c .before))
+add-move-up c = omega (arith, turn (c .before .before))
 
 cast-move-up : tie.Need-cast-move-up Inv-loop μ-loop
-cast-move-up c = omega (arith, turn (c .before .before .before))
+cast-move-up c = omega (arith, turn (c .before .before))
 
 move-up-requires : tie.Need-move-up-requires Inv-loop μ-loop
-move-up-requires c κs = omega (arith, turn (c .before .before .before), down (c .before))
+move-up-requires c κs = omega (arith, turn (c .before .before))
 
 sub-at-2 : tie.Need-sub-at-2 Inv-loop μ-loop
-sub-at-2 c = omega (arith, turn (c .before .before .before .before .before .before), c .before .before .move-up .ensures .few)
+sub-at-2 c = omega (arith, turn (c .before .before .before .before .before), c .before .before .move-up .ensures .few)
 
 sub-at-3 : tie.Need-sub-at-3 Inv-loop μ-loop
-sub-at-3 c = omega (arith, turn (c .before .before .before .before .before .before), c .before .before .move-up .ensures .few)
+sub-at-3 c = omega (arith, turn (c .before .before .before .before .before), c .before .before .move-up .ensures .few)
 
 mul-at-3 : tie.Need-mul-at-3 Inv-loop μ-loop
-mul-at-3 c = omega (arith, turn (c .before .before .before .before .before .before), c .before .before .move-up .ensures .few)
+mul-at-3 c = omega (arith, turn (c .before .before .before .before .before), c .before .before .move-up .ensures .few)
 
 sub-at-4 : tie.Need-sub-at-4 Inv-loop μ-loop
-sub-at-4 c = omega (arith, turn (c .before .before .before .before .before .before), c .before .before .move-up .ensures .few)
+sub-at-4 c = omega (arith, turn (c .before .before .before .before .before), c .before .before .move-up .ensures .few)
 
 sub-at-5 : tie.Need-sub-at-5 Inv-loop μ-loop
-sub-at-5 c = omega (arith, turn (c .before .before .before .before .before .before), c .before .before .move-up .ensures .few)
+sub-at-5 c = omega (arith, turn (c .before .before .before .before .before), c .before .before .move-up .ensures .few)
 
 cast-put-heads : tie.Need-cast-put-heads Inv-loop μ-loop
-cast-put-heads c = omega (arith, turn (c .before .before .before .before .before .before .before))
+cast-put-heads c = omega (arith, turn (c .before .before .before .before .before .before))
 
 put-heads-requires : tie.Need-put-heads-requires Inv-loop μ-loop
-put-heads-requires c κs = omega (arith, turn (c .before .before .before .before .before .before .before), c .before .before .before .move-up .ensures .few)
+put-heads-requires c κs = omega (arith, turn (c .before .before .before .before .before .before), c .before .before .before .move-up .ensures .few)
 
 loop-less : tie.Need-loop-less Inv-loop μ-loop
 loop-less c = search needs
 
 loop-again : tie.Need-loop-again Inv-loop μ-loop
-loop-again c = at-turn _ _ _ _ _ _ _ _ _ (c .before .before .before .before .before .before .before .before .before .before .before .loop .inv) _ (omega (arith, c .before .before .before .before .before .before .before .before .before .before .loop-test .taken)) _ _ _ _ (down (c .before .before .before .before .before .before .before .before)) (c .before .before .before .before .before .before .move-up .ensures) (c .before .before .put-heads .kept .0 ∙ c .before .before .before .before .before .before .move-up .kept .0) (c .before .before .put-heads .ensures)
+loop-again c = at-turn _ _ _ _ _ _ _ _ _ (c .before .before .before .before .before .before .before .before .before .before .loop .inv) _ (omega (arith, c .before .before .before .before .before .before .before .before .before .loop-test .taken)) _ _ _ (c .before .before .before .before .before .before .move-up .ensures) (c .before .before .put-heads .kept .0 ∙ c .before .before .before .before .before .before .move-up .kept .0) (c .before .before .put-heads .ensures)
 
 same-length : tie.Need-same-length Inv-loop μ-loop
 same-length c = search needs
@@ -130,10 +127,10 @@ spread-spec =
     loop-holds
     sub-j
     sub-table
-    mul-wide16
-    shared-slice-read-wide16
-    wide16-requires
     mul-down
+    shared-slice-read-down
+    cast-down
+    mul-down-2
     add-move-up
     cast-move-up
     move-up-requires
