@@ -1,0 +1,73 @@
+//! The objects and links of a sound store.
+
+use super::soundness::sound;
+use oracle::Store;
+use std::ops::Range;
+
+/// A link row: parent, position, width, child.
+pub type Link = [u32; 4];
+
+/// What a sound store has in use.
+#[derive(Clone, Copy, Debug)]
+pub struct Objects<'a> {
+    data: &'a [u8],
+    rows: &'a [[u32; 2]],
+    links: &'a [Link],
+}
+
+impl<'a> Objects<'a> {
+    /// The objects of a store, if it is sound.
+    pub fn of(store: &'a Store) -> Option<Self> {
+        sound(store).then(|| Self {
+            data: store.data_in_use(),
+            rows: store.objects_in_use(),
+            links: store.links_in_use(),
+        })
+    }
+
+    /// How many objects there are.
+    pub fn count(&self) -> usize {
+        self.rows.len()
+    }
+
+    /// How many data bytes are in use.
+    pub fn data_count(&self) -> usize {
+        self.data.len()
+    }
+
+    /// Where an object's bytes start.
+    pub fn head(&self, object: u32) -> usize {
+        self.rows[object as usize][0] as usize
+    }
+
+    /// An object's bytes.
+    pub fn bytes(&self, object: u32) -> &'a [u8] {
+        let [head, tail] = self.rows[object as usize];
+        &self.data[head as usize..tail as usize]
+    }
+
+    /// All links, in order of parent and position.
+    pub fn links(&self) -> &'a [Link] {
+        self.links
+    }
+
+    /// The links of a parent.
+    pub fn links_of(&self, parent: u32) -> &'a [Link] {
+        let start = self.links.partition_point(|link| link[0] < parent);
+        let end = self.links.partition_point(|link| link[0] <= parent);
+        &self.links[start..end]
+    }
+
+    /// The links of a parent at some of its positions.
+    pub fn links_within(&self, parent: u32, positions: Range<usize>) -> &'a [Link] {
+        let links = self.links_of(parent);
+        let below = |bound| links.partition_point(|link| (link[1] as usize) < bound);
+        &links[below(positions.start)..below(positions.end)]
+    }
+
+    /// The object that the link at a position leads to.
+    pub fn child_at(&self, parent: u32, position: usize) -> Option<u32> {
+        let link = self.links_within(parent, position..position + 1).first()?;
+        Some(link[3])
+    }
+}

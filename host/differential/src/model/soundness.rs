@@ -1,0 +1,55 @@
+//! When a store is sound, and how much room it has.
+
+use oracle::Store;
+
+/// The most that a store may have in use: data bytes, objects, links.
+pub const MAXIMA: [usize; 3] = [16_777_216, 65_536, 262_144];
+
+/// The smaller of lent length and maximum, for each of data, objects and links.
+///
+/// A lent length counts whole rows.
+pub fn room(store: &Store) -> [usize; 3] {
+    let lent = [
+        store.data.len(),
+        store.objects.len() / 2,
+        store.links.len() / 4,
+    ];
+    std::array::from_fn(|i| lent[i].min(MAXIMA[i]))
+}
+
+/// Whether all that is in use fits together.
+pub fn sound(store: &Store) -> bool {
+    counts_fit(store) && objects_fit(store) && links_fit(store)
+}
+
+fn counts_fit(store: &Store) -> bool {
+    let in_use = store.counts.map(|count| count as usize);
+    in_use
+        .iter()
+        .zip(room(store))
+        .all(|(&used, room)| used <= room)
+}
+
+/// Each head at or after the tail before it, head ≤ tail ≤ data in use.
+fn objects_fit(store: &Store) -> bool {
+    let mut end = 0;
+    store.objects_in_use().iter().all(|&[head, tail]| {
+        let fits = end <= head && head <= tail && tail <= store.counts[0];
+        end = tail;
+        fits
+    })
+}
+
+/// Width 2, between objects in use, within the parent, strictly ascending by parent and position.
+fn links_fit(store: &Store) -> bool {
+    let objects = store.objects_in_use();
+    let links = store.links_in_use();
+    let fits = |&[parent, position, width, child]: &[u32; 4]| {
+        let Some([head, tail]) = objects.get(parent as usize) else {
+            return false;
+        };
+        let child_in_use = (child as usize) < objects.len();
+        child_in_use && width == 2 && position as usize + 2 <= (tail - head) as usize
+    };
+    links.iter().all(fits) && links.is_sorted_by(|a, b| a[..2] < b[..2])
+}

@@ -1,0 +1,106 @@
+//! A PairPos table with its coverage and class definitions.
+
+use super::{
+    class_def::{self, ClassDef},
+    coverage,
+    header::{Format, Header, CLASS_DEF1_POS, CLASS_DEF2_POS, COVERAGE_POS},
+    objects::{Link, Objects},
+};
+use std::ops::Range;
+
+/// A table that can be read.
+#[derive(Clone, Debug)]
+pub struct PairPos<'a> {
+    /// The store that it is in.
+    pub objects: Objects<'a>,
+    /// Its number.
+    pub table: u32,
+    /// Its header.
+    pub header: Header,
+    /// Its coverage and class definitions.
+    pub parts: Parts,
+}
+
+/// What a table's header leads to.
+#[derive(Clone, Debug)]
+pub struct Parts {
+    /// The length of the coverage object.
+    pub coverage_len: usize,
+    /// The covered glyphs.
+    pub glyphs: Vec<u16>,
+    /// The class definitions of format 2.
+    pub class_defs: Option<ClassDefs>,
+}
+
+/// Both class definitions.
+#[derive(Clone, Debug)]
+pub struct ClassDefs {
+    /// The classes of first glyphs.
+    pub first: ClassDef,
+    /// The classes of second glyphs.
+    pub second: ClassDef,
+    /// The object that holds class definition 2.
+    pub second_object: u32,
+    /// Its length.
+    pub second_len: usize,
+}
+
+impl Parts {
+    /// Reads all parts, if each one is linked and readable.
+    pub fn read(objects: &Objects, table: u32, format: Format) -> Option<Self> {
+        let coverage = objects.bytes(objects.child_at(table, COVERAGE_POS)?);
+        Some(Self {
+            coverage_len: coverage.len(),
+            glyphs: coverage::read(coverage)?,
+            class_defs: match format {
+                Format::One => None,
+                Format::Two => Some(ClassDefs::read(objects, table)?),
+            },
+        })
+    }
+}
+
+impl ClassDefs {
+    fn read(objects: &Objects, table: u32) -> Option<Self> {
+        let first = objects.child_at(table, CLASS_DEF1_POS)?;
+        let second = objects.child_at(table, CLASS_DEF2_POS)?;
+        Some(Self {
+            first: class_def::read(objects.bytes(first))?,
+            second: class_def::read(objects.bytes(second))?,
+            second_object: second,
+            second_len: objects.bytes(second).len(),
+        })
+    }
+}
+
+impl<'a> PairPos<'a> {
+    /// The table's bytes.
+    pub fn bytes(&self) -> &'a [u8] {
+        self.objects.bytes(self.table)
+    }
+
+    /// The table's links.
+    pub fn links(&self) -> &'a [Link] {
+        self.objects.links_of(self.table)
+    }
+
+    /// The links of an item.
+    pub fn item_links(&self, item: usize) -> &'a [Link] {
+        let positions = self.item_positions(item..item + 1);
+        self.objects.links_within(self.table, positions)
+    }
+
+    /// The positions of some items.
+    pub fn item_positions(&self, items: Range<usize>) -> Range<usize> {
+        self.header.item_pos(items.start)..self.header.item_pos(items.end)
+    }
+
+    /// Each covered glyph with its item: the pair set at its place, or the row of its class.
+    pub fn glyph_items(&self) -> impl Iterator<Item = (u16, usize)> + '_ {
+        let glyphs = self.parts.glyphs.iter().enumerate();
+        glyphs.map(|(place, &glyph)| match &self.parts.class_defs {
+            None => (glyph, place),
+            Some(class_defs) => (glyph, class_defs.first.class_of(glyph).into()),
+        })
+    }
+}

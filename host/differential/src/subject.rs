@@ -1,0 +1,97 @@
+//! The three exported functions, as a seam.
+
+use oracle::Store;
+use std::fmt::Debug;
+
+/// Something that splits tables, plans cuts and reads pairs.
+///
+/// Each function returns its answer number. What it is lent may hold anything at entry.
+pub trait Subject {
+    /// Splits a table; the list takes the new tables.
+    fn split_pairpos(&self, call: &mut Call<u32>) -> u32;
+
+    /// Says where a table would be cut; the list takes the places. The store is only read.
+    fn cut_plan(&self, call: &mut Call<u16>) -> u32;
+
+    /// Reads the values of two glyphs, the first before the second.
+    fn read_pair(&self, store: &Store, table: u32, glyphs: [u16; 2], pair: &mut Pair) -> u32;
+}
+
+/// All that a split or a cut plan is lent.
+#[derive(Clone, Debug, Default, PartialEq, Eq)]
+pub struct Call<N> {
+    /// Data bytes, object rows and link rows, with their counts in use.
+    pub store: Store,
+    /// The number of the table.
+    pub table: u32,
+    /// Zero after every call.
+    pub scratch: Scratch,
+    /// `new_tables` of a split, `places` of a cut plan.
+    pub list: Vec<N>,
+    /// `new_count` of a split, `place_count` of a cut plan.
+    pub count: u32,
+}
+
+/// The scratch that a call is lent.
+#[derive(Clone, Debug, Default, PartialEq, Eq)]
+pub struct Scratch {
+    /// Two numbers an object in use.
+    pub walk: Vec<u32>,
+    /// 8,192 bytes.
+    pub glyph_set: Vec<u8>,
+    /// One entry per covered glyph.
+    pub glyphs: Vec<u16>,
+    /// One entry per covered glyph.
+    pub classes: Vec<u16>,
+    /// One entry per pair set or class-1 row.
+    pub cuts: Vec<u16>,
+}
+
+impl Scratch {
+    /// Sets all of it to zero.
+    pub fn clear(&mut self) {
+        self.walk.fill(0);
+        self.glyph_set.fill(0);
+        self.glyphs.fill(0);
+        self.classes.fill(0);
+        self.cuts.fill(0);
+    }
+}
+
+/// What a pair reading gives.
+#[derive(Clone, Copy, Debug, Default, PartialEq, Eq)]
+pub struct Pair {
+    /// Eight numbers for the first glyph, then eight for the second.
+    pub values: [i32; 16],
+    /// 1 where there is a pair, else 0.
+    pub found: u32,
+}
+
+impl<N: Debug + PartialEq> Call<N> {
+    /// The first place in which two calls differ.
+    pub fn difference(&self, other: &Self) -> Option<String> {
+        let (ours, theirs) = (&self.scratch, &other.scratch);
+        None.or_else(|| differ("counts", &self.store.counts, &other.store.counts))
+            .or_else(|| differ("objects", &self.store.objects, &other.store.objects))
+            .or_else(|| differ("links", &self.store.links, &other.store.links))
+            .or_else(|| differ("data", &self.store.data, &other.store.data))
+            .or_else(|| differ("walk", &ours.walk, &theirs.walk))
+            .or_else(|| differ("glyph_set", &ours.glyph_set, &theirs.glyph_set))
+            .or_else(|| differ("glyphs", &ours.glyphs, &theirs.glyphs))
+            .or_else(|| differ("classes", &ours.classes, &theirs.classes))
+            .or_else(|| differ("cuts", &ours.cuts, &theirs.cuts))
+            .or_else(|| differ("list", &self.list, &other.list))
+            .or_else(|| differ("count", &[self.count], &[other.count]))
+    }
+}
+
+/// Where two lists differ, and in what.
+pub(crate) fn differ<N: Debug + PartialEq>(name: &str, ours: &[N], theirs: &[N]) -> Option<String> {
+    if ours.len() != theirs.len() {
+        let (ours, theirs) = (ours.len(), theirs.len());
+        return Some(format!("{name}: length {ours}, not {theirs}"));
+    }
+    let place = ours.iter().zip(theirs).position(|(a, b)| a != b)?;
+    let (ours, theirs) = (&ours[place], &theirs[place]);
+    Some(format!("{name}[{place}]: {ours:?}, not {theirs:?}"))
+}

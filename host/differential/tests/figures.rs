@@ -1,0 +1,149 @@
+//! The figures W1 to W12, through the model.
+
+use differential::{
+    lend,
+    model::{class_def, coverage, numbers::bytes, values::ValueFormat},
+    Call, Model, Random, Subject,
+};
+use oracle::Store;
+
+const TABLE: u32 = 0;
+
+/// The glyphs of W3.
+const THREE: [u16; 3] = [10, 20, 30];
+
+/// A format 1 table, object 0, of this many empty slots. Its coverage is object 1.
+fn format1_slots(glyphs: &[u16], slots: u16) -> Store {
+    let mut store = Store::default();
+    let mut table = bytes([1, 0, 4, 0, slots]);
+    table.resize(10 + 2 * slots as usize, 0);
+    store.push_object(&table);
+    let coverage = store.push_object(&coverage::write(glyphs));
+    store.push_link(0, 2, coverage);
+    store
+}
+
+/// The same with a pair set of each length, from object 2 on.
+fn format1(glyphs: &[u16], lengths: &[usize]) -> Store {
+    let mut store = format1_slots(glyphs, lengths.len() as u16);
+    for (i, &length) in lengths.iter().enumerate() {
+        let set = store.push_object(&vec![0; length]);
+        store.push_link(0, 10 + 2 * i as u32, set);
+    }
+    store
+}
+
+/// The call after a split, and the places of a cut plan.
+fn split(store: &Store) -> (Call<u32>, Vec<u16>) {
+    let mut call = lend::exactly(store, TABLE, &mut Random::new(0));
+    let mut plan = call.to_plan();
+    assert_eq!(Model.cut_plan(&mut plan), 0);
+    assert_eq!(Model.split_pairpos(&mut call), 0);
+    assert_eq!(call.count, plan.count);
+    plan.list.truncate(plan.count as usize);
+    (call, plan.list)
+}
+
+fn cuts(store: &Store) -> Vec<u16> {
+    split(store).1
+}
+
+/// An object's bytes.
+fn object(store: &Store, object: usize) -> &[u8] {
+    let [head, tail] = store.objects_in_use()[object];
+    &store.data[head as usize..tail as usize]
+}
+
+#[test]
+fn w1_and_w2_fields_of_value_formats() {
+    let format = ValueFormat(0x00F5);
+    assert_eq!(format.field_count(), 6);
+    assert!(format.devices().eq([2, 3, 4, 5]));
+    assert_eq!(ValueFormat(0xFF00).field_count(), 0);
+}
+
+#[test]
+fn w3_to_w6_coverage_and_class_definitions() {
+    assert_eq!(coverage::write(&THREE), bytes([1, 3, 10, 20, 30]));
+    let run: Vec<u16> = (100..=107).collect();
+    assert_eq!(coverage::write(&run), bytes([2, 1, 100, 107, 0]));
+    assert_eq!(coverage::write(&[5, 6, 7]), bytes([1, 3, 5, 6, 7]));
+    assert_eq!(coverage::write(&[]), bytes([1, 0]));
+    assert_eq!(class_def::write(&[]), bytes([2, 0]));
+}
+
+#[test]
+fn w7_three_sets_are_cut_at_2() {
+    let store = format1(&THREE, &[30_000; 3]);
+    let (call, cuts) = split(&store);
+    assert_eq!(cuts, [2]);
+    assert_eq!(call.list, [5]);
+
+    let new_table = [1, 0, 4, 0, 1, 0];
+    let new_coverage = [1, 1, 30];
+    let kept_coverage = [1, 2, 10, 20];
+    let new_words = [&new_table[..], &new_coverage, &kept_coverage].concat();
+    let new_data = &call.store.data_in_use()[store.data.len()..];
+    assert_eq!(new_data.len(), 26);
+    assert_eq!(new_data, bytes(new_words));
+
+    assert_eq!(object(&call.store, 0), bytes([1, 0, 4, 0, 2, 0, 0]));
+    let rows = [[0, 2, 2, 7], [0, 10, 2, 2], [0, 12, 2, 3]];
+    let new_rows = [[5, 2, 2, 6], [5, 10, 2, 4]];
+    assert_eq!(call.store.links_in_use(), [&rows[..], &new_rows].concat());
+}
+
+#[test]
+fn w8_and_w9_one_set_at_the_limit() {
+    assert_eq!(cuts(&format1(&[10], &[65_517])), []);
+    let (call, cuts) = split(&format1(&[10], &[65_518]));
+    assert_eq!(cuts, [0]);
+    assert_eq!(object(&call.store, 0), bytes([1, 0, 4, 0, 0]));
+}
+
+#[test]
+fn w10_the_item_at_a_cut_is_not_measured_again() {
+    let mut store = format1(&THREE, &[100, 30_000, 20_000]);
+    let d = store.push_object(&[0; 40_000]);
+    store.push_link(2, 2, d);
+    store.push_link(3, 2, d);
+    assert_eq!(cuts(&store), [1]);
+}
+
+#[test]
+fn w11_a_set_in_two_slots_counts_once() {
+    let mut store = format1_slots(&[10, 20], 2);
+    let set = store.push_object(&[0; 40_000]);
+    store.push_link(0, 10, set);
+    store.push_link(0, 12, set);
+    assert_eq!(cuts(&store), []);
+}
+
+#[test]
+fn w12_rows_are_cut_at_162() {
+    let mut store = Store::default();
+    let mut table = bytes([2, 0, 0x0004, 0, 0, 0, 170, 200]);
+    table.resize(16 + 170 * 400, 0);
+    let glyphs: Vec<u16> = (100..270).collect();
+    let classes: Vec<_> = glyphs.iter().map(|&glyph| (glyph, glyph - 100)).collect();
+    let mut class_def2 = bytes([1, 100, 202]);
+    class_def2.resize(410, 0);
+    let parts = [
+        table,
+        coverage::write(&glyphs),
+        class_def::write(&classes),
+        class_def2,
+    ];
+    for part in parts {
+        store.push_object(&part);
+    }
+    for (position, part) in [(2, 1), (8, 2), (10, 3)] {
+        store.push_link(0, position, part);
+    }
+
+    let (call, cuts) = split(&store);
+    assert_eq!(cuts, [162]);
+    let new_table = object(&call.store, call.list[0] as usize);
+    assert_eq!(new_table.len(), 3_216);
+    assert_eq!(new_table[..16], bytes([2, 0, 4, 0, 0, 0, 8, 200]));
+}
