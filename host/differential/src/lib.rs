@@ -6,14 +6,21 @@
 
 #![deny(missing_docs)]
 
+pub mod check;
+pub mod compare;
+pub mod edit;
+pub mod generate;
 pub mod lend;
 pub mod model;
+pub mod product;
 mod random;
 mod subject;
+mod tally;
 
 pub use model::Model;
 pub use random::Random;
 pub use subject::{Call, Pair, Scratch, Subject};
+pub use tally::Tally;
 
 // Lengths, positions and sums are `usize`, and must not wrap.
 const _: () = assert!(usize::BITS == 64);

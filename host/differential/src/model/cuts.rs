@@ -67,7 +67,7 @@ fn weigh_rows(pairpos: &PairPos, class_defs: &ClassDefs) -> Vec<Weighed> {
     let mut weighed = Vec::new();
     let mut seen = Seen::nothing(pairpos.objects);
     let glyphs = class_glyphs(pairpos);
-    let mut estimate = Estimate::default();
+    let mut estimate = Estimate::empty();
     let mut sum = 16;
     for (item, glyphs) in glyphs.iter().enumerate() {
         let addition = pairpos.header.item_size() + seen.count(pairpos.item_links(item));
@@ -77,7 +77,7 @@ fn weigh_rows(pairpos: &PairPos, class_defs: &ClassDefs) -> Vec<Weighed> {
         let here = Weighed { item, total };
         if here.is_cut() {
             sum = 16 + addition;
-            estimate = Estimate::default();
+            estimate = Estimate::empty();
             estimate.add(item, glyphs);
             seen.forget();
         }

@@ -1,0 +1,65 @@
+//! What a split leaves as it was.
+
+use super::{ensure, same, Outcome, Split};
+use crate::{edit, model::soundness::sound, Subject};
+use oracle::Store;
+
+/// A split leaves scratch zero, and changes nothing but what it must.
+pub fn frame(split: &Split) -> Outcome {
+    let (before, after) = (&split.before, &split.after);
+    let mut untouched = before.clone();
+    untouched.scratch.clear();
+    untouched.count = 0;
+    if after.count == 0 {
+        return untouched.difference(after).map_or(Ok(()), Err);
+    }
+    ensure(split.answer == 0, || "a refusal with new tables".into())?;
+    ensure(sound(&after.store), || "the store is not sound".into())?;
+    ensure(after.scratch == untouched.scratch, || {
+        "scratch is not zero".into()
+    })?;
+    let count = after.count as usize;
+    same("list", &after.list[count..], &before.list[count..])?;
+    rest_stays(&before.store, &after.store)?;
+    others_stay(&before.store, &after.store, before.table)
+}
+
+/// What lies past the new counts stays.
+fn rest_stays(old: &Store, new: &Store) -> Outcome {
+    let [data, objects, links] = new.counts.map(|count| count as usize);
+    same("data", &new.data[data..], &old.data[data..])?;
+    let (rows, old_rows) = (&new.objects[2 * objects..], &old.objects[2 * objects..]);
+    same("objects", rows, old_rows)?;
+    same("links", &new.links[4 * links..], &old.links[4 * links..])
+}
+
+/// Every other old object keeps its place, its bytes and its links.
+fn others_stay(old: &Store, new: &Store, table: u32) -> Outcome {
+    for object in (0..old.counts[1]).filter(|&object| object != table) {
+        let row = object as usize;
+        same(
+            "row",
+            &new.objects_in_use()[row],
+            &old.objects_in_use()[row],
+        )?;
+        same("bytes", edit::bytes(new, object), edit::bytes(old, object))?;
+    }
+    let others = |store: &Store| -> Vec<[u32; 4]> {
+        let links = store.links_in_use().iter();
+        let other = |link: &&[u32; 4]| link[0] < old.counts[1] && link[0] != table;
+        links.filter(other).copied().collect()
+    };
+    same("links", &others(new), &others(old))
+}
+
+/// Splitting the kept table again, with scratch enough, changes nothing.
+pub fn again(subject: &impl Subject, split: &Split) -> Outcome {
+    let mut call = split.after.clone();
+    call.scratch
+        .walk
+        .resize(2 * call.store.counts[1] as usize, 0);
+    let again = Split::by(subject, &call);
+    ensure(again.answer == 0, || format!("answer {}", again.answer))?;
+    call.count = 0;
+    call.difference(&again.after).map_or(Ok(()), Err)
+}

@@ -1,0 +1,72 @@
+//! A store in the making.
+
+use crate::Random;
+use oracle::Store;
+use std::collections::BTreeMap;
+
+/// Objects and links before they have their places in a store.
+#[derive(Clone, Debug, Default)]
+pub struct Draft {
+    objects: Vec<Vec<u8>>,
+    /// The child by parent and position.
+    links: BTreeMap<(usize, usize), usize>,
+}
+
+impl Draft {
+    /// Adds an object.
+    pub fn object(&mut self, bytes: Vec<u8>) -> usize {
+        self.objects.push(bytes);
+        self.objects.len() - 1
+    }
+
+    /// How many objects there are.
+    pub fn count(&self) -> usize {
+        self.objects.len()
+    }
+
+    /// Links a position of an object to another object.
+    pub fn link(&mut self, parent: usize, position: usize, child: usize) {
+        self.links.insert((parent, position), child);
+    }
+
+    /// Links some position of an object, if it has bytes for one.
+    pub fn link_anywhere(&mut self, random: &mut Random, parent: usize, child: usize) {
+        if let Some(last) = self.objects[parent].len().checked_sub(2) {
+            self.link(parent, random.within(0..=last), child);
+        }
+    }
+
+    /// The store, with the objects in any order and gaps between them, and their numbers.
+    pub fn lay_out(&self, random: &mut Random) -> (Store, Vec<u32>) {
+        let mut order: Vec<usize> = (0..self.count()).collect();
+        random.shuffle(&mut order);
+        let mut store = Store::default();
+        let mut numbers = vec![0; self.count()];
+        for object in order {
+            leave_gap(&mut store, random);
+            numbers[object] = store.push_object(&self.objects[object]) as u32;
+        }
+        leave_gap(&mut store, random);
+        store.links = self.rows(&numbers);
+        store.counts[2] = self.links.len() as u32;
+        (store, numbers)
+    }
+
+    fn rows(&self, numbers: &[u32]) -> Vec<u32> {
+        let row = |(&(parent, position), &child): (&(usize, usize), &usize)| {
+            [numbers[parent], position as u32, 2, numbers[child]]
+        };
+        let mut rows: Vec<[u32; 4]> = self.links.iter().map(row).collect();
+        rows.sort_unstable();
+        rows.into_flattened()
+    }
+}
+
+/// Bytes in use that belong to no object.
+fn leave_gap(store: &mut Store, random: &mut Random) {
+    if random.one_in(4) {
+        let len = random.within(1..=5);
+        store.data.extend(random.bytes(len));
+        store.counts[0] += len as u32;
+    }
+}

@@ -1,0 +1,59 @@
+//! How often each case occurred.
+
+use crate::model::cuts::Weighed;
+use std::fmt::{self, Display, Formatter};
+
+/// Counts of splits and of what became of them.
+#[derive(Clone, Debug, Default, PartialEq, Eq)]
+pub struct Tally {
+    /// Splits by their answer number.
+    pub answers: [usize; 9],
+    /// Tables that were not cut, cut once, cut more often.
+    pub cut_counts: [usize; 3],
+    /// New tables.
+    pub new_tables: usize,
+    /// Tables that were cut at 0.
+    pub cuts_at_0: usize,
+    /// Totals of 65,534 to 65,537.
+    pub at_limit: [usize; 4],
+    /// Splits in which the 16-bit product wraps and does not show, and in which it shows.
+    pub products: [usize; 2],
+    /// Pairs that were read before and after a split.
+    pub pairs: usize,
+    /// Those of them that were found.
+    pub pairs_found: usize,
+}
+
+impl Tally {
+    /// Counts a split by its answer, by the items looked at, and by whether the product shows.
+    pub fn add(&mut self, answer: u32, weighed: &[Weighed], product_shows: Option<bool>) {
+        let mut cuts = weighed.iter().filter(|weighed| weighed.is_cut());
+        let count = cuts.clone().count();
+        self.answers[answer as usize] += 1;
+        self.cut_counts[count.min(2)] += 1;
+        self.new_tables += count;
+        self.cuts_at_0 += usize::from(cuts.any(|cut| cut.item == 0));
+        if let Some(shows) = product_shows {
+            self.products[usize::from(shows)] += 1;
+        }
+        for weighed in weighed {
+            if let total @ 65_534..=65_537 = weighed.total {
+                self.at_limit[total - 65_534] += 1;
+            }
+        }
+    }
+}
+
+impl Display for Tally {
+    fn fmt(&self, f: &mut Formatter) -> fmt::Result {
+        let [uncut, once, more] = self.cut_counts;
+        let [hidden, shown] = self.products;
+        writeln!(f, "answers 0 to 8: {:?}", self.answers)?;
+        writeln!(f, "tables not cut {uncut}, once {once}, more often {more}")?;
+        let (new_tables, cuts_at_0) = (self.new_tables, self.cuts_at_0);
+        writeln!(f, "new tables {new_tables}, cuts at 0 {cuts_at_0}")?;
+        writeln!(f, "totals of 65,534 to 65,537: {:?}", self.at_limit)?;
+        writeln!(f, "products that wrap: hidden {hidden}, shown {shown}")?;
+        write!(f, "pairs read {}, found {}", self.pairs, self.pairs_found)
+    }
+}
