@@ -8,6 +8,12 @@ pub fn bytes(store: &Store, object: u32) -> &[u8] {
     &store.data[head as usize..tail as usize]
 }
 
+/// Where an object starts, or would start.
+pub fn head(store: &Store, object: u32) -> usize {
+    let row = store.objects_in_use().get(object as usize);
+    row.map_or(store.data.len(), |row| row[0] as usize)
+}
+
 /// The object that a link leads to.
 pub fn child_at(store: &Store, parent: u32, position: u32) -> Option<u32> {
     let links = store.links_in_use();

@@ -8,6 +8,7 @@
 
 pub mod check;
 pub mod compare;
+pub mod damage;
 pub mod edit;
 pub mod generate;
 pub mod lend;

@@ -1,0 +1,66 @@
+//! Damaged copies of calls, each just past the edge of a refusal.
+//!
+//! All start from a call that is lent exactly what it needs and that no check refuses.
+
+mod links;
+mod parts;
+mod room;
+mod scramble;
+mod scratch;
+mod soundness;
+mod table;
+
+pub use parts::{CLASS_DEFS, COVERAGES};
+pub use scramble::scramble;
+
+use crate::{Call, Random};
+
+/// A way to damage a call.
+#[derive(Clone, Copy, Debug)]
+pub struct Damage {
+    /// What is wrong then.
+    pub name: &'static str,
+    /// What a split, a cut plan and a pair reading answer.
+    pub answers: [u32; 3],
+    apply: Apply,
+}
+
+/// Damages a call, or gives nothing where the call has not what is to be damaged.
+type Apply = fn(&mut Call<u32>, &mut Random) -> Option<()>;
+
+/// What is wrong, and how it is done.
+type Named = (&'static str, Apply);
+
+impl Damage {
+    /// A damaged copy of a call, if the call can be damaged so.
+    ///
+    /// It may have been damaged before, by what is refused by a higher number.
+    pub fn apply(&self, call: &Call<u32>, random: &mut Random) -> Option<Call<u32>> {
+        let mut call = call.clone();
+        (self.apply)(&mut call, random)?;
+        Some(call)
+    }
+}
+
+/// All damages, in order of the numbers by which they are refused.
+pub fn all() -> Vec<Damage> {
+    let groups: [([u32; 3], &[Named]); 9] = [
+        ([1, 1, 1], soundness::DAMAGES),
+        ([2, 2, 2], table::NUMBERS),
+        ([3, 3, 3], table::LENGTHS),
+        ([4, 4, 4], parts::UNREADABLE),
+        ([5, 5, 5], parts::FEW_GLYPHS),
+        ([6, 6, 0], scratch::SHORT),
+        ([7, 7, 0], links::DAMAGES),
+        ([8, 0, 0], room::STORE),
+        ([8, 8, 0], room::LIST),
+    ];
+    let damages = groups.into_iter().flat_map(|(answers, group)| {
+        group.iter().map(move |&(name, apply)| Damage {
+            name,
+            answers,
+            apply,
+        })
+    });
+    damages.collect()
+}
