@@ -1,9 +1,11 @@
 -- What it says of a Coverage that it is readable: by its bytes, and by its header. Assumes nothing.
-use Prim.Native.Nat.{ℕ, _+_, _*_, _<_}
+use Prim.Native.Nat.{ℕ, zero, suc, _+_, _*_, _≤_, _<_}
 use mathlib.Core.Path.{_≡_, refl, sym, ap, subst, _∙_}
 use mathlib.Core.Bool.{Bool, true, false, cond, _&&_, _||_}
 use mathlib.Core.List.{List}
-use mathlib.Core.Logic.{_⊎_, inl, inr}
+use mathlib.Core.Logic.{_⊎_, inl, inr, ⊎-elim}
+use native.Mathlib.Nat.{le-of-suc-le-suc, eq-or-lt-of-le}
+use native.Mathlib.Numerals.{add-one}
 use native.Mathlib.Omega.{arith}
 use lib.ListN.{length}
 use lib.Dec.{eqb, leb}
@@ -14,7 +16,7 @@ use Rattle.folds.proofs.Folds.{all-at, all-intro, all-fails, length-flat, lengt
 use Rattle.folds.proofs.FromTheFront.{sum-same}
 use Rattle.folds.proofs.Halving.{Rising}
 use Rattle.opentype.specs.Numbers.{u16At}
-use Rattle.opentype.specs.Coverage.{glyphAt, startAt, besideAt, sizeAt, listFits, rangesFit, indexed, coverReadable, kindOf, reading, coverageOf, coverGlyphs}
+use Rattle.opentype.specs.Coverage.{glyphAt, startAt, besideAt, endAt, sizeAt, listFits, rangesFit, indexed, coverReadable, kindOf, reading, coverageOf, coverGlyphs}
 use Rattle.opentype.specs.declared.Kind.{Kind}
 use Rattle.opentype.specs.declared.Kind.the-variants as Kind
 use Rattle.opentype.specs.declared.Header.{Header}
@@ -76,6 +78,9 @@ module _ (b : List ℕ) (n : ℕ) where
   unfolding indexed
   not-counts k l h = all-fails counts k n l (ne-eqb (besideAt b k) (sum (sizeAt b) k) h)
 
+pub index-more : (b : List ℕ) (n : ℕ) → Indexed b n → besideAt b n ≡ sum (sizeAt b) n → Indexed b (n + 1)
+index-more b n i e k l = ⊎-elim (λ q. rw q e) (i k) (eq-or-lt-of-le (le-of-suc-le-suc (rw add-one at l)))
+
 -- ---- its glyphs
 
 -- the glyphs of range k
@@ -93,6 +98,14 @@ module _ (b : List ℕ) where
 
   pub length-ranges : (n : ℕ) → length (flat (rangeAt b) n) ≡ sum (sizeAt b) n
   length-ranges n = length-flat (rangeAt b) n ∙ sum-same (λ k. length (rangeAt b k)) (sizeAt b) n (λ k l. length-upto (λ j. startAt b k + j) (sizeAt b k))
+
+  -- rising ranges have no more glyphs than there are numbers up to their end
+  pub sizes-under : (n : ℕ) → Rising (startAt b) (endAt b) n → sum (sizeAt b) n ≤ before (λ j. endAt b j + 1) n
+  unfolding sum before
+  sizes-under zero r = omega arith
+  sizes-under (suc n) r =
+      let i = sizes-under n (record { above = λ k l. r .above k (omega arith); ordered = λ k l. r .ordered k (omega arith) }) in
+      omega (arith, r .above n (omega arith), r .ordered n (omega arith))
 
 -- ---- a readable one
 
@@ -185,18 +198,19 @@ module _ (b : List ℕ) where
       go false true = refl
       go false false = refl
 
-  pub by-list : u16At b 0 ≡ 1 → cond (listFits b (u16At b 2)) (Readable (record { kind = Kind.List; count = u16At b 2 })) Unreadable ≡ coverageOf b
+module _ (b : List ℕ) (f n : ℕ) (pf : f ≡ u16At b 0) (pn : n ≡ u16At b 2) where
+  pub by-list : (t : Bool) → f ≡ 1 → t ≡ listFits b n → cond t (Readable (record { kind = Kind.List; count = n })) Unreadable ≡ coverageOf b
   unfolding coverageOf coverReadable
-  by-list f = rw f (go (listFits b (u16At b 2)))
+  by-list t e q = rw (← pf, ← pn, e, ← q) (go t)
     where
-      go : (x : Bool) → cond x (Readable (record { kind = Kind.List; count = u16At b 2 })) Unreadable ≡ reading (x || false) 1 (u16At b 2)
+      go : (x : Bool) → cond x (Readable (record { kind = Kind.List; count = n })) Unreadable ≡ reading (x || false) 1 n
       go true = refl
       go false = refl
 
-  pub by-ranges : u16At b 0 ≡ 2 → cond (rangesFit b (u16At b 2) && indexed b (u16At b 2)) (Readable (record { kind = Kind.Ranges; count = u16At b 2 })) Unreadable ≡ coverageOf b
+  pub by-ranges : (t : Bool) → f ≡ 2 → t ≡ (rangesFit b n && indexed b n) → cond t (Readable (record { kind = Kind.Ranges; count = n })) Unreadable ≡ coverageOf b
   unfolding coverageOf coverReadable
-  by-ranges f = rw f
+  by-ranges t e q = rw (← pf, ← pn, e, q)
 
-  pub by-none : (u16At b 0 ≡ 1 → ⊥) → (u16At b 0 ≡ 2 → ⊥) → Unreadable ≡ coverageOf b
+  pub by-none : (f ≡ 1 → ⊥) → (f ≡ 2 → ⊥) → Unreadable ≡ coverageOf b
   unfolding coverageOf coverReadable
-  by-none one two = rw (ne-eqb (u16At b 0) 1 one, ne-eqb (u16At b 0) 2 two)
+  by-none one two = rw (← pf, ne-eqb f 1 one, ne-eqb f 2 two)

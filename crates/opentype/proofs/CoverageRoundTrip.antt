@@ -11,11 +11,12 @@ use Rattle.folds.specs.Folds.{before, sum, flat, run}
 use Rattle.folds.proofs.Tests.{by-test}
 use Rattle.folds.proofs.Folds.{upto-same}
 use Rattle.folds.proofs.FromTheFront.{sum-cons, sum-same, flat-cons, flat-same, upto-getD}
-use Rattle.opentype.specs.Numbers.{u16At, be16, words}
+use Rattle.opentype.specs.Numbers.{be16, words}
 use Rattle.opentype.specs.Coverage.{Run, runs, plain, glyphAt, startAt, besideAt, sizeAt, coverReadable, coverGlyphs, coverRanges, coverageBytes}
 use Rattle.opentype.specs.ClassDef.{classRanges}
 use Rattle.opentype.proofs.Numbers.{length-words}
-use Rattle.opentype.proofs.Head.{two-bytes, u16At-past, head-format, head-count, head-past, head-length}
+use Rattle.opentype.proofs.Words.{words-at}
+use Rattle.opentype.proofs.Head.{head-format, head-count, head-past, head-length}
 use Rattle.opentype.proofs.Runs.{Ascends, Rise, runs-rise, runSize, spread, expand, expand-runs, plain-glyphs}
 use Rattle.opentype.proofs.CoverageRead.{list-fits, index-fits}
 use Rattle.opentype.proofs.RangeBytes.{noRun, ranged, ranged-format, ranged-count, ranged-start, ranged-end, ranged-beside, ranged-fits}
@@ -89,15 +90,6 @@ module _ (rs : List Run) where
       ∙ spread-all ns ∙ numbered-expand 0 rs))
 
 -- ---- as a list
-
--- number k of a row
-pub words-at : (gs : List ℕ) (k : ℕ) → k < length gs → u16At (words gs) (2 * k) ≡ getD gs k 0
-unfolding words be16 u16At
-words-at [] k h = absurd (not-suc-le-zero h)
-words-at (g ∷ gs) zero h = two-bytes g
-words-at (g ∷ gs) (suc k) h =
-    let e : 2 * suc k ≡ 2 + 2 * k = omega arith in
-    ap (u16At (words (g ∷ gs))) e ∙ u16At-past (be16 g) (words gs) 2 (2 * k) refl ∙ words-at gs k (omega arith)
 
 -- glyphs in ascending order, by index
 pub ascends-at : (gs : List ℕ) (lo k : ℕ) → Ascends lo (plain gs) → suc k < length gs → getD gs k 0 + 1 ≤ getD gs (suc k) 0

@@ -1,5 +1,6 @@
 pub mod Numbers
 pub mod Head
+pub mod Words
 pub mod Runs
 pub mod RunCount
 pub mod RangesRead

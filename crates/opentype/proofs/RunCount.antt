@@ -12,7 +12,7 @@ use Rattle.folds.specs.Folds.{flat, run}
 use Rattle.folds.proofs.Tests.{by-test, either}
 use Rattle.folds.proofs.FromTheFront.{run-none, run-cons}
 use Rattle.opentype.specs.Coverage.{Entry, Run, runs, plain}
-use Rattle.opentype.proofs.Runs.{Ascends, Under, follows, from, runs-join, runs-part, runs-none, runs-one}
+use Rattle.opentype.proofs.Runs.{Ascends, Under, follows, startingAt, runs-join, runs-part, runs-none, runs-one}
 
 -- how many runs there are
 abbrev pub many : List Entry → ℕ
@@ -28,15 +28,14 @@ many-none = ap length runs-none
 pub many-one : (e : Entry) → many (e ∷ []) ≡ 1
 many-one e = ap length (runs-one e)
 
--- the first run is there, and a longer one is one too
-from-length : (g : ℕ) (rs : List Run) → length (from g rs) ≡ length rs
-from-length g [] = refl
-from-length g (r ∷ rs) = refl
+pub starting-length : (g : ℕ) (rs : List Run) → length (startingAt g rs) ≡ length rs
+starting-length g [] = refl
+starting-length g (r ∷ rs) = refl
 
 pub many-step : (e f : Entry) (es : List Entry) → many (e ∷ f ∷ es) ≡ many (f ∷ es) + gap e f
 many-step e f es =
     by-test (follows e f)
-    (λ h. rw h (omega (arith, ap length (runs-join e f es h), from-length (e .glyph) (runs (f ∷ es)))))
+    (λ h. rw h (omega (arith, ap length (runs-join e f es h), starting-length (e .glyph) (runs (f ∷ es)))))
     (λ h. rw h (omega (arith, ap length (runs-part e f es h))))
 
 pub gap-le : (e f : Entry) → gap e f ≤ 1
@@ -119,7 +118,3 @@ runs-and-glyphs g (f ∷ gs) lo n a u =
 pub few : (gs : List ℕ) (n : ℕ) → Ascends 0 (plain gs) → Under n (plain gs) → many (plain gs) + length gs ≤ n + 1
 few [] n a u = omega (arith, many-none)
 few (g ∷ gs) n a u = omega (arith, runs-and-glyphs g gs 0 n a u)
-
-pub no-run : (gs : List ℕ) → many (plain gs) ≡ 0 → length gs ≡ 0
-no-run [] h = refl
-no-run (g ∷ gs) h = absurd (omega (arith, some-run (alone g) (plain gs)))

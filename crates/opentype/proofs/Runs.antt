@@ -85,9 +85,9 @@ abbrev pub follows : Entry → Entry → Bool
 follows e f = eqb (e .glyph + 1) (f .glyph) && eqb (e .class) (f .class)
 
 -- the runs, the first of them from glyph g on
-abbrev pub from : ℕ → List Run → List Run
-from g [] = []
-from g (r ∷ rs) = record { start = g; end = r .end; class = r .class } ∷ rs
+abbrev pub startingAt : ℕ → List Run → List Run
+startingAt g [] = []
+startingAt g (r ∷ rs) = record { start = g; end = r .end; class = r .class } ∷ rs
 
 -- the first run starts with the first entry
 pub head-run : (e : Entry) (es : List Entry) → (r : Run) × (ts : List Run) × (runs (e ∷ es) ≡ r ∷ ts) × (r .start ≡ e .glyph) × (r .class ≡ e .class)
@@ -96,21 +96,25 @@ head-run e es =
     by-extend (λ rs. (r : Run) × (ts : List Run) × (rs ≡ r ∷ ts) × (r .start ≡ e .glyph) × (r .class ≡ e .class)) e (runs es)
     (single e, runs es, refl, refl, refl) (λ r ts q c d. (longer e r, ts, refl, refl, sym d))
 
-pub from-own : (e : Entry) (es : List Entry) → from (e .glyph) (runs (e ∷ es)) ≡ runs (e ∷ es)
-from-own e es =
+pub starting-own : (e : Entry) (es : List Entry) → startingAt (e .glyph) (runs (e ∷ es)) ≡ runs (e ∷ es)
+starting-own e es =
     let (r, ts, q, a, b) = head-run e es in
-    ap (from (e .glyph)) q ∙ ap (λ (g : ℕ). from g (r ∷ ts)) (sym a) ∙ sym q
+    ap (startingAt (e .glyph)) q ∙ ap (λ (g : ℕ). startingAt g (r ∷ ts)) (sym a) ∙ sym q
 
-extend-first : (e f : Entry) (es : List Entry) → runs (e ∷ f ∷ es) ≡ cond (follows e f) (from (e .glyph) (runs (f ∷ es))) (single e ∷ runs (f ∷ es))
+pub starting-again : (g f : ℕ) (rs : List Run) → startingAt g (startingAt f rs) ≡ startingAt g rs
+starting-again g f [] = refl
+starting-again g f (r ∷ rs) = refl
+
+extend-first : (e f : Entry) (es : List Entry) → runs (e ∷ f ∷ es) ≡ cond (follows e f) (startingAt (e .glyph) (runs (f ∷ es))) (single e ∷ runs (f ∷ es))
 unfolding runs extend
 extend-first e f es =
     let (r, ts, q, a, b) = head-run f es in
     ap (extend e) q
     ∙ ap₂ (λ (x y : ℕ). cond (eqb (e .glyph + 1) x && eqb (e .class) y) (longer e r ∷ ts) (single e ∷ r ∷ ts)) a b
-    ∙ ap (λ (rs : List Run). cond (follows e f) (from (e .glyph) rs) (single e ∷ rs)) (sym q)
+    ∙ ap (λ (rs : List Run). cond (follows e f) (startingAt (e .glyph) rs) (single e ∷ rs)) (sym q)
 
 module _ (e f : Entry) (es : List Entry) where
-  pub runs-join : follows e f ≡ true → runs (e ∷ f ∷ es) ≡ from (e .glyph) (runs (f ∷ es))
+  pub runs-join : follows e f ≡ true → runs (e ∷ f ∷ es) ≡ startingAt (e .glyph) (runs (f ∷ es))
   runs-join h = extend-first e f es ∙ rw h
 
   pub runs-part : follows e f ≡ false → runs (e ∷ f ∷ es) ≡ single e ∷ runs (f ∷ es)

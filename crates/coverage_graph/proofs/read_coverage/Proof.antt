@@ -1,0 +1,56 @@
+-- `read_coverage` meets its contract: the two first numbers say which kind is tested. Assumes nothing.
+use borrow.Author.Needs.{needs}
+use mathlib.Core.Path.{sym, _∙_}
+use mathlib.Core.Bool.{true, false}
+use Rattle.opentype.proofs.CoverageRead.{too-short, by-list, by-ranges, by-none}
+use Rattle.coverage_graph.proofs.read_coverage.Statement.{statement}
+use Rattle.coverage_graph.proofs.read_coverage.Tie as tie
+
+returns : tie.Need-returns
+returns c = too-short _ (c .if1 .taken)
+
+u16-at-requires : tie.Need-u16-at-requires
+u16-at-requires c κs = search needs
+
+u16-at-requires-2 : tie.Need-u16-at-requires-2
+u16-at-requires-2 c κs = search needs
+
+cast-count : tie.Need-cast-count
+cast-count c = search needs
+
+list-fits-requires : tie.Need-list-fits-requires
+list-fits-requires c κs = search needs
+
+returns-2 : tie.Need-returns-2
+returns-2 c = by-list _ _ _ (c .before .before .before .before .u16-at .ensures) (c .before .before .before .u16-at2 .ensures) true (c .before .before .if2 .taken) (sym (c .if3 .taken) ∙ c .before .list-fits .ensures)
+
+returns-3 : tie.Need-returns-3
+returns-3 c = by-list _ _ _ (c .before .before .before .before .u16-at .ensures) (c .before .before .before .u16-at2 .ensures) false (c .before .before .if2 .taken) (sym (c .if3 .left) ∙ c .before .list-fits .ensures)
+
+ranges-fit-requires : tie.Need-ranges-fit-requires
+ranges-fit-requires c κs = search needs
+
+returns-4 : tie.Need-returns-4
+returns-4 c = by-ranges _ _ _ (c .before .before .before .before .before .u16-at .ensures) (c .before .before .before .before .u16-at2 .ensures) true (c .before .before .if4 .taken) (sym (c .if5 .taken) ∙ c .before .ranges-fit .ensures)
+
+returns-5 : tie.Need-returns-5
+returns-5 c = by-ranges _ _ _ (c .before .before .before .before .before .u16-at .ensures) (c .before .before .before .before .u16-at2 .ensures) false (c .before .before .if4 .taken) (sym (c .if5 .left) ∙ c .before .ranges-fit .ensures)
+
+returns-6 : tie.Need-returns-6
+returns-6 c = by-none _ _ _ (c .before .before .before .u16-at .ensures) (c .before .before .u16-at2 .ensures) (c .before .if2 .left) (c .if4 .left)
+
+pub read-coverage-spec : {M : Type 1} → statement M
+read-coverage-spec =
+    tie.close
+    (tie.spec
+    returns
+    u16-at-requires
+    u16-at-requires-2
+    cast-count
+    list-fits-requires
+    returns-2
+    returns-3
+    ranges-fit-requires
+    returns-4
+    returns-5
+    returns-6)

@@ -1,0 +1,65 @@
+-- `write::joins_next` meets its contract: past the end no glyph joins. Assumes nothing.
+use borrow.Author.Needs.{needs}
+use mathlib.Core.Path.{_≡_, ap₂}
+use mathlib.Core.Bool.{false}
+use mathlib.Core.List.{List}
+use Prim.Native.Nat.{ℕ, _+_, _≤_, _<_}
+use lib.ListN.{length, getD}
+use lib.Dec.{eqb}
+use borrow.Author.Tests.{lt-ltb, le-ltb}
+use Rattle.coverage_graph.specs.Coverage.{joinsNext}
+use Rattle.coverage_graph.proofs.write.joins_next.Statement.{statement}
+use Rattle.coverage_graph.proofs.write.joins_next.Tie as tie
+
+next-there : (gs : List ℕ) (k : ℕ) {a b : ℕ} → k + 1 < length gs → a ≡ getD gs k 0 → b ≡ getD gs (k + 1) 0 → eqb (a + 1) b ≡ joinsNext gs k
+unfolding joinsNext
+next-there gs k {a} {b} l pa pb = rw (lt-ltb (k + 1) (length gs) l) (ap₂ (λ (x y : ℕ). eqb (x + 1) y) pa pb)
+
+none-there : (gs : List ℕ) (k : ℕ) → length gs ≤ k + 1 → false ≡ joinsNext gs k
+unfolding joinsNext
+none-there gs k l = rw (le-ltb (k + 1) (length gs) l)
+
+add-next : tie.Need-add-next
+add-next c = search needs
+
+mul-wide : tie.Need-mul-wide
+mul-wide c = search needs
+
+shared-slice-read-wide : tie.Need-shared-slice-read-wide
+shared-slice-read-wide c = search needs
+
+wide-requires : tie.Need-wide-requires
+wide-requires c κs = search needs
+
+add-result : tie.Need-add-result
+add-result c = search needs
+
+mul-wide-2 : tie.Need-mul-wide-2
+mul-wide-2 c = search needs
+
+shared-slice-read-wide-2 : tie.Need-shared-slice-read-wide-2
+shared-slice-read-wide-2 c = search needs
+
+wide-requires-2 : tie.Need-wide-requires-2
+wide-requires-2 c κs = search needs
+
+returns : tie.Need-returns
+returns c = next-there _ _ (c .before .before .before .before .if1 .taken) (c .before .before .wide .ensures .0) (c .wide2 .ensures .0)
+
+returns-2 : tie.Need-returns-2
+returns-2 c = none-there _ _ (c .if1 .left)
+
+pub joins-next-spec : {M : Type 1} → statement M
+joins-next-spec =
+    tie.close
+    (tie.spec
+    add-next
+    mul-wide
+    shared-slice-read-wide
+    wide-requires
+    add-result
+    mul-wide-2
+    shared-slice-read-wide-2
+    wide-requires-2
+    returns
+    returns-2)
