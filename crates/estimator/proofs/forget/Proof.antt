@@ -1,0 +1,56 @@
+-- `estimator::forget` meets its contract: after each turn the bytes of the glyphs passed are empty. The measure is what is left. Assumes nothing.
+use borrow.Author.Needs.{needs}
+use Prim.Native.Nat.{_-_}
+use lib.ListN.{length}
+use Rattle.estimator.proofs.Forgetting.{Forgets, forget-start, forget-turn, forget-stop}
+use Rattle.estimator.proofs.forget.Statement.{statement}
+use Rattle.estimator.proofs.forget.Tie as tie
+
+abbrev Inv-loop : tie.InvT-loop
+Inv-loop set₀ glyphs k₀ set k = Forgets set₀ glyphs set k
+
+abbrev μ-loop : tie.MeasureT-loop
+μ-loop set₀ glyphs k₀ set k = length glyphs - k
+
+loop-holds : tie.Need-loop-holds Inv-loop μ-loop
+loop-holds c = forget-start _ _
+
+mul-clear-byte : tie.Need-mul-clear-byte Inv-loop μ-loop
+mul-clear-byte c = search needs
+
+shared-slice-read-clear-byte : tie.Need-shared-slice-read-clear-byte Inv-loop μ-loop
+shared-slice-read-clear-byte c = search needs
+
+clear-byte-requires : tie.Need-clear-byte-requires Inv-loop μ-loop
+clear-byte-requires c κs = search needs
+
+add-k : tie.Need-add-k Inv-loop μ-loop
+add-k c = search needs
+
+loop-less : tie.Need-loop-less Inv-loop μ-loop
+loop-less c = search needs
+
+loop-again : tie.Need-loop-again Inv-loop μ-loop
+loop-again c = forget-turn _ _ _ _ (c .before .before .before .before .before .before .loop .inv) (c .before .before .before .before .before .loop-test .taken) _ (c .before .before .clear-byte .ensures)
+
+same-length : tie.Need-same-length Inv-loop μ-loop
+same-length c = search needs
+
+returns : tie.Need-returns Inv-loop μ-loop
+returns c = forget-stop _ _ _ _ (c .before .loop .inv) (c .loop-test .left)
+
+pub forget-spec : {M : Type 1} → statement M
+forget-spec =
+    tie.close
+    (tie.spec
+    Inv-loop
+    μ-loop
+    loop-holds
+    mul-clear-byte
+    shared-slice-read-clear-byte
+    clear-byte-requires
+    add-k
+    loop-less
+    loop-again
+    same-length
+    returns)
