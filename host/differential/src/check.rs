@@ -21,7 +21,7 @@ use std::fmt::Debug;
 /// The first thing that does not hold.
 pub type Outcome = Result<(), String>;
 
-/// A split, before and after.
+/// A split, before and after, beside its cut plan.
 #[derive(Clone, Debug)]
 pub struct Split {
     /// What it was lent.
@@ -30,18 +30,21 @@ pub struct Split {
     pub after: Call<u32>,
     /// Its answer number.
     pub answer: u32,
+    /// The places of the cut plan.
+    pub places: Vec<u16>,
 }
 
 impl Split {
-    /// Carries out a split.
+    /// Plans a split, and carries it out.
     pub fn by(subject: &impl Subject, call: &Call<u32>) -> Self {
+        let mut plan = call.to_plan();
+        subject.cut_plan(&mut plan);
         let mut after = call.clone();
-        let answer = subject.split_pairpos(&mut after);
-        let before = call.clone();
         Self {
-            before,
+            answer: subject.split_pairpos(&mut after),
+            before: call.clone(),
             after,
-            answer,
+            places: plan.list[..plan.count as usize].to_vec(),
         }
     }
 

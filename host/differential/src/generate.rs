@@ -8,7 +8,7 @@ mod growth;
 
 use crate::{
     edit,
-    model::{answers, cuts::weigh},
+    model::{answers, cuts::weigh, values::ValueFormat},
     Random,
 };
 use draft::Draft;
@@ -50,6 +50,17 @@ fn finish(mut draft: Draft, table: usize, random: &mut Random) -> Case {
         move_to_limit(&mut case, random);
     }
     case
+}
+
+/// Any bits, or few, or none that count.
+fn value_format(random: &mut Random) -> ValueFormat {
+    let bits = random.number() as u16;
+    ValueFormat(match random.below(6) {
+        0 => 0,
+        1 => bits & 0xFF00,
+        2 => 1 << random.below(8),
+        _ => bits,
+    })
 }
 
 /// Gives an object another length, so that the total at an item lands next to the limit.

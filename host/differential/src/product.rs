@@ -9,9 +9,9 @@ const WRAP: usize = 65_536;
 /// It takes record r for the one of number r modulo 65,536. So the link of a cut-off record past
 /// that stays behind, and the link of a kept record goes where a cut-off one is taken for it.
 /// Nothing where there is no link to move, or no product to wrap.
-pub fn shows(pairpos: &PairPos, cuts: &[usize]) -> Option<bool> {
+pub fn shows(pairpos: &PairPos, cuts: &[u16]) -> Option<bool> {
     let header = &pairpos.header;
-    let kept = cuts.first()? * header.columns;
+    let kept = *cuts.first()? as usize * header.columns;
     let all = header.items * header.columns;
     let offsets = header.format.offsets().len();
     let devices = &pairpos.links()[offsets..];

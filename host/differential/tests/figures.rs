@@ -119,31 +119,53 @@ fn w11_a_set_in_two_slots_counts_once() {
     assert_eq!(cuts(&store), []);
 }
 
-#[test]
-fn w12_rows_are_cut_at_162() {
+/// A format 2 table, object 0, of zeros. Coverage and class definitions are objects 1 to 3.
+fn format2(formats: [u16; 2], shape: [u16; 2], classes: &[(u16, u16)], class_def2: &[u8]) -> Store {
+    let [rows, columns] = shape;
+    let fields: usize = formats.iter().map(|&f| ValueFormat(f).field_count()).sum();
+    let mut table = bytes([2, 0, formats[0], formats[1], 0, 0, rows, columns]);
+    table.resize(16 + 2 * fields * rows as usize * columns as usize, 0);
+    let glyphs: Vec<u16> = classes.iter().map(|entry| entry.0).collect();
     let mut store = Store::default();
-    let mut table = bytes([2, 0, 0x0004, 0, 0, 0, 170, 200]);
-    table.resize(16 + 170 * 400, 0);
-    let glyphs: Vec<u16> = (100..270).collect();
-    let classes: Vec<_> = glyphs.iter().map(|&glyph| (glyph, glyph - 100)).collect();
-    let mut class_def2 = bytes([1, 100, 202]);
-    class_def2.resize(410, 0);
-    let parts = [
-        table,
-        coverage::write(&glyphs),
-        class_def::write(&classes),
-        class_def2,
-    ];
-    for part in parts {
-        store.push_object(&part);
-    }
+    store.push_object(&table);
+    store.push_object(&coverage::write(&glyphs));
+    store.push_object(&class_def::write(classes));
+    store.push_object(class_def2);
     for (position, part) in [(2, 1), (8, 2), (10, 3)] {
         store.push_link(0, position, part);
     }
+    store
+}
 
-    let (call, cuts) = split(&store);
+#[test]
+fn w12_rows_are_cut_at_162() {
+    let classes: Vec<_> = (0..170).map(|class| (100 + class, class)).collect();
+    let mut class_def2 = bytes([1, 100, 202]);
+    class_def2.resize(410, 0);
+    let (call, cuts) = split(&format2([4, 0], [170, 200], &classes, &class_def2));
     assert_eq!(cuts, [162]);
     let new_table = object(&call.store, call.list[0] as usize);
     assert_eq!(new_table.len(), 3_216);
     assert_eq!(new_table[..16], bytes([2, 0, 4, 0, 0, 0, 8, 200]));
+}
+
+/// No glyphs: the estimates are 4 and 4, and of 4, 4 and 6 the largest is left out.
+#[test]
+fn a_row_without_glyphs_is_cut_from_65_512_bytes_on() {
+    let one_row =
+        |format, columns| cuts(&format2([format, 0], [1, columns], &[], &bytes([1, 0, 0])));
+    assert_eq!(one_row(0x001F, 6_551), []);
+    assert_eq!(one_row(0x000F, 8_189), [0]);
+}
+
+/// Every other glyph is covered, and two classes have every other one of these. Row 1 brings the
+/// coverage to 65,540 bytes and the class definition to more.
+#[test]
+fn rows_of_no_bytes_are_cut_by_the_estimates_alone() {
+    let classes: Vec<_> = (0..32_768).map(|i| (2 * i, i % 2)).collect();
+    for (formats, columns) in [([0xFF00, 0], 9), ([0x00FF, 4], 0)] {
+        let store = format2(formats, [2, columns], &classes, &bytes([2, 0]));
+        assert_eq!(object(&store, 0).len(), 16);
+        assert_eq!(cuts(&store), [1]);
+    }
 }

@@ -8,16 +8,7 @@ pub fn as_the_oracle(split: &Split, tally: &mut Tally) -> Outcome {
     let (before, after) = (&split.before, &split.after);
     let theirs = oracle::split(&before.store, before.table as usize);
     let theirs = theirs.map_err(|error| format!("{error:?}"))?;
-
-    let pairpos = opened(&before.store, before.table)?;
-    let weighed = weigh(&pairpos);
-    let cuts: Vec<usize> = weighed
-        .iter()
-        .filter(|w| w.is_cut())
-        .map(|w| w.item)
-        .collect();
-    let their_cuts: Vec<usize> = theirs.cuts.iter().map(|&cut| cut.into()).collect();
-    same("cuts", &cuts, &their_cuts)?;
+    same("cuts", &split.places, &theirs.cuts)?;
     let their_tables: Vec<u32> = theirs.new_tables.iter().map(|&new| new as u32).collect();
     same("new tables", split.new_tables(), &their_tables)?;
     same("data", after.store.data_in_use(), theirs.graph.data())?;
@@ -25,8 +16,9 @@ pub fn as_the_oracle(split: &Split, tally: &mut Tally) -> Outcome {
     let ours = reachable(&after.store, &split.tables());
     let theirs = reachable(&theirs.graph, &split.tables());
     let difference = differ("objects", &ours, &theirs);
-    let shows = product::shows(&pairpos, &cuts);
-    tally.add(split.answer, &weighed, shows);
+    let pairpos = opened(&before.store, before.table)?;
+    let shows = product::shows(&pairpos, &split.places);
+    tally.add(split.answer, &weigh(&pairpos), shows);
     ensure(difference.is_some() == (shows == Some(true)), || {
         difference.unwrap_or("the 16-bit product does not show".into())
     })

@@ -4,6 +4,7 @@ use super::{
     draft::Draft,
     glyphs::{coverage, glyphs},
     growth::{grow, Sizes},
+    value_format,
 };
 use crate::{
     model::{numbers::bytes, values::ValueFormat},
@@ -16,7 +17,7 @@ const SECOND_GLYPHS: usize = 12;
 /// Drafts a table with all that it leads to.
 pub fn draft(draft: &mut Draft, random: &mut Random) -> usize {
     let slots = slot_count(random);
-    let formats = [(); 2].map(|()| ValueFormat(random.number() as u16));
+    let formats = [(); 2].map(|()| value_format(random));
     let header = [1, random.number() as u16, formats[0].0, formats[1].0];
     let mut table_bytes = bytes(header);
     table_bytes.extend(bytes([slots as u16]));

@@ -4,6 +4,7 @@ use super::{
     draft::Draft,
     glyphs::{class_def, coverage, coverage_ranges, glyphs},
     growth::{grow, Sizes},
+    value_format,
 };
 use crate::{
     model::{numbers::bytes, values::ValueFormat},
@@ -24,10 +25,10 @@ struct Plan {
 
 /// Drafts a table with all that it leads to.
 pub fn draft(draft: &mut Draft, random: &mut Random) -> usize {
-    let plan = match random.below(12) {
-        0..=4 => Plan::small(random),
-        5..=8 => Plan::rows(random),
-        9..=10 => Plan::wrapping(random),
+    let plan = match random.below(20) {
+        0..=7 => Plan::small(random),
+        8..=15 => Plan::rows(random),
+        16..=18 => Plan::wrapping(random),
         _ => Plan::estimates(random),
     };
     let table = draft.object(plan.table(random));
@@ -45,7 +46,7 @@ impl Plan {
         let rows = random.below(16);
         let columns = random.below(7);
         Self {
-            formats: [(); 2].map(|()| ValueFormat(random.number() as u16)),
+            formats: [(); 2].map(|()| value_format(random)),
             rows,
             columns,
             glyphs: random.below(40),
@@ -57,11 +58,11 @@ impl Plan {
     /// Rows that fill one or several tables.
     fn rows(random: &mut Random) -> Self {
         let field = 1 << random.below(8);
-        let formats = [0, field].map(|bits| ValueFormat(random.number() as u16 | bits));
+        let formats = [0, field].map(|bits| ValueFormat(value_format(random).0 | bits));
         let record: usize = formats.map(ValueFormat::size).iter().sum();
         let most_columns = random.pick(&[3, 300, 2_000]);
         let columns = random.within(1..=most_columns);
-        let rows = random.below(200_000) / (record * columns);
+        let rows = (random.below(200_000) / (record * columns)).min(65_535);
         Self {
             formats,
             rows,
