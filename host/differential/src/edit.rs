@@ -25,9 +25,8 @@ pub fn child_at(store: &Store, parent: u32, position: u32) -> Option<u32> {
 pub fn replace(store: &mut Store, object: u32, bytes: &[u8]) {
     let place = 2 * object as usize;
     let [head, tail] = [store.objects[place], store.objects[place + 1]];
-    store
-        .data
-        .splice(head as usize..tail as usize, bytes.iter().copied());
+    let old = head as usize..tail as usize;
+    store.data.splice(old, bytes.iter().copied());
     let in_use = 2 * store.counts[1] as usize;
     let moved = |old: u32| old - tail + head + bytes.len() as u32;
     for number in &mut store.objects[place + 1..in_use] {
@@ -61,11 +60,9 @@ pub fn link(store: &mut Store, parent: u32, position: u32, child: u32) {
 pub fn add(store: &mut Store, bytes: &[u8]) -> u32 {
     let [head, object, _] = store.counts;
     let tail = head + bytes.len() as u32;
-    let (head_place, row_place) = (head as usize, 2 * object as usize);
-    store
-        .data
-        .splice(head_place..head_place, bytes.iter().copied());
-    store.objects.splice(row_place..row_place, [head, tail]);
+    let (at, row) = (head as usize, 2 * object as usize);
+    store.data.splice(at..at, bytes.iter().copied());
+    store.objects.splice(row..row, [head, tail]);
     store.counts[0] = tail;
     store.counts[1] += 1;
     object

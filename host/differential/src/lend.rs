@@ -53,11 +53,12 @@ fn lend(store: &Store, table: u32, random: &mut Random, spare: usize) -> Call<u3
     let need = Need::of(store, table);
     let mut store = store.clone();
     let [data, objects, links] = need.room;
-    store.data.extend(junk::<u8>(random, data, spare));
-    store
-        .objects
-        .extend(junk::<u32>(random, 2 * objects, spare));
-    store.links.extend(junk::<u32>(random, 4 * links, spare));
+    let data: Vec<u8> = junk(random, data, spare);
+    let objects: Vec<u32> = junk(random, 2 * objects, spare);
+    let links: Vec<u32> = junk(random, 4 * links, spare);
+    store.data.extend(data);
+    store.objects.extend(objects);
+    store.links.extend(links);
     Call {
         store,
         table,

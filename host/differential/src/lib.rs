@@ -3,6 +3,25 @@
 //! The rules are written here a second time, in plain Rust and from the paper alone: clear before
 //! fast. Whatever splits a store is a [`Subject`]; the [`Model`] is one. Two subjects agree if a
 //! call leaves the same answer and the same contents, to the last number.
+//!
+//! | module | holds |
+//! |---|---|
+//! | [`model`] | the rules: soundness, answers, cut places, what is written, pairs |
+//! | [`generate`] | valid stores of both formats, each from its seed |
+//! | [`lend`] | scratch and room for a call, exact or ample |
+//! | [`damage`] | damaged calls, one for each edge of each refusal |
+//! | [`compare`] | what is reachable from tables, renumbered, parts by meaning |
+//! | [`product`] | where the 16-bit product of the crate's text shows |
+//! | [`check`] | what must hold of a split, against the oracle and against the model |
+//!
+//! ```
+//! use differential::{check, generate, lend, Model, Random, Tally};
+//!
+//! let case = generate::format2(7);
+//! let call = lend::amply(&case.store, case.table, &mut Random::new(7));
+//! let split = check::Split::by(&Model, &call);
+//! check::as_the_oracle(&split, &mut Tally::default()).unwrap();
+//! ```
 
 #![deny(missing_docs)]
 

@@ -37,7 +37,7 @@ fn first_pair(tables: &[PairPos], glyphs: [u16; 2]) -> Pair {
 fn first_glyphs(pairpos: &PairPos, random: &mut Random) -> Vec<u16> {
     let mut glyphs = pairpos.parts.glyphs.clone();
     random.shuffle(&mut glyphs);
-    glyphs.truncate(60);
+    glyphs.truncate(40);
     glyphs.extend([0, u16::MAX, random.number() as u16]);
     glyphs
 }

@@ -168,13 +168,8 @@ fn new_table(pairpos: &PairPos, items: &Range<usize>) -> Vec<u8> {
 fn links(pairpos: &PairPos, new: &[Piece], new_tables: &[u32], kept_parts: u32) -> Vec<Link> {
     let cut_off = pairpos.header.item_pos(new[0].items.start);
     let stays = |link: &&Link| link[0] != pairpos.table || (link[1] as usize) < cut_off;
-    let mut links: Vec<Link> = pairpos
-        .objects
-        .links()
-        .iter()
-        .filter(stays)
-        .copied()
-        .collect();
+    let old_links = pairpos.objects.links().iter();
+    let mut links: Vec<Link> = old_links.filter(stays).copied().collect();
     for link in &mut links {
         if link[0] == pairpos.table {
             link[3] = kept_child(link, kept_parts);
