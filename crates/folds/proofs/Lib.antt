@@ -16,3 +16,7 @@ pub mod Joined
 pub mod Behind
 pub mod Bits
 pub mod Sifted
+pub mod Each
+pub mod Moved
+pub mod TwoParts
+pub mod Offsets

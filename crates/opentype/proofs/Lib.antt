@@ -15,3 +15,9 @@ pub mod ClassDefRoundTrip
 pub mod Values
 pub mod RunStarts
 pub mod ByGlyph
+pub mod Shapes
+pub mod Slots
+pub mod Octets
+pub mod Entries
+pub mod RangesCounted
+pub mod BytesWritten

@@ -3,3 +3,15 @@ pub mod Figures
 pub mod Examples
 pub mod Sound
 pub mod Reached
+pub mod CutPlaces
+pub mod FirstCut
+pub mod Lookups
+pub mod ItemLinks
+pub mod LinkRows
+pub mod Entries
+pub mod PairByItem
+pub mod Checks
+pub mod NewCounts
+pub mod ObjectRows
+pub mod NewTable
+pub mod TableLinks

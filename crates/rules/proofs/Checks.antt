@@ -1,0 +1,176 @@
+-- What is known of a table once the checks of a reading are passed. Assumes nothing.
+use Prim.Native.Nat.{ℕ, _<_, _≤_}
+use mathlib.Core.Path.{_≡_, refl, sym}
+use mathlib.Core.Bool.{Bool, true, false, cond, _&&_, _||_}
+use mathlib.Core.List.{List, [], _∷_, _++_}
+use mathlib.Core.Option.{Option, some, none}
+use native.Mathlib.Omega.{arith}
+use lib.ListN.{length}
+use lib.Dec.{eqb, ltb}
+use borrow.Author.Tests.{not-false, leb-false, ltb-false, eqb-true, lt-leb, le-ltb, eq-eqb}
+use Rattle.folds.specs.Lists.{isSome}
+use Rattle.folds.proofs.Tests.{true-false, and-both}
+use Rattle.folds.proofs.Folds.{all-at}
+use Rattle.folds.proofs.Joined.{and-three}
+use Rattle.opentype.specs.Coverage.{coverReadable}
+use Rattle.opentype.specs.ClassDef.{classReadable}
+use Rattle.opentype.specs.PairPos.{formatOf, itemAt, exact, isSlot}
+use Rattle.opentype.proofs.Runs.{Ascends, Under}
+use Rattle.opentype.proofs.CoverageGlyphs.{cover-sorted, sorted-ascends, sorted-under}
+use Rattle.opentype.proofs.Octets.{Bytes, bytes-part, bytes-u16}
+use Rattle.rules.specs.Store.{Store, sound, bytesOf, childAt, headOf, tailOf, parentOf, positionOf, linkAt}
+use Rattle.rules.specs.Walk.{ofTable}
+use Rattle.rules.specs.Table.{shape, partsReadable, glyphsOf, linkedBytes, entriesOf, linkedAt, allAtSlots}
+use Rattle.rules.specs.Answers.{Case, firstCase, readCases}
+use Rattle.rules.proofs.Entries.{entries-glyphs}
+
+-- ---- the first case that applies
+
+pub first-head : (c : Case) (cs : List Case) → firstCase (c ∷ cs) ≡ none → (c .applies ≡ false) × (firstCase cs ≡ none)
+unfolding firstCase
+first-head c cs h = go (c .applies) h
+  where
+    go : (b : Bool) → cond b (some (c .answer)) (firstCase cs) ≡ none → (b ≡ false) × (firstCase cs ≡ none)
+    go true e = let z : _≡_ {A = ℕ} 0 1 = cc in absurd (omega arith)
+    go false e = (refl, e)
+
+pub first-append : (xs ys : List Case) → firstCase (xs ++ ys) ≡ none → (firstCase xs ≡ none) × (firstCase ys ≡ none)
+unfolding firstCase
+first-append [] ys h = (refl, h)
+first-append (x ∷ xs) ys h =
+    let (a, b) = first-head x (xs ++ ys) h in
+    let (c, d) = first-append xs ys b in
+    (rw (a, c), d)
+
+pub first-skip : (xs ys : List Case) → firstCase xs ≡ none → firstCase (xs ++ ys) ≡ firstCase ys
+unfolding firstCase
+first-skip [] ys h = refl
+first-skip (x ∷ xs) ys h = go (x .applies) h (first-skip xs ys)
+  where
+    go : (b : Bool) → cond b (some (x .answer)) (firstCase xs) ≡ none → (firstCase xs ≡ none → firstCase (xs ++ ys) ≡ firstCase ys) → cond b (some (x .answer)) (firstCase (xs ++ ys)) ≡ firstCase ys
+    go true e ih = let z : _≡_ {A = ℕ} 0 1 = cc in absurd (omega arith)
+    go false e ih = ih e
+
+-- a case that applies stands before others
+pub first-stands : (xs ys : List Case) (n : ℕ) → firstCase xs ≡ some n → firstCase (xs ++ ys) ≡ some n
+unfolding firstCase
+first-stands [] ys n h = let z : _≡_ {A = ℕ} 0 1 = cc in absurd (omega arith)
+first-stands (x ∷ xs) ys n h = go (x .applies) h (first-stands xs ys n)
+  where
+    go : (b : Bool) → cond b (some (x .answer)) (firstCase xs) ≡ some n → (firstCase xs ≡ some n → firstCase (xs ++ ys) ≡ some n) → cond b (some (x .answer)) (firstCase (xs ++ ys)) ≡ some n
+    go true e ih = e
+    go false e ih = ih e
+
+-- and one behind them stands too, or another before it does
+pub some-case : (xs ys : List Case) → (n : ℕ) × (firstCase ys ≡ some n) → (n : ℕ) × (firstCase (xs ++ ys) ≡ some n)
+unfolding firstCase
+some-case [] ys h = h
+some-case (x ∷ xs) ys h = go (x .applies) (some-case xs ys h)
+  where
+    go : (b : Bool) → (n : ℕ) × (firstCase (xs ++ ys) ≡ some n) → (n : ℕ) × (cond b (some (x .answer)) (firstCase (xs ++ ys)) ≡ some n)
+    go true i = (x .answer, refl)
+    go false i = i
+
+-- ---- 1 to 5
+
+-- none of them applies, and the format is 1 or 2
+pub record Reads (s : Store) (t : ℕ) : Type 0 where
+  pub sounds : sound s ≡ true
+  pub used : t < s .objectCount
+  pub two : 2 ≤ length (bytesOf s t)
+  pub known : (eqb (formatOf (bytesOf s t)) 1 || eqb (formatOf (bytesOf s t)) 2) ≡ true
+  pub exactly : length (bytesOf s t) ≡ itemAt (shape s t) (shape s t .count)
+  pub parts : partsReadable s t ≡ true
+  pub enough : (eqb (formatOf (bytesOf s t)) 1 && ltb (length (glyphsOf s t)) (shape s t .count)) ≡ false
+
+pub no-case-reads : (s : Store) (t : ℕ) → firstCase (readCases s t) ≡ none → Reads s t
+unfolding readCases exact
+no-case-reads s t h =
+    let (a1, h1) = first-head _ _ h in
+    let (a2, h2) = first-head _ _ h1 in
+    let (a3, h3) = first-head _ _ h2 in
+    let (a4, h4) = first-head _ _ h3 in
+    let (a5, h5) = first-head _ _ h4 in
+    let (a6, h6) = first-head _ _ h5 in
+    let (a7, h7) = first-head _ _ h6 in
+    record {
+      sounds = not-false (sound s) a1;
+      used = leb-false (s .objectCount) t a2;
+      two = ltb-false (length (bytesOf s t)) 2 a3;
+      known = not-false _ a4;
+      exactly = eqb-true (length (bytesOf s t)) (itemAt (shape s t) (shape s t .count)) (not-false _ a5);
+      parts = not-false (partsReadable s t) a6;
+      enough = a7;
+    }
+
+pub reads-no-case : (s : Store) (t : ℕ) → Reads s t → firstCase (readCases s t) ≡ none
+unfolding readCases firstCase exact
+reads-no-case s t r =
+    rw (
+      r .sounds,
+      lt-leb (s .objectCount) t (r .used),
+      le-ltb (length (bytesOf s t)) 2 (r .two),
+      r .known,
+      eq-eqb (length (bytesOf s t)) (itemAt (shape s t) (shape s t .count)) (r .exactly),
+      r .parts,
+      r .enough,
+    )
+
+-- ---- 4: coverage and class definitions
+
+some-of : (o : Option ℕ) → isSome o ≡ true → (c : ℕ) × (o ≡ some c)
+some-of (some c) h = (c, refl)
+some-of none h = true-false (sym h)
+
+-- they are there
+pub record Parts (s : Store) (t : ℕ) : Type 0 where
+  pub cover : (c : ℕ) × (childAt s t 2 ≡ some c)
+  pub class1 : eqb (shape s t .format) 1 ≡ false → (c : ℕ) × (childAt s t 8 ≡ some c)
+  pub class2 : eqb (shape s t .format) 1 ≡ false → (c : ℕ) × (childAt s t 10 ≡ some c)
+
+pub cover-read : (s : Store) (t : ℕ) → partsReadable s t ≡ true → coverReadable (linkedBytes s t 2) ≡ true
+unfolding partsReadable
+cover-read s t h =
+    let (p, q) = and-both (isSome (childAt s t 2) && coverReadable (linkedBytes s t 2)) _ h in
+    and-both (isSome (childAt s t 2)) (coverReadable (linkedBytes s t 2)) p .1
+
+pub class-read : (s : Store) (t : ℕ) → partsReadable s t ≡ true → eqb (shape s t .format) 1 ≡ false
+    → (isSome (childAt s t 8) ≡ true) × (classReadable (linkedBytes s t 8) ≡ true) × (isSome (childAt s t 10) ≡ true) × (classReadable (linkedBytes s t 10) ≡ true)
+unfolding partsReadable
+class-read s t h e =
+    let (p, q) = and-both (isSome (childAt s t 2) && coverReadable (linkedBytes s t 2)) _ h in
+    let r : (isSome (childAt s t 8) && classReadable (linkedBytes s t 8) && isSome (childAt s t 10) && classReadable (linkedBytes s t 10)) ≡ true = rw e at q in
+    let (x, d) = and-both (isSome (childAt s t 8) && classReadable (linkedBytes s t 8) && isSome (childAt s t 10)) (classReadable (linkedBytes s t 10)) r in
+    let (a, b, c) = and-three (isSome (childAt s t 8)) (classReadable (linkedBytes s t 8)) (isSome (childAt s t 10)) x in
+    (a, b, c, d)
+
+pub parts-read : (s : Store) (t : ℕ) → partsReadable s t ≡ true → Parts s t
+unfolding partsReadable
+parts-read s t h =
+    let (p, q) = and-both (isSome (childAt s t 2) && coverReadable (linkedBytes s t 2)) _ h in
+    record {
+      cover = some-of (childAt s t 2) (and-both (isSome (childAt s t 2)) (coverReadable (linkedBytes s t 2)) p .0);
+      class1 = λ e. some-of (childAt s t 8) (class-read s t h e .0);
+      class2 = λ e. some-of (childAt s t 10) (class-read s t h e .2);
+    }
+
+-- ---- the covered glyphs
+pub entries-ascend : (s : Store) (t : ℕ) → Reads s t → Ascends 0 (entriesOf s t)
+entries-ascend s t r =
+    let (hi, u, x) = cover-sorted (linkedBytes s t 2) (cover-read s t (r .parts)) in
+    sorted-ascends (entriesOf s t) 0 hi (rw (entries-glyphs s t) x)
+
+-- the bytes of an object of a store of bytes
+pub object-bytes : (s : Store) → Bytes (s .bytes) → (i : ℕ) → Bytes (bytesOf s i)
+unfolding bytesOf
+object-bytes s h i = bytes-part (s .bytes) (headOf s i) (tailOf s i) h
+
+pub entries-under : (s : Store) (t : ℕ) → Reads s t → Bytes (s .bytes) → Under 65536 (entriesOf s t)
+entries-under s t r h =
+    let (hi, u, x) = cover-sorted (linkedBytes s t 2) (cover-read s t (r .parts)) in
+    sorted-under (entriesOf s t) 0 hi 65536 (u (bytes-u16 (linkedBytes s t 2) (object-bytes s h (linkedAt s t 2)))) (rw (entries-glyphs s t) x)
+
+-- ---- 7: the links of the table stand at slots
+pub at-slot : (s : Store) (t : ℕ) → allAtSlots s t ≡ true → (k : ℕ) → k < s .linkCount → parentOf s k ≡ t → isSlot (shape s t) (positionOf s k) ≡ true
+unfolding allAtSlots
+at-slot s t h k l e = rw (eq-eqb (parentOf s k) t e) at (all-at (λ k. cond (ofTable t (linkAt s k)) (isSlot (shape s t) (positionOf s k)) true) (s .linkCount) h k l)
