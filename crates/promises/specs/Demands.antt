@@ -1,66 +1,125 @@
--- Demand 3's four theorems, as statements over the definitions (types only). "After a split" means with at least one cut. Assumes nothing.
-use Prim.Native.Nat.{ℕ, _+_, _<_}
+-- What is promised of every call, as statements over its outcome in `rules`. Assumes nothing.
+use Prim.Native.Nat.{ℕ, _+_, _<_, _≤_}
 use mathlib.Core.Path.{_≡_}
 use mathlib.Core.Bool.{true, false}
-use mathlib.Core.List.{List, _∷_, map}
+use mathlib.Core.List.{List, [], _∷_, map}
 use mathlib.Core.Option.{none}
-use lib.ListN.{length, getD}
-use Rattle.folds.specs.Lists.{part, put}
+use lib.ListN.{length, replicate, getD}
+use lib.IntN.{pos}
+use Rattle.folds.specs.Lists.{put, among, part}
 use Rattle.opentype.specs.Numbers.{be16}
-use Rattle.opentype.specs.Coverage.{Entry, coverGlyphs}
-use Rattle.opentype.specs.ClassDef.{classOf}
-use Rattle.opentype.specs.PairPos.{itemAt}
-use Rattle.rules.specs.Store.{Store, sound, headOf, tailOf, bytesOf, childAt}
+use Rattle.opentype.specs.Coverage.{Entry, coverageBytes}
+use Rattle.opentype.specs.ClassDef.{classOf, classDefBytes}
+use Rattle.opentype.specs.PairPos.{formatOf, itemAt}
+use Rattle.rules.specs.Store.{Store, sound, bytesOf, childAt, headOf, tailOf}
 use Rattle.rules.specs.Cuts.{within}
-use Rattle.rules.specs.Table.{shape, entriesOf, linkedBytes, cutPlaces}
-use Rattle.rules.specs.Written.{from, to, newNumber, newTable, newTables}
-use Rattle.rules.specs.Pairs.{pairOf, pairAmong}
-use Rattle.rules.specs.Answers.{Scratch, splitCall, scratchShort, cleared, firstCase, readCases}
+use Rattle.rules.specs.Table.{cutPlaces, entriesOf, glyphsOf, linkedBytes, linkedAt, shape}
+use Rattle.rules.specs.Written.{newTables, reduced, from, newNumber, to, newTable}
+use Rattle.rules.specs.Pairs.{noPair, pairAmong, pairOf}
+use Rattle.rules.specs.Answers.{Scratch, Outcome, cleared, splitCall, planCall, pairCall, reported, firstCase, readCases, scratchShort}
 
--- what a list has past its end
-abbrev noEntry : Entry
-noEntry = record { glyph = 0; class = 0 }
+-- ---- 1: what a call leaves that does not split
+
+-- "returns a count of 0 new tables and keeps store, counts and result list"; "All lent scratch is zero after every call."
+pub record Unchanged (s : Store) (w : Scratch) (list : List ℕ) (o : Outcome) : Type 0 where
+  pub noneNew : o .count ≡ 0
+  pub sameStore : o .store ≡ s
+  pub sameList : o .list ≡ list
+  pub zeroScratch : o .scratch ≡ cleared w
+
+-- "Each number but 0 .. returns a count of 0 new tables and keeps store, counts and result list."
+abbrev pub Refusals : Type 0
+Refusals =
+    (s : Store) (t : ℕ) (w : Scratch) (list : List ℕ)
+    → ((splitCall s t w list .answer ≡ 0 → ⊥) → Unchanged s w list (splitCall s t w list))
+    × ((planCall s t w list .answer ≡ 0 → ⊥) → Unchanged s w list (planCall s t w list))
+
+-- "With no cut, 0 also changes nothing."
+abbrev pub NoCutNothing : Type 0
+NoCutNothing =
+    (s : Store) (t : ℕ) (w : Scratch) (list : List ℕ) → cutPlaces s t ≡ []
+    → Unchanged s w list (splitCall s t w list) × Unchanged s w list (planCall s t w list)
+
+-- "A format other than 1 or 2 answers 0 with no new tables straight after check 3's first clause"; "another format is 0 and no pair"
+abbrev pub OtherFormats : Type 0
+OtherFormats =
+    (s : Store) (t : ℕ) (w : Scratch) (list : List ℕ) → sound s ≡ true → t < s .objectCount → 2 ≤ length (bytesOf s t)
+    → (formatOf (bytesOf s t) ≡ 1 → ⊥) → (formatOf (bytesOf s t) ≡ 2 → ⊥)
+    → (splitCall s t w list .answer ≡ 0) × Unchanged s w list (splitCall s t w list)
+    × (planCall s t w list .answer ≡ 0) × Unchanged s w list (planCall s t w list)
+    × ((a b : ℕ) → pairCall s t a b ≡ reported 0 noPair)
+
+-- "refuses by 1 to 5 in this order with no pair and sixteen zeros"
+abbrev pub PairRefusals : Type 0
+PairRefusals =
+    (s : Store) (t a b : ℕ) → (pairCall s t a b .answer ≡ 0 → ⊥)
+    → (pairCall s t a b .found ≡ 0) × (pairCall s t a b .values ≡ replicate 16 (pos 0))
+
+-- the plan writes to its own list and to the scratch alone
+abbrev pub PlanReads : Type 0
+PlanReads = (s : Store) (t : ℕ) (w : Scratch) (list : List ℕ) → (planCall s t w list .store ≡ s) × (planCall s t w list .scratch ≡ cleared w)
 
 -- ---- after a split
 
--- the call splits: it answers 0, and there is a cut
+-- "'After a split' .. means with at least one cut": the call answers 0, and there are new tables
 pub record Splits (s : Store) (t : ℕ) (w : Scratch) (list : List ℕ) : Type 0 where
   pub answers : splitCall s t w list .answer ≡ 0
   pub cuts : 0 < splitCall s t w list .count
-
--- the data are bytes, as a caller's buffer of u8 is: else a glyph number may pass 65,535, and a class definition that is written for it is unreadable
-abbrev pub Octets : Store → Type 0
-Octets s = (i : ℕ) → getD (s .bytes) i 0 < 256
 
 -- the store at exit
 abbrev pub storeThen : Store → ℕ → Scratch → List ℕ → Store
 storeThen s t w list = splitCall s t w list .store
 
+-- ---- 2: "The new-table count equals the cuts of the rule", and the list starts with the new tables' numbers
+
+abbrev pub AsManyAsCuts : Type 0
+AsManyAsCuts =
+    (s : Store) (t : ℕ) (w : Scratch) (list : List ℕ) → Splits s t w list
+    → (splitCall s t w list .count ≡ length (cutPlaces s t)) × (splitCall s t w list .list ≡ put list 0 (newTables s t (cutPlaces s t)))
+
+-- ---- 3: pairs are kept
+
 -- the resulting tables: the kept one, then the new ones
 abbrev pub resulting : Store → ℕ → List ℕ
 resulting s t = t ∷ newTables s t (cutPlaces s t)
 
--- ---- pairs are kept: the resulting tables together read what the old table read, and no two of them have the same pair
-
+-- "reading the kept table and then the new ones in order" gives each pair as the old table gave it, and no two of them have the same pair
 abbrev pub PairsKept : Type 0
 PairsKept =
-    (s : Store) (t : ℕ) (w : Scratch) (list : List ℕ) → Splits s t w list → (a b : ℕ) → a < 65536 → b < 65536
+    (s : Store) (t : ℕ) (w : Scratch) (list : List ℕ) → Splits s t w list → (a b : ℕ)
     → (pairAmong (storeThen s t w list) (resulting s t) a b ≡ pairOf s t a b)
     × ((i j : ℕ) → i < j → j < length (resulting s t) → pairOf (storeThen s t w list) (getD (resulting s t) i 0) a b .found ≡ true
     → pairOf (storeThen s t w list) (getD (resulting s t) j 0) a b .found ≡ false)
 
--- ---- each table is written afresh, by "What is written" from the old table alone
+-- ---- 3: each table is written afresh
 
--- object u of s′ is the table of items lo up to hi of the old table t
+-- the data are bytes, as a caller's buffer of u8 is: else a glyph number may pass 65,535, and a class definition that is written for it is unreadable
+abbrev pub Octets : Store → Type 0
+Octets s = (i : ℕ) → getD (s .bytes) i 0 < 256
+
+-- the entries of the items lo up to hi
+abbrev pub ranged : Store → ℕ → ℕ → ℕ → List Entry
+ranged s t lo hi = within lo hi (entriesOf s t)
+
+-- object u of s′ is the table of items lo up to hi of the old table t, "by this section from the old table alone"
 pub record Afresh (s : Store) (t : ℕ) (s′ : Store) (u lo hi : ℕ) : Type 0 where
+  -- it is a table that can be read: 1 to 5 do not apply
   pub readable : firstCase (readCases s′ u) ≡ none
-  pub covers : coverGlyphs (linkedBytes s′ u 2) ≡ map (λ e. e .glyph) (within lo hi (entriesOf s t))
-  pub items : (i q : ℕ) → i + lo < hi → q < shape s t .item → childAt s′ u (itemAt (shape s t) i + q) ≡ childAt s t (itemAt (shape s t) (i + lo) + q)
-  pub classes : shape s t .format ≡ 2 → (k : ℕ) → k < length (within lo hi (entriesOf s t))
-      → classOf (linkedBytes s′ u 8) (getD (within lo hi (entriesOf s t)) k noEntry .glyph) + lo ≡ getD (within lo hi (entriesOf s t)) k noEntry .class
+  -- it "covers the glyphs whose class lies in its range", in format 1 those whose place does
+  pub covers : glyphsOf s′ u ≡ map (λ e. e .glyph) (ranged s t lo hi)
+  pub coverBytes : linkedBytes s′ u 2 ≡ coverageBytes (map (λ e. e .glyph) (ranged s t lo hi))
+  -- coverage and class definition 1 are "always .. new objects"
+  pub coverNew : s .objectCount ≤ linkedAt s′ u 2
+  pub classNew : shape s t .format ≡ 2 → s .objectCount ≤ linkedAt s′ u 8
+  -- "classes reduced by its first"
+  pub classes : shape s t .format ≡ 2 → (g : ℕ) → among g (glyphsOf s′ u) ≡ true → classOf (linkedBytes s′ u 8) g + lo ≡ classOf (linkedBytes s t 8) g
+  pub classBytes : shape s t .format ≡ 2 → linkedBytes s′ u 8 ≡ classDefBytes (reduced lo (ranged s t lo hi))
+  -- "Class definition 2 is shared."
   pub shared : shape s t .format ≡ 2 → childAt s′ u 10 ≡ childAt s t 10
+  -- "Links of its items move to it, same children."
+  pub items : (i q : ℕ) → i + lo < hi → q < shape s t .item → childAt s′ u (itemAt (shape s t) i + q) ≡ childAt s t (itemAt (shape s t) (i + lo) + q)
 
--- the new tables' bytes are new, the kept table's are its own with the count set
+-- the kept table "has items below p0, and is shortened in place with its count set"; "Each new table runs from one cut to the next or to the end"
 pub record AllAfresh (s : Store) (t : ℕ) (s′ : Store) (cs : List ℕ) : Type 0 where
   pub kept : Afresh s t s′ t 0 (from cs 0)
   pub keptBytes : bytesOf s′ t ≡ put (part (bytesOf s t) 0 (itemAt (shape s t) (from cs 0))) (shape s t .countAt) (be16 (from cs 0))
@@ -71,7 +130,7 @@ abbrev pub WrittenAfresh : Type 0
 WrittenAfresh =
     (s : Store) (t : ℕ) (w : Scratch) (list : List ℕ) → Octets s → Splits s t w list → AllAfresh s t (storeThen s t w list) (cutPlaces s t)
 
--- ---- every other object in use keeps its place, its bytes and its links
+-- ---- 3: every other object in use keeps its place, its bytes and its links
 
 abbrev pub OthersKept : Type 0
 OthersKept =
@@ -79,14 +138,15 @@ OthersKept =
     → (headOf (storeThen s t w list) i ≡ headOf s i) × (tailOf (storeThen s t w list) i ≡ tailOf s i)
     × (bytesOf (storeThen s t w list) i ≡ bytesOf s i) × ((q : ℕ) → childAt (storeThen s t w list) i q ≡ childAt s i q)
 
--- ---- splitting the kept table again, with scratch enough, changes nothing
+-- ---- 3: splitting the kept table again, scratch being enough, adds and changes nothing
 
 abbrev pub AgainNothing : Type 0
 AgainNothing =
     (s : Store) (t : ℕ) (w : Scratch) (list : List ℕ) → Octets s → Splits s t w list
     → (v : Scratch) (list′ : List ℕ) → scratchShort (storeThen s t w list) t v ≡ false
-    → splitCall (storeThen s t w list) t v list′
-    ≡ record { answer = 0; count = 0; store = storeThen s t w list; list = list′; scratch = cleared v }
+    → (splitCall (storeThen s t w list) t v list′ .answer ≡ 0) × Unchanged (storeThen s t w list) v list′ (splitCall (storeThen s t w list) t v list′)
+
+-- ---- what a split leaves can be lent again
 
 -- the store stays sound
 abbrev pub StaysSound : Type 0

@@ -1,33 +1,37 @@
--- What a table of a range reads at an item is what the old table reads at that item. Assumes nothing.
-use Prim.Native.Nat.{ℕ, zero, suc, _+_, _-_, _*_, _<_, _≤_}
+-- The table of a range has the old table's pairs whose item lies in the range. Assumes nothing.
+use Prim.Native.Nat.{ℕ, _+_, _-_, _*_, _<_, _≤_}
 use mathlib.Core.Path.{_≡_, refl, sym, ap, ap₂, _∙_}
 use mathlib.Core.Bool.{Bool, true, false, cond, _&&_}
 use mathlib.Core.List.{List}
-use mathlib.Core.Logic.{_⊎_, ⊎-elim}
 use mathlib.Core.Option.{Option, some, none}
 use native.Mathlib.Omega.{arith}
-use native.Mathlib.Nat.{le-of-suc-le-suc, eq-or-lt-of-le, mul-add, add-mul, mul-assoc, mul-comm, mul-le-mul-left, mul-le-mul-right}
+use native.Mathlib.Nat.{add-mul, mul-assoc, mul-comm, mul-add, mul-le-mul-right, mul-le-mul-left}
 use lib.ListN.{getD}
+use lib.Dec.{eqb, ltb, leb}
 use lib.IntN.{pos}
-use lib.Dec.{eqb, ltb}
-use borrow.Author.Tests.{eqb-false, ltb-true, lt-ltb}
-use Rattle.folds.specs.Lists.{andThen, given}
-use Rattle.folds.specs.Folds.{upto, sum}
-use Rattle.opentype.specs.Numbers.{u16At, signed16}
-use Rattle.opentype.specs.Values.{bit, fieldAt, fieldCount, position}
-use Rattle.opentype.specs.ClassDef.{classOf}
-use Rattle.opentype.specs.PairPos.{Shape, value1, value2, columns, recordSize, itemAt, valuesAt, firstRecord, shape1, shape2}
-use Rattle.rules.specs.Store.{Store, bytesOf, childAt}
-use Rattle.rules.specs.Table.{shape, linkedBytes}
-use Rattle.rules.specs.Pairs.{Spot, Pair, deviceNumber, numberOf, pairAt}
-use Rattle.folds.proofs.Tests.{true-false}
-use Rattle.promises.proofs.Setting.{by-format}
+use borrow.Author.Tests.{lt-ltb, ltb-true, leb-true}
+use Rattle.folds.specs.Folds.{upto}
+use Rattle.folds.specs.Lists.{given, andThen}
+use Rattle.folds.proofs.Tests.{by-test, and-both}
 use Rattle.folds.proofs.Folds.{upto-same}
-use Rattle.promises.proofs.View.{View, u16-same}
-use Rattle.promises.proofs.Entries.{view-shape, view-value1, view-value2, view-columns, view-record, linked-some}
-use Rattle.promises.proofs.Items.{setSpot, rowSpot}
+use Rattle.opentype.specs.Numbers.{signed16, u16At}
+use Rattle.opentype.specs.Values.{bit, fieldAt, position, fieldCount}
+use Rattle.opentype.specs.Coverage.{Entry}
+use Rattle.opentype.specs.ClassDef.{classOf}
+use Rattle.opentype.specs.PairPos.{itemAt, recordSize, value1, value2, columns, Shape, firstRecord, valuesAt}
+use Rattle.opentype.proofs.Runs.{Ascends}
+use Rattle.opentype.proofs.Shapes.{format-two, format-one}
+use Rattle.opentype.proofs.Slots.{field-fits}
+use Rattle.opentype.proofs.Octets.{u16-same}
+use Rattle.rules.specs.Store.{Store, bytesOf, childAt}
+use Rattle.rules.specs.Table.{shape, linkedBytes, entriesOf}
+use Rattle.rules.specs.Pairs.{numberOf, deviceNumber, pairAt, Spot, pairOf, noPair}
+use Rattle.rules.proofs.Examples.{found}
+use Rattle.rules.proofs.Lookups.{linked-some}
+use Rattle.rules.proofs.PairByItem.{rowSpot, setSpot, itemSpot, lies, entryOf, spot-by-item, entry-ranged, reduce}
+use Rattle.promises.proofs.View.{View, view-shape, view-columns, view-record, view-value1, view-value2, view-test, view-entries}
 
--- ---- arithmetic
+-- ---- rows, shifted
 
 row-shift : (r k i c lo : ℕ) → r * ((i + lo) * k + c) ≡ r * (i * k + c) + r * k * lo
 row-shift r k i c lo =
@@ -42,23 +46,6 @@ row-fits r k i c lo hi h l =
     let b : r * k * lo ≡ r * (lo * k) = mul-assoc r k lo ∙ ap (λ (n : ℕ). r * n) (mul-comm k lo) in
     let d : r * k * hi ≡ r * (hi * k) = mul-assoc r k hi ∙ ap (λ (n : ℕ). r * n) (mul-comm k hi) in
     omega (arith, mul-le-mul-left {m = i * k + c + 1 + lo * k} {n = hi * k} r n, mul-add r (i * k + c + 1) (lo * k), mul-add r (i * k + c) 1)
-
--- ---- a field lies in its value record
-
-sum-le : (f : ℕ → ℕ) (k n : ℕ) → k ≤ n → sum f k ≤ sum f n
-unfolding sum
-sum-le f k zero l = let e : k ≡ 0 = omega arith in rw e (omega arith)
-sum-le f k (suc n) l =
-    ⊎-elim (λ e. rw e (omega arith))
-    (λ lt. let h : sum f k ≤ sum f n = sum-le f k n (le-of-suc-le-suc lt) in omega arith)
-    (eq-or-lt-of-le l)
-
-pub field-fits : (vf j : ℕ) → j < 8 → eqb (bit vf j) 0 ≡ false → position vf j + 1 ≤ fieldCount vf
-unfolding position fieldCount sum
-field-fits vf j h e =
-    let z : sum (bit vf) (suc j) ≤ sum (bit vf) 8 = sum-le (bit vf) (suc j) 8 h in
-    let n : bit vf j ≡ 0 → ⊥ = eqb-false (bit vf j) 0 e in
-    omega arith
 
 -- ---- numbers
 
@@ -89,16 +76,7 @@ module _ {s : Store} {t : ℕ} {s′ : Store} {u lo hi : ℕ} (v : View s t s′
           (v .rows two p (omega arith) (omega arith) ∙ ap (λ (n : ℕ). getD (bytesOf s t) n 0) w)
           (v .rows two (p + 1) (omega arith) (omega arith) ∙ ap (λ (n : ℕ). getD (bytesOf s t) n 0) w1))
 
--- ---- format 2
-
--- what a format 2 shape has
-shape-two : (s : Store) (t : ℕ) → eqb (shape s t .format) 1 ≡ false → (shape s t .header ≡ 16) × (shape s t .item ≡ recordSize (bytesOf s t) * columns (bytesOf s t))
-unfolding shape1 shape2
-shape-two s t = by-format (λ sh. eqb (sh .format) 1 ≡ false → (sh .header ≡ 16) × (sh .item ≡ recordSize (bytesOf s t) * columns (bytesOf s t))) (bytesOf s t) (λ e f. true-false f) (λ e f. (refl, refl))
-
--- the pair at a byte of a table's own
-abbrev pairIn : Store → ℕ → ℕ → ℕ → ℕ → ℕ → Pair
-pairIn s o q vf1 vf2 j = record { found = true; first = upto (numberOf s o q vf1) 8; second = upto (numberOf s o (q + 2 * fieldCount vf1) vf2) 8 }
+-- ---- format 2: the row of an item
 
 record-is : (b : List ℕ) → recordSize b ≡ 2 * (fieldCount (value1 b) + fieldCount (value2 b))
 unfolding recordSize
@@ -124,8 +102,8 @@ module _ {s : Store} {t : ℕ} {s′ : Store} {u lo hi : ℕ} (v : View s t s′
   spot-old b i h =
       let hh = v .high in
       let y : ltb (i + lo) (shape s t .count) ≡ true = lt-ltb (i + lo) (shape s t .count) (omega arith) in
-      let (e, f) = shape-two s t two in
-      let g : shape s t .item * lo ≡ recordSize (bytesOf s t) * columns (bytesOf s t) * lo = ap (λ (n : ℕ). n * lo) f in
+      let f = format-two (bytesOf s t) two in
+      let g : shape s t .item * lo ≡ recordSize (bytesOf s t) * columns (bytesOf s t) * lo = ap (λ (n : ℕ). n * lo) (f .itemIs) in
       let z : 16 + recordSize (bytesOf s t) * ((i + lo) * columns (bytesOf s t) + classOf (linkedBytes s t 10) b) ≡ rowAt b i + shape s t .item * lo
       = omega (arith, row-shift (recordSize (bytesOf s t)) (columns (bytesOf s t)) i (classOf (linkedBytes s t 10) b) lo) in
       λ d. given (y d && ltb (classOf (linkedBytes s t 10) b) (columns (bytesOf s t))) (record { object = t; at = z d })
@@ -135,9 +113,9 @@ module _ {s : Store} {t : ℕ} {s′ : Store} {u lo hi : ℕ} (v : View s t s′
   unfolding pairAt
   pair-given b i h false c = refl
   pair-given b i h true c =
-      let (e, f) = shape-two s t two in
-      let g : shape s t .item * lo ≡ recordSize (bytesOf s t) * columns (bytesOf s t) * lo = ap (λ (n : ℕ). n * lo) f in
-      let g′ : shape s t .item * hi ≡ recordSize (bytesOf s t) * columns (bytesOf s t) * hi = ap (λ (n : ℕ). n * hi) f in
+      let f = format-two (bytesOf s t) two in
+      let g : shape s t .item * lo ≡ recordSize (bytesOf s t) * columns (bytesOf s t) * lo = ap (λ (n : ℕ). n * lo) (f .itemIs) in
+      let g′ : shape s t .item * hi ≡ recordSize (bytesOf s t) * columns (bytesOf s t) * hi = ap (λ (n : ℕ). n * hi) (f .itemIs) in
       let r = record-is (bytesOf s t) in
       let fits : rowAt b i + recordSize (bytesOf s t) + shape s t .item * lo ≤ itemAt (shape s t) hi = omega (arith, row-fits (recordSize (bytesOf s t)) (columns (bytesOf s t)) i (classOf (linkedBytes s t 10) b) lo hi h (c refl)) in
       let z : rowAt b i + 2 * fieldCount (value1 (bytesOf s t)) + shape s t .item * lo ≡ rowAt b i + shape s t .item * lo + 2 * fieldCount (value1 (bytesOf s t)) = omega arith in
@@ -157,11 +135,7 @@ module _ {s : Store} {t : ℕ} {s′ : Store} {u lo hi : ℕ} (v : View s t s′
       ∙ pair-given b i h (ltb (classOf (linkedBytes s t 10) b) (columns (bytesOf s t))) (λ e. ltb-true (classOf (linkedBytes s t 10) b) (columns (bytesOf s t)) e)
       ∙ sym (ap (pairAt s t) (spot-old b i h))
 
--- ---- format 1
-
-pub shape-one : (s : Store) (t : ℕ) → eqb (shape s t .format) 1 ≡ true → shape s t .item ≡ 2
-unfolding shape1 shape2
-shape-one s t = by-format (λ sh. eqb (sh .format) 1 ≡ true → sh .item ≡ 2) (bytesOf s t) (λ e f. refl) (λ e f. true-false (sym f))
+-- ---- format 1: the pair set of an item
 
 -- what t leads to is as it was
 abbrev pub Kin : Store → ℕ → Store → Type 0
@@ -197,7 +171,7 @@ module _ {s : Store} {t : ℕ} {s′ : Store} {u lo hi : ℕ} (v : View s t s′
   unfolding setSpot andThen
   set-pair b i h =
       let hh = v .high in
-      let i2 = shape-one s t one in
+      let i2 = format-one (bytesOf s t) one .itemIs in
       let m : shape s t .item * (i + lo) ≡ 2 * (i + lo) = ap (λ (n : ℕ). n * (i + lo)) i2 in
       let m1 : shape s t .item * i ≡ 2 * i = ap (λ (n : ℕ). n * i) i2 in
       let m2 : shape s t .item * lo ≡ 2 * lo = ap (λ (n : ℕ). n * lo) i2 in
@@ -212,3 +186,33 @@ module _ {s : Store} {t : ℕ} {s′ : Store} {u lo hi : ℕ} (v : View s t s′
       ∙ ap (λ (o : Option ℕ). pairAt s′ u (andThen o (inSet s′ (recordSize (bytesOf s′ u)) b))) w
       ∙ set-pair-at b (childAt s t (itemAt (shape s t) (i + lo))) (λ c r. kin (itemAt (shape s t) (i + lo)) c r)
       ∙ sym (ap (λ (z : Bool). pairAt s t (andThen (given z (itemAt (shape s t) (i + lo))) λ q. andThen (childAt s t q) (inSet s (recordSize (bytesOf s t)) b))) y)
+
+-- ---- in either format
+
+item-pair : {s : Store} {t : ℕ} {s′ : Store} {u lo hi : ℕ} → View s t s′ u lo hi → Ascends 0 (entriesOf s t) → Kin s t s′ → (b i : ℕ) → i + lo < hi → pairAt s′ u (itemSpot s′ u b i) ≡ pairAt s t (itemSpot s t b (i + lo))
+item-pair {s} {t} {s′} {u} {lo} {hi} v up kin b i h =
+    by-test (eqb (shape s t .format) 1)
+    (λ e. ap (λ (c : Bool). pairAt s′ u (cond c (setSpot s′ u b i) (rowSpot s′ u b i))) (view-test v up ∙ e) ∙ set-pair v e kin b i h ∙ sym (ap (λ (c : Bool). pairAt s t (cond c (setSpot s t b (i + lo)) (rowSpot s t b (i + lo)))) e))
+    (λ e. ap (λ (c : Bool). pairAt s′ u (cond c (setSpot s′ u b i) (rowSpot s′ u b i))) (view-test v up ∙ e) ∙ row-pair v e b i h ∙ sym (ap (λ (c : Bool). pairAt s t (cond c (setSpot s t b (i + lo)) (rowSpot s t b (i + lo)))) e))
+
+-- a table of a range has the pairs whose item lies in it
+pub pair-view : {s : Store} {t : ℕ} {s′ : Store} {u lo hi : ℕ} → View s t s′ u lo hi → Ascends 0 (entriesOf s t) → Kin s t s′ → (a b : ℕ)
+    → pairOf s′ u a b ≡ cond (lies lo hi (entryOf (entriesOf s t) a)) (pairOf s t a b) noPair
+unfolding pairOf andThen pairAt
+pair-view {s} {t} {s′} {u} {lo} {hi} v up kin a b =
+    ap (pairAt s′ u) (spot-by-item s′ u a b ∙ ap (λ (o : Option ℕ). andThen o (itemSpot s′ u b)) (ap (λ (x : List Entry). entryOf x a) (view-entries v up) ∙ entry-ranged (entriesOf s t) 0 lo hi a up))
+    ∙ go (entryOf (entriesOf s t) a)
+    ∙ sym (ap (λ (x : Option Spot). cond (lies lo hi (entryOf (entriesOf s t) a)) (pairAt s t x) noPair) (spot-by-item s t a b))
+  where
+    go : (o : Option ℕ) → pairAt s′ u (andThen (andThen o (reduce lo hi)) (itemSpot s′ u b)) ≡ cond (lies lo hi o) (pairAt s t (andThen o (itemSpot s t b))) noPair
+    go none = refl
+    go (some i) = test (leb lo i && ltb i hi) refl
+      where
+        test : (x : Bool) → (leb lo i && ltb i hi) ≡ x → pairAt s′ u (andThen (given x (i - lo)) (itemSpot s′ u b)) ≡ cond x (pairAt s t (itemSpot s t b i)) noPair
+        test true e =
+            let (p, q) = and-both (leb lo i) (ltb i hi) e in
+            let r : lo ≤ i = leb-true lo i p in
+            let w : i < hi = ltb-true i hi q in
+            let z : i - lo + lo ≡ i = omega arith in
+            item-pair v up kin b (i - lo) (omega arith) ∙ ap (λ (n : ℕ). pairAt s t (itemSpot s t b n)) z
+        test false e = refl

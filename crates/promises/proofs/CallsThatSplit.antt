@@ -1,0 +1,97 @@
+-- The demands speak of something: a store of bytes with a table that a call splits. And bytes are needed: without them a new table may be unreadable. Assumes nothing.
+use Prim.Native.Nat.{ℕ}
+use mathlib.Core.Path.{_≡_, refl, sym, _∙_}
+use mathlib.Core.Bool.{true}
+use mathlib.Core.List.{List, [], _∷_, _++_}
+use mathlib.Core.Logic.{⊎-elim}
+use mathlib.Core.Option.{Option, some, none}
+use native.Mathlib.Omega.{arith}
+use lib.ListN.{replicate, getD, List·getD-eq-default, length}
+use lib.Dec.{ltb}
+use borrow.Author.Tests.{ltb-true}
+use Rattle.folds.proofs.Tests.{either}
+use Rattle.folds.proofs.Table.{every, rule-at}
+use Rattle.opentype.specs.Numbers.{words, be16}
+use Rattle.opentype.proofs.Octets.{bytes-append, bytes-zeros, Bytes}
+use Rattle.rules.specs.Store.{Store}
+use Rattle.rules.specs.Table.{cutPlaces}
+use Rattle.rules.specs.Answers.{Scratch, scratchOf, splitCall, firstCase, readCases}
+use Rattle.rules.specs.Computing.{computes}
+use Rattle.rules.proofs.Examples.{answers}
+use Rattle.promises.specs.Demands.{Octets, Splits, storeThen, AllAfresh}
+
+-- ---- a call that splits: W9, one set of 65,518 bytes under a coverage of 6, with room
+
+unfoldable pub front : List ℕ
+front = words (1 ∷ 0 ∷ 0 ∷ 0 ∷ 1 ∷ 0 ∷ 1 ∷ 1 ∷ 10 ∷ [])
+
+unfoldable pub largeSet : Store
+largeSet =
+    record {
+      bytes = front ++ replicate 65618 0;
+      objects = 0 ∷ 12 ∷ 12 ∷ 18 ∷ 18 ∷ 65536 ∷ replicate 6 0;
+      links = 0 ∷ 2 ∷ 2 ∷ 1 ∷ 0 ∷ 10 ∷ 2 ∷ 2 ∷ replicate 4 0;
+      byteCount = 65536;
+      objectCount = 3;
+      linkCount = 2;
+    }
+
+unfoldable pub scratch : Scratch
+scratch = scratchOf (replicate 6 0) (replicate 8192 0) (0 ∷ []) (0 ∷ []) (0 ∷ [])
+
+pub large-octets : Octets largeSet
+unfolding largeSet front words be16
+large-octets = bytes-append front (replicate 65618 0) (below front refl) (bytes-zeros 65618)
+  where
+    below : (xs : List ℕ) → every (λ i x. ltb x 256) 0 xs ≡ true → Bytes xs
+    below xs e i = ⊎-elim (λ lt. ltb-true (getD xs i 0) 256 (rule-at (λ i x. ltb x 256) 0 xs e i lt)) (λ ge. omega (arith, List·getD-eq-default xs 0 ge)) (either i (length xs))
+
+large-answer : splitCall largeSet 0 scratch (0 ∷ []) .answer ≡ 0
+unfolding largeSet front scratch computes
+large-answer = refl
+
+large-count : splitCall largeSet 0 scratch (0 ∷ []) .count ≡ 1
+unfolding largeSet front scratch computes
+large-count = refl
+
+pub large-splits : Splits largeSet 0 scratch (0 ∷ [])
+large-splits = record { answers = large-answer; cuts = omega (arith, large-count) }
+
+-- ---- no bytes, no promise: a table whose coverage has the one glyph 65,536, of class 1
+
+unfoldable pub wildFront : List ℕ
+wildFront = words (1 ∷ 1 ∷ 65536 ∷ 2 ∷ 1 ∷ 65536 ∷ 65536 ∷ 1 ∷ 2 ∷ 0 ∷ 2 ∷ 0 ∷ 4 ∷ 0 ∷ 0 ∷ 0 ∷ 170 ∷ 200 ∷ [])
+
+-- objects: coverage 6, class definition 1 10, class definition 2 4, table 68,016
+unfoldable pub wild : Store
+wild =
+    record {
+      bytes = wildFront ++ replicate 76000 0;
+      objects = 0 ∷ 6 ∷ 6 ∷ 16 ∷ 16 ∷ 20 ∷ 20 ∷ 68036 ∷ replicate 10 0;
+      links = 3 ∷ 2 ∷ 2 ∷ 0 ∷ 3 ∷ 8 ∷ 2 ∷ 1 ∷ 3 ∷ 10 ∷ 2 ∷ 2 ∷ replicate 12 0;
+      byteCount = 68036;
+      objectCount = 4;
+      linkCount = 3;
+    }
+
+unfoldable pub wildScratch : Scratch
+wildScratch = scratchOf (replicate 8 0) (replicate 8192 0) (0 ∷ []) (0 ∷ []) (replicate 170 0)
+
+wild-answer : splitCall wild 3 wildScratch (0 ∷ []) .answer ≡ 0
+unfolding wild wildFront wildScratch computes
+wild-answer = refl
+
+wild-count : splitCall wild 3 wildScratch (0 ∷ []) .count ≡ 1
+unfolding wild wildFront wildScratch computes
+wild-count = refl
+
+-- the kept table's class definition 1 is unreadable
+wild-unreadable : firstCase (readCases (storeThen wild 3 wildScratch (0 ∷ [])) 3) ≡ some 4
+unfolding wild wildFront wildScratch computes
+wild-unreadable = refl
+
+pub not-without-bytes : ((s : Store) (t : ℕ) (w : Scratch) (list : List ℕ) → Splits s t w list → AllAfresh s t (storeThen s t w list) (cutPlaces s t)) → ⊥
+not-without-bytes h =
+    let r : firstCase (readCases (storeThen wild 3 wildScratch (0 ∷ [])) 3) ≡ none = h wild 3 wildScratch (0 ∷ []) (record { answers = wild-answer; cuts = omega (arith, wild-count) }) .kept .readable in
+    let z : _≡_ {A = Option ℕ} (some 4) none = sym wild-unreadable ∙ r in
+    let y : _≡_ {A = ℕ} 0 1 = cc in omega arith
