@@ -20,7 +20,7 @@ use Rattle.opentype.proofs.RunCount.{many, many-none}
 use Rattle.opentype.proofs.RunStarts.{entry, taken, starts, alone, run-starts, runs-apart}
 use Rattle.opentype.proofs.ByGlyph.{has, taken-all}
 use Rattle.rules.specs.Cuts.{within}
-use Rattle.estimator.specs.States.{classRanges}
+use Rattle.estimator.specs.States.{rangesSize}
 
 -- ---- glyphs that a test takes
 
@@ -162,11 +162,11 @@ module _ (all : List Entry) (up : Ascends 0 all) (under : Under 65536 all) where
         65536
         ∙ sym (ap₂ (λ (x y : List Entry). many x + many y) (named-taken a i) (named-taken i (i + 1)))
 
-    pub class-ranges : classRanges i (map (λ e. e .glyph) (within i (i + 1) all)) ≡ 6 * many (named (within i (i + 1) all))
-    unfolding classRanges namedIn
-    class-ranges = go (ℕ-discrete i 0)
+    pub class-size : rangesSize i (map (λ e. e .glyph) (within i (i + 1) all)) ≡ 6 * many (named (within i (i + 1) all))
+    unfolding rangesSize namedIn
+    class-size = go (ℕ-discrete i 0)
       where
-        go : Dec (i ≡ 0) → classRanges i (map (λ e. e .glyph) (within i (i + 1) all)) ≡ 6 * many (named (within i (i + 1) all))
+        go : Dec (i ≡ 0) → rangesSize i (map (λ e. e .glyph) (within i (i + 1) all)) ≡ 6 * many (named (within i (i + 1) all))
         go (yes z) =
             rw (eq-eqb i 0 z, named-taken i (i + 1))
             (omega (arith, many-none, ap many (picked-none (namedIn i (i + 1)) (λ g. entry g (classIn all g)) 65536 none)))

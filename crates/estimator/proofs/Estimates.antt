@@ -24,9 +24,9 @@ use Rattle.glyph_set.proofs.Marks.{mark-here, mark-other, length-mark}
 use Rattle.glyph_set.proofs.Members.{members-of}
 use Rattle.glyph_set.proofs.Emptied.{Empty, member-empty}
 use Rattle.estimator.specs.declared.Estimator.{Estimator}
-use Rattle.estimator.specs.States.{valuesOf, Counts, classRanges, Ready, Added, Small}
+use Rattle.estimator.specs.States.{valuesOf, Counts, rangesSize, Ready, Added, Small}
 use Rattle.estimator.proofs.Counting.{length-sift, members-le, runs-le}
-use Rattle.estimator.proofs.ByClass.{has-more, has-apart, runs-more, class-ranges}
+use Rattle.estimator.proofs.ByClass.{has-more, has-apart, runs-more, class-size}
 
 -- the state has the figures of the entries es, and the set their glyphs
 pub record Estimates (e : Estimator) (s : List ℕ) (es : List Entry) : Type 0 where
@@ -218,7 +218,7 @@ module _ (all : List Entry) (up : Ascends 0 all) (under : Under 65536 all) where
                 arith,
                 d .ranged,
                 ap (λ (y : Estimate). y .ranged) (x .values),
-                ap (classRanges i) q,
-                class-ranges all up under a i order,
+                ap (rangesSize i) q,
+                class-size all up under a i order,
                 runs-more all up under a i order,
               )

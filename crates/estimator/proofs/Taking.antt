@@ -16,7 +16,7 @@ use Rattle.opentype.proofs.RunCount.{alone, many, gap, many-none, many-one, man
 use Rattle.glyph_set.specs.GlyphSet.{member, mark, markAll}
 use Rattle.glyph_set.proofs.Emptied.{markAll-more, length-markAll}
 use Rattle.estimator.specs.declared.Estimator.{Estimator}
-use Rattle.estimator.specs.States.{classRanges, Ready, Added, Takes, Taken, Covered, startsRun}
+use Rattle.estimator.specs.States.{rangesSize, Ready, Added, Takes, Taken, Covered, startsRun}
 
 -- ---- runs
 
@@ -35,7 +35,7 @@ unfolding startsRun
 starts-behind gs zero e = absurd (e refl)
 starts-behind gs (suc k) e = let z : suc k - 1 ≡ k = omega arith in rw z
 
--- glyphs alone join where one follows on the other
+-- glyphs alone join where they adjoin
 gap-alone : (g f : ℕ) → gap (alone g) (alone f) ≡ cond (eqb (g + 1) f) 0 1
 gap-alone g f = by-test (eqb (g + 1) f) (λ t. rw t) (λ t. rw t)
 
@@ -53,12 +53,12 @@ starts-more (g ∷ f ∷ gs) (suc (suc k)) l =
 abbrev glyphRange : ℕ → List ℕ → ℕ → ℕ
 glyphRange class gs k = cond (eqb class 0) 0 (6 * startsRun gs k)
 
-ranges-none : (class : ℕ) → classRanges class [] ≡ 0
-unfolding classRanges
+ranges-none : (class : ℕ) → rangesSize class [] ≡ 0
+unfolding rangesSize
 ranges-none class = by-test (eqb class 0) (λ t. rw t) (λ t. rw t (omega (arith, many-none)))
 
-ranges-more : (class : ℕ) (gs : List ℕ) (k : ℕ) → k < length gs → classRanges class (take (k + 1) gs) ≡ classRanges class (take k gs) + glyphRange class gs k
-unfolding classRanges
+ranges-more : (class : ℕ) (gs : List ℕ) (k : ℕ) → k < length gs → rangesSize class (take (k + 1) gs) ≡ rangesSize class (take k gs) + glyphRange class gs k
+unfolding rangesSize
 ranges-more class gs k l =
     rw (add-one k)
     (by-test (eqb class 0) (λ t. rw t) (λ t. rw t (omega (arith, starts-more gs k l))))

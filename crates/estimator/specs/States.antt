@@ -11,7 +11,7 @@ use Rattle.rules.specs.Cuts.{Estimate}
 use Rattle.glyph_set.specs.GlyphSet.{member, mark, markAll, members, runCount}
 use Rattle.estimator.specs.declared.Estimator.{Estimator}
 
--- the paper's values of a state
+-- a state's values, as the definitions have them
 abbrev pub valuesOf : Estimator → Estimate
 valuesOf e = record { first = e .first; last = e .last; glyphs = e .glyphs; runs = e .runs; listed = e .listed; ranged = e .ranged }
 
@@ -28,8 +28,8 @@ pub record Counts (e : Estimator) (s : List ℕ) : Type 0 where
 -- ---- a class
 
 -- "6·runs of each class but 0": what a class takes in a class definition of ranges
-unfoldable pub classRanges : ℕ → List ℕ → ℕ
-classRanges class gs = cond (eqb class 0) 0 (6 * length (runs (plain gs)))
+unfoldable pub rangesSize : ℕ → List ℕ → ℕ
+rangesSize class gs = cond (eqb class 0) 0 (6 * length (runs (plain gs)))
 
 -- the glyphs can be added to the state and the set: each is new where those before it are in
 pub record Ready (e : Estimator) (s gs : List ℕ) : Type 0 where
@@ -41,7 +41,7 @@ pub record Ready (e : Estimator) (s gs : List ℕ) : Type 0 where
 pub record Added (e : Estimator) (s : List ℕ) (class : ℕ) (gs : List ℕ) (r : Estimator) (t : List ℕ) : Type 0 where
   pub marked : t ≡ markAll s gs
   pub counts : Counts r t
-  pub ranged : r .ranged ≡ e .ranged + classRanges class gs
+  pub ranged : r .ranged ≡ e .ranged + rangesSize class gs
 
 -- ---- a glyph
 
@@ -51,14 +51,14 @@ pub record Takes (e : Estimator) (s : List ℕ) (g : ℕ) : Type 0 where
   pub counts : Counts e s
   pub new : member s g ≡ false
 
--- the state r and the set t are e and s with the glyph, of no class
+-- the state r and the set t are e and s with the glyph, its class left out
 pub record Covered (e : Estimator) (s : List ℕ) (g : ℕ) (r : Estimator) (t : List ℕ) : Type 0 where
   pub marked : t ≡ mark s g
   pub counts : Counts r t
   pub glyphs : r .glyphs ≡ e .glyphs + 1
   pub ranged : r .ranged ≡ e .ranged
 
--- 1 where glyph k starts a run: the first one, or one that does not follow on the one before it
+-- 1 where glyph k starts a run: the first one, or one that does not adjoin the one before it
 unfoldable pub startsRun : List ℕ → ℕ → ℕ
 startsRun gs zero = 1
 startsRun gs (suc k) = cond (eqb (getD gs k 0 + 1) (getD gs (suc k) 0)) 0 1

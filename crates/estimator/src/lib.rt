@@ -157,7 +157,7 @@ pub fn forget(set: &mut [u8], glyphs: &[u16])
     }
 }
 
-// 1 where glyph `k` starts a run, 0 where it goes on from the one before it.
+// 1 where glyph `k` starts a run, 0 where it adjoins the one before it.
 fn starts_run(glyphs: &[u16], k: usize) -> usize
     requires { ⌜ k < length (now glyphs) ⌝ }
     ensures { λ r. ⌜ r ≡ startsRun (now (glyphs .entry)) k ⌝ }
@@ -171,12 +171,14 @@ fn starts_run(glyphs: &[u16], k: usize) -> usize
     1
 }
 
+// The smaller of two sizes.
 fn lesser(a: usize, b: usize) -> usize
     ensures { λ r. ⌜ r ≡ min a b ⌝ }
 {
     if a <= b { a } else { b }
 }
 
+// The larger of two sizes.
 fn greater(a: usize, b: usize) -> usize
     ensures { λ r. ⌜ r ≡ max a b ⌝ }
 {
