@@ -13,7 +13,7 @@ use Rattle.link_rows.specs.Rows.{seg, span, row, rows}
 use Rattle.link_rows.specs.Blocks.{Plan, plan, newRows, parted, headCount, grown, keptRow, PartedRows}
 use Rattle.link_rows.specs.Parting.{Parting, Parted}
 use Rattle.link_rows.proofs.Spans.{seg-ext, span-join, span-ext}
-use Rattle.link_rows.proofs.RowLaws.{length-row, length-span, row-below, row-of-rows, own-rows}
+use Rattle.link_rows.proofs.RowLaws.{rows-long, row-below, row-of-rows, own-rows}
 use Rattle.link_rows.proofs.Keeping.{kept-is, kept-long}
 use Rattle.link_rows.proofs.Links.{numbers-long}
 use Rattle.link_rows.proofs.Parting.{planOf, header-count}
@@ -21,7 +21,7 @@ use Rattle.link_rows.proofs.Written.{link-numbers}
 
 module _ (ls : List ℕ) (a b m : ℕ) (p : Plan) (ab : a ≤ b) (bm : b ≤ m) (room : 4 * grown m p ≤ length ls) (out : List ℕ) (done : PartedRows ls out a b m p) where
   ahead : 4 * b + length (rows ls b m) ≡ 4 * m
-  ahead = length-span (row ls) (length-row ls) b m bm
+  ahead = rows-long ls b m bm
 
   before-a : (k : ℕ) → k < a → row out k ≡ row ls k
   before-a k l = ap (λ (o : List ℕ). row o k) (done .is) ∙ row-below ls (4 * a) (parted ls a b m p) (omega arith) k (omega arith)
@@ -54,7 +54,7 @@ module _ (ls : List ℕ) (a b m : ℕ) (p : Plan) (ab : a ≤ b) (bm : b ≤ m) 
       let A = rows ls 0 a in
       let R = rows ls b m in
       let N = newRows ls a b p in
-      let front = length-span (row ls) (length-row ls) 0 a (omega arith) in
+      let front = rows-long ls 0 a (omega arith) in
       let e : 4 * a ≡ 0 + length A = omega arith in
       let f : 4 * (m - (b - a)) ≡ 0 + length (A ++ R) = omega (arith, ahead, length-append A R) in
       done .is
@@ -71,7 +71,7 @@ module _ (ls : List ℕ) (a b m : ℕ) (p : Plan) (ab : a ≤ b) (bm : b ≤ m) 
       let R = rows ls b m in
       let N = newRows ls a b p in
       let S = span (keptRow ls t v) 0 a ++ span (keptRow ls t v) b m in
-      let front = length-span (row ls) (length-row ls) 0 a (omega arith) in
+      let front = rows-long ls 0 a (omega arith) in
       let nr = length-append A R in
       let ns : length S ≡ 4 * q = ap length (sym (stay t v)) ∙ (let l = kept-long out t v 0 q (omega arith) in omega arith) in
       let nn = length-append R N in
@@ -93,7 +93,7 @@ module _ (ls : List ℕ) (a b m : ℕ) (p : Plan) (ab : a ≤ b) (bm : b ≤ m) 
       let z = length-append (rows ls b m) (newRows ls a b p) in
       omega (arith, ahead, done .long)
 
--- THE END: what the code has written is what is to be written
+-- what the code has written is what is to be written
 pub parted-links : (s : Store) (t : ℕ) (sh : Shape) (cs : List ℕ) (a b class2 : ℕ) → Parting s t sh cs a b class2 → (out out′ : List ℕ)
     → PartedRows (s .links) out a b (s .linkCount) (planOf s sh cs class2)
     → out′ ≡ put out 0 (span (keptRow out t (newNumber s sh (length cs))) 0 (s .linkCount - (b - a)))

@@ -9,7 +9,7 @@ use Rattle.folds.proofs.Put.{put-put, length-put, put-over}
 use Rattle.link_rows.specs.Rows.{seg, positionIn, widthIn, childIn, row, rows, Ordered}
 use Rattle.link_rows.specs.Blocks.{Plan, tables, tableId, movedRow, share, heads, tableRows, newRows, grown, Spread, PartedRows}
 use Rattle.link_rows.proofs.Spans.{seg-ext, span-ext}
-use Rattle.link_rows.proofs.RowLaws.{length-row, length-span, row-of-rows}
+use Rattle.link_rows.proofs.RowLaws.{rows-long, row-of-rows}
 
 module _ (ls out : List ℕ) (i k : ℕ) (e : row out k ≡ row ls i) where
   pub position-is : positionIn out k ≡ positionIn ls i
@@ -26,10 +26,10 @@ module _ (ls out : List ℕ) (i k : ℕ) (e : row out k ≡ row ls i) where
 
 module _ (ls : List ℕ) (a b m : ℕ) (ab : a ≤ b) (bm : b ≤ m) (room : 4 * m ≤ length ls) (out : List ℕ) (is : out ≡ put ls (4 * a) (rows ls b m ++ rows ls a b)) where
   ahead : 4 * b + length (rows ls b m) ≡ 4 * m
-  ahead = length-span (row ls) (length-row ls) b m bm
+  ahead = rows-long ls b m bm
 
   behind : 4 * a + length (rows ls a b) ≡ 4 * b
-  behind = length-span (row ls) (length-row ls) a b ab
+  behind = rows-long ls a b ab
 
   pub there : (i : ℕ) → i < b - a → row out (a + (m - b) + i) ≡ row ls (a + i)
   there i l =

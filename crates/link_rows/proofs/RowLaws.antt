@@ -49,6 +49,9 @@ module _ (f : ℕ → List ℕ) (four : (k : ℕ) → length (f k) ≡ 4) where
       ∙ seg-at f four lo (hi - lo) (k - lo) c (omega arith) m
       ∙ ap (λ (i : ℕ). getD (f i) c 0) q
 
+pub rows-long : (ls : List ℕ) (lo hi : ℕ) → lo ≤ hi → 4 * lo + length (rows ls lo hi) ≡ 4 * hi
+rows-long ls lo hi l = length-span (row ls) (length-row ls) lo hi l
+
 -- a row of a segment of rows, after the segment was written
 module _ (ls : List ℕ) (g : ℕ → ℕ) where
   pub row-inside : (d : List ℕ) (lo hi k : ℕ) → 4 * hi ≤ length d → lo ≤ k → k < hi → row (put d (4 * lo) (span (λ k. row ls (g k)) lo hi)) k ≡ row ls (g k)
@@ -83,7 +86,7 @@ own-from ls lo zero l =
     rw e (ap (put ls (4 * lo)) (span-empty (row ls) lo) ∙ sym (put-nil ls (4 * lo)))
 own-from ls lo (suc n) l =
     let e : lo + suc n ≡ lo + n + 1 = omega arith in
-    let r = length-span (row ls) (length-row ls) lo (lo + n) (omega arith) in
+    let r = rows-long ls lo (lo + n) (omega arith) in
     rw e
     (ap (put ls (4 * lo)) (span-back (row ls) lo (lo + n) (omega arith))
     ∙ sym (put-put ls (4 * lo) (rows ls lo (lo + n)) (4 * (lo + n)) (row ls (lo + n)) (omega arith) (sym r))

@@ -2,12 +2,11 @@
 use Prim.Native.Nat.{ℕ, _+_, _*_, _≤_, _<_}
 use mathlib.Core.Path.{_≡_}
 use mathlib.Core.List.{List, map}
-use lib.ListN.{length, getD, set}
+use lib.ListN.{length, getD}
 use Rattle.folds.specs.Folds.{sum}
 use Rattle.folds.specs.Lists.{put, join}
-use Rattle.opentype.specs.PairPos.{Shape, itemAt}
-use Rattle.rules.specs.Store.{Store, headOf, tailOf}
-use Rattle.rules.specs.Written.{from, rowsFrom, storeAfter}
+use Rattle.rules.specs.Store.{Store, headOf}
+use Rattle.rules.specs.Written.{rowsFrom}
 
 -- the summed lengths
 abbrev pub total : List ℕ → ℕ

@@ -48,13 +48,7 @@ pub fn append_objects(objects: &mut [u32], count: usize, at: usize, lengths: &[u
 }
 
 // Rewrites the object rows for a split of `table`, which keeps its first `kept` bytes, where the new objects have these lengths.
-pub fn part_objects(
-    objects: &mut [u32],
-    counts: &[u32; 3],
-    table: u32,
-    kept: u32,
-    lengths: &[u32],
-)
+pub fn part_objects(objects: &mut [u32], counts: &[u32; 3], table: u32, kept: u32, lengths: &[u32])
     requires { ⌜ Parting (lent [] (now objects) [] (now counts)) table kept (now lengths) ⌝ }
     ensures { λ _. ⌜ ((b l : List ℕ) (sh : Shape) (cs : List ℕ) (new : List (List ℕ)) → kept ≡ itemAt sh (from cs 0) → Long new (now (lengths .entry)) → now (objects .exit) ≡ storeAfter (lent b (now (objects .entry)) l (now (counts .entry))) table sh cs new .objects) ⌝ }
 {

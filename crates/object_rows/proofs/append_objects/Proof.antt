@@ -6,9 +6,6 @@ use lib.ListN.{length}
 use Rattle.object_rows.proofs.Appending.{Rows, rows-start, next-fits, rows-turn, rows-done}
 use Rattle.object_rows.proofs.append_objects.Statement.{statement}
 use Rattle.object_rows.proofs.append_objects.Tie as tie
-use Rattle.object_rows.proofs.append_objects.Reads as reads
-use Rattle.object_rows.proofs.append_objects.Lts as lts
-use Rattle.object_rows.proofs.put_object.Reads as put-object-reads
 
 abbrev Inv-loop : tie.InvT-loop
 Inv-loop objects₀ count at lengths end₀ i₀ objects end i = Rows objects₀ count at lengths objects end i
@@ -16,59 +13,45 @@ Inv-loop objects₀ count at lengths end₀ i₀ objects end i = Rows objects₀
 abbrev μ-loop : tie.MeasureT-loop
 μ-loop objects₀ count at lengths end₀ i₀ objects end i = length lengths - i
 
--- src/lib.rt:41:5
 loop-holds : tie.Need-loop-holds Inv-loop μ-loop
 loop-holds c = rows-start _ _ _ _ (c .before .before .pre)
 
--- src/lib.rt:42:27
 mul-next : tie.Need-mul-next Inv-loop μ-loop
 mul-next c = search needs
 
--- src/lib.rt:42:27
 shared-slice-read-next : tie.Need-shared-slice-read-next Inv-loop μ-loop
 shared-slice-read-next c = search needs
 
--- src/lib.rt:42:27
 cast-next : tie.Need-cast-next Inv-loop μ-loop
 cast-next c = omega (arith, c .shared-slice-known2 .given (c .before .before .loop .i))
 
--- src/lib.rt:42:20
 add-next : tie.Need-add-next Inv-loop μ-loop
 add-next c = omega (arith, next-fits _ _ _ _ _ _ _ (c .before .before .loop .inv) (c .before .loop-test .taken))
 
--- src/lib.rt:43:29
 add-put-object : tie.Need-add-put-object Inv-loop μ-loop
 add-put-object c = search needs
 
--- src/lib.rt:43:40
 cast-put-object : tie.Need-cast-put-object Inv-loop μ-loop
 cast-put-object c = omega (arith, next-fits _ _ _ _ _ _ _ (c .before .before .before .loop .inv) (c .before .before .loop-test .taken))
 
--- src/lib.rt:43:52
 cast-put-object-2 : tie.Need-cast-put-object-2 Inv-loop μ-loop
 cast-put-object-2 c = omega (arith, next-fits _ _ _ _ _ _ _ (c .before .before .before .loop .inv) (c .before .before .loop-test .taken))
 
--- src/lib.rt:43:9
 put-object-requires : tie.Need-put-object-requires Inv-loop μ-loop
 put-object-requires c κs = omega (arith, c .before .before .before .loop .inv .room .rows)
 
--- src/lib.rt:45:9
 add-i : tie.Need-add-i Inv-loop μ-loop
 add-i c = search needs
 
--- src/lib.rt:41:5
 loop-less : tie.Need-loop-less Inv-loop μ-loop
 loop-less c = search needs
 
--- src/lib.rt:41:5
 loop-again : tie.Need-loop-again Inv-loop μ-loop
 loop-again c = rows-turn _ _ _ _ _ _ _ (c .before .before .before .before .before .before .loop .inv) _ (c .before .before .before .before .before .loop-test .taken) (c .before .before .put-object .kept .0) (c .before .before .put-object .ensures)
 
--- src/lib.rt:35:1
 same-length : tie.Need-same-length Inv-loop μ-loop
 same-length c = search needs
 
--- src/lib.rt:35:1
 returns : tie.Need-returns Inv-loop μ-loop
 returns c = rows-done _ _ _ _ _ _ _ (c .before .loop .inv) (c .loop-test .left)
 

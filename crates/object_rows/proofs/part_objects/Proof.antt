@@ -3,40 +3,28 @@ use Rattle.object_rows.proofs.Appending.{split-rows}
 use borrow.Author.Needs.{needs}
 use Rattle.object_rows.proofs.part_objects.Statement.{statement}
 use Rattle.object_rows.proofs.part_objects.Tie as tie
-use Rattle.object_rows.proofs.part_objects.Reads as reads
-use Rattle.object_rows.proofs.part_objects.Lts as lts
-use Rattle.object_rows.proofs.append_objects.Reads as append-objects-reads
-use Rattle.object_rows.proofs.shorten.Reads as shorten-reads
 
--- src/lib.rt:61:5
 shorten-requires : tie.Need-shorten-requires
 shorten-requires c κs = search needs
 
--- src/lib.rt:62:29
 element-copy-out-append-objects : tie.Need-element-copy-out-append-objects
 element-copy-out-append-objects c = search needs
 
--- src/lib.rt:62:29
 cast-append-objects : tie.Need-cast-append-objects
 cast-append-objects c = search needs
 
--- src/lib.rt:62:49
 element-copy-out-append-objects-2 : tie.Need-element-copy-out-append-objects-2
 element-copy-out-append-objects-2 c = search needs
 
--- src/lib.rt:62:49
 cast-append-objects-2 : tie.Need-cast-append-objects-2
 cast-append-objects-2 c = search needs
 
--- src/lib.rt:62:5
 append-objects-requires : tie.Need-append-objects-requires
 append-objects-requires c κs = search needs
 
--- src/lib.rt:51:1
 same-length : tie.Need-same-length
 same-length c = search needs
 
--- src/lib.rt:51:1
 returns : tie.Need-returns
 returns c b l sh cs new e h = split-rows b _ l (c .before .before .before .before .before .before .before .before .before .before .before .before .args .counts .now) _ _ sh cs new _ _ _ e (c .before .before .before .before .before .before .before .before .shorten .ensures) (c .before .before .append-objects .ensures new h)
 
