@@ -85,7 +85,7 @@ impl<N: Debug + PartialEq> Call<N> {
     }
 }
 
-/// Where two lists differ, and in what.
+/// Where two lists differ, and in what, as far as it fits a few lines.
 pub(crate) fn differ<N: Debug + PartialEq>(name: &str, ours: &[N], theirs: &[N]) -> Option<String> {
     if ours.len() != theirs.len() {
         let (ours, theirs) = (ours.len(), theirs.len());
@@ -93,5 +93,6 @@ pub(crate) fn differ<N: Debug + PartialEq>(name: &str, ours: &[N], theirs: &[N])
     }
     let place = ours.iter().zip(theirs).position(|(a, b)| a != b)?;
     let (ours, theirs) = (&ours[place], &theirs[place]);
-    Some(format!("{name}[{place}]: {ours:?}, not {theirs:?}"))
+    let difference = format!("{name}[{place}]: {ours:?}, not {theirs:?}");
+    Some(difference.chars().take(300).collect())
 }

@@ -19,8 +19,8 @@ struct Plan {
     glyphs: usize,
     /// Glyphs that class definition 2 names.
     second_glyphs: usize,
-    /// The records that may have devices.
-    records: std::ops::Range<usize>,
+    /// The first of the records that may have devices, and the one behind the last.
+    records: [usize; 2],
 }
 
 /// Drafts a table with all that it leads to.
@@ -51,7 +51,7 @@ impl Plan {
             columns,
             glyphs: random.below(40),
             second_glyphs: random.below(40),
-            records: 0..rows * columns,
+            records: [0, rows * columns],
         }
     }
 
@@ -69,11 +69,11 @@ impl Plan {
             columns,
             glyphs: random.below(300),
             second_glyphs: random.below(300),
-            records: 0..rows * columns,
+            records: [0, rows * columns],
         }
     }
 
-    /// More than 65,536 records, half of the time with devices only where no product wraps.
+    /// More than 65,536 records, often with devices only where no product wraps.
     fn wrapping(random: &mut Random) -> Self {
         let devices = [(0x10, 0), (0, 0x20), (0x40, 0xFF00), (0x0100, 0x80)];
         let (format1, format2) = random.pick(&devices);
@@ -86,10 +86,13 @@ impl Plan {
             columns,
             glyphs: random.below(300),
             second_glyphs: random.below(300),
-            records: match random.one_in(2) {
-                true => 0..records,
-                false => records - 65_536..65_536,
-            },
+            records: random.pick(&[
+                [0, records],
+                [0, records - 65_536],
+                [65_536, records],
+                [records - 65_536, 65_536],
+                [records - 65_536, 65_536],
+            ]),
         }
     }
 
@@ -103,7 +106,7 @@ impl Plan {
             columns,
             glyphs: random.pick(&[5_000, 12_000, 32_000, 65_536]),
             second_glyphs: random.pick(&[10, 3_000, 30_000]),
-            records: 0..rows * columns,
+            records: [0, rows * columns],
         }
     }
 
@@ -153,7 +156,8 @@ impl Plan {
         let slots = format1.devices().map(|device| 2 * device);
         let more = format2.devices().map(|device| format1.size() + 2 * device);
         let slots: Vec<usize> = slots.chain(more).collect();
-        if slots.is_empty() || self.records.is_empty() {
+        let [first, end] = self.records;
+        if slots.is_empty() || first == end {
             return;
         }
         let sizes = Sizes::any(random);
@@ -163,7 +167,8 @@ impl Plan {
             devices.push(class_def2);
         }
         for _ in 0..random.below(40) {
-            let record = random.within(self.records.start..=self.records.end - 1);
+            let any = random.within(first..=end - 1);
+            let record = random.pick(&[any, any, any, first, end - 1]);
             let position = 16 + record * self.record_size() + random.pick(&slots);
             draft.link(table, position, random.pick(&devices));
         }
