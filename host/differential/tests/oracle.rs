@@ -6,7 +6,7 @@ use differential::{
     lend, Model, Random, Tally,
 };
 
-const STORES: usize = 3_000;
+const STORES: usize = 2_600;
 
 /// Tables of more pieces than this are not read pair by pair.
 const MOST_PIECES: usize = 64;

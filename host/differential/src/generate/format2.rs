@@ -62,7 +62,8 @@ impl Plan {
         let record: usize = formats.map(ValueFormat::size).iter().sum();
         let most_columns = random.pick(&[3, 300, 2_000]);
         let columns = random.within(1..=most_columns);
-        let rows = (random.below(200_000) / (record * columns)).min(65_535);
+        let most_bytes = random.pick(&[40_000, 130_000, 200_000]);
+        let rows = (random.below(most_bytes) / (record * columns)).min(65_535);
         Self {
             formats,
             rows,
