@@ -1,3 +1,5 @@
 pub mod Headers
 pub mod Ascending
 pub mod Tails
+pub mod Places
+pub mod RoundTrip

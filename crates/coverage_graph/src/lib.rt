@@ -1,18 +1,19 @@
 // OpenType's Coverage: which glyphs a table speaks of, and each one's place. Read into a header, looked up, listed and written.
+pub mod in_ranges;
 pub mod list;
-pub mod ranges;
 pub mod write;
 
+use in_ranges::count_in_ranges;
+use in_ranges::indices_fit;
+use in_ranges::place_in_ranges;
+use in_ranges::ranges_into;
 use list::list_fits;
 use list::list_into;
 use list::place_in_list;
 use opentype::Header;
 use opentype::Kind;
 use opentype::Reading;
-use ranges::count_in_ranges;
-use ranges::place_in_ranges;
 use ranges::ranges_fit;
-use ranges::ranges_into;
 use wire::u16_at;
 use write::run_count;
 use write::write_list;
@@ -51,10 +52,14 @@ pub fn read_coverage(part: &[u8]) -> Reading
     }
     if format == 2 {
         if ranges_fit(part, count) {
-            return Reading::Readable(Header {
-                kind: Kind::Ranges,
-                count,
-            });
+            if indices_fit(part, count) {
+                return Reading::Readable(Header {
+                    kind: Kind::Ranges,
+                    count,
+                });
+            } else {
+                return Reading::Unreadable;
+            }
         } else {
             return Reading::Unreadable;
         }

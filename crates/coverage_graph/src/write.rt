@@ -1,4 +1,5 @@
 // Both formats written, for glyphs in ascending order.
+use ranges::put_range;
 use wire::put_u16;
 ghost use mathlib.Core.Path.{_≡_};
 ghost use mathlib.Core.List.{_++_};
@@ -52,16 +53,6 @@ fn put_head(out: &mut [u8], at: usize, format: u16, count: u16)
 {
     put_u16(out, at, format);
     put_u16(out, at + 2, count);
-}
-
-// Writes a range at `at`.
-fn put_range(out: &mut [u8], at: usize, first: u16, last: u16, index: u16)
-    requires { ⌜ at + 6 ≤ length (now out) ⌝ }
-    ensures { λ _. ⌜ now (out .exit) ≡ put (now (out .entry)) at (be16 first ++ be16 last ++ be16 index) ⌝ }
-{
-    put_u16(out, at, first);
-    put_u16(out, at + 2, last);
-    put_u16(out, at + 4, index);
 }
 
 // Writes the glyphs as a list, at `at`.

@@ -20,3 +20,5 @@ pub mod Each
 pub mod Moved
 pub mod TwoParts
 pub mod Offsets
+pub mod FindFirst
+pub mod WrittenPart

@@ -207,9 +207,9 @@ module _ (b : List ℕ) (f n : ℕ) (pf : f ≡ u16At b 0) (pn : n ≡ u16At b 2
       go true = refl
       go false = refl
 
-  pub by-ranges : (t : Bool) → f ≡ 2 → t ≡ (rangesFit b n && indexed b n) → cond t (Readable (record { kind = Kind.Ranges; count = n })) Unreadable ≡ coverageOf b
+  pub by-ranges : (t u : Bool) → f ≡ 2 → t ≡ rangesFit b n → u ≡ indexed b n → cond (t && u) (Readable (record { kind = Kind.Ranges; count = n })) Unreadable ≡ coverageOf b
   unfolding coverageOf coverReadable
-  by-ranges t e q = rw (← pf, ← pn, e, q)
+  by-ranges t u e q r = rw (← pf, ← pn, e, q, r)
 
   pub by-none : (f ≡ 1 → ⊥) → (f ≡ 2 → ⊥) → Unreadable ≡ coverageOf b
   unfolding coverageOf coverReadable

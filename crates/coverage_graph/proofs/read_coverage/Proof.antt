@@ -1,7 +1,8 @@
 -- `read_coverage` meets its contract: the two first numbers say which kind is tested. Assumes nothing.
 use borrow.Author.Needs.{needs}
-use mathlib.Core.Path.{sym, _∙_}
+use mathlib.Core.Path.{refl, sym, _∙_}
 use mathlib.Core.Bool.{true, false}
+use Rattle.opentype.specs.Coverage.{indexed}
 use Rattle.opentype.proofs.CoverageRead.{too-short, by-list, by-ranges, by-none}
 use Rattle.coverage_graph.proofs.read_coverage.Statement.{statement}
 use Rattle.coverage_graph.proofs.read_coverage.Tie as tie
@@ -30,14 +31,20 @@ returns-3 c = by-list _ _ _ (c .before .before .before .before .u16-at .ensures)
 ranges-fit-requires : tie.Need-ranges-fit-requires
 ranges-fit-requires c κs = search needs
 
+indices-fit-requires : tie.Need-indices-fit-requires
+indices-fit-requires c κs = sym (c .before .ranges-fit .ensures) ∙ c .if5 .taken
+
 returns-4 : tie.Need-returns-4
-returns-4 c = by-ranges _ _ _ (c .before .before .before .before .before .u16-at .ensures) (c .before .before .before .before .u16-at2 .ensures) true (c .before .before .if4 .taken) (sym (c .if5 .taken) ∙ c .before .ranges-fit .ensures)
+returns-4 c = by-ranges _ _ _ (c .before .before .before .before .before .before .before .u16-at .ensures) (c .before .before .before .before .before .before .u16-at2 .ensures) true true (c .before .before .before .before .if4 .taken) (sym (c .before .before .if5 .taken) ∙ c .before .before .before .ranges-fit .ensures) (sym (c .if6 .taken) ∙ c .before .indices-fit .ensures)
 
 returns-5 : tie.Need-returns-5
-returns-5 c = by-ranges _ _ _ (c .before .before .before .before .before .u16-at .ensures) (c .before .before .before .before .u16-at2 .ensures) false (c .before .before .if4 .taken) (sym (c .if5 .left) ∙ c .before .ranges-fit .ensures)
+returns-5 c = by-ranges _ _ _ (c .before .before .before .before .before .before .before .u16-at .ensures) (c .before .before .before .before .before .before .u16-at2 .ensures) true false (c .before .before .before .before .if4 .taken) (sym (c .before .before .if5 .taken) ∙ c .before .before .before .ranges-fit .ensures) (sym (c .if6 .left) ∙ c .before .indices-fit .ensures)
 
 returns-6 : tie.Need-returns-6
-returns-6 c = by-none _ _ _ (c .before .before .before .u16-at .ensures) (c .before .before .u16-at2 .ensures) (c .before .if2 .left) (c .if4 .left)
+returns-6 c = by-ranges _ _ _ (c .before .before .before .before .before .u16-at .ensures) (c .before .before .before .before .u16-at2 .ensures) false (indexed (c .before .before .before .before .before .before .before .before .args .part .now) (c .before .before .before .before .u16-at2 .result)) (c .before .before .if4 .taken) (sym (c .if5 .left) ∙ c .before .ranges-fit .ensures) refl
+
+returns-7 : tie.Need-returns-7
+returns-7 c = by-none _ _ _ (c .before .before .before .u16-at .ensures) (c .before .before .u16-at2 .ensures) (c .before .if2 .left) (c .if4 .left)
 
 pub read-coverage-spec : {M : Type 1} → statement M
 read-coverage-spec =
@@ -51,6 +58,8 @@ read-coverage-spec =
     returns-2
     returns-3
     ranges-fit-requires
+    indices-fit-requires
     returns-4
     returns-5
-    returns-6)
+    returns-6
+    returns-7)

@@ -1,14 +1,12 @@
--- `list::list_into` meets its contract. In the loop the first `k` glyphs stand at the front of `out`. Assumes nothing.
+-- `list::list_into` meets its contract: one glyph is written a turn. Assumes nothing.
 use borrow.Author.Needs.{needs}
-use mathlib.Core.Path.{_≡_, refl, sym, ap, _∙_}
-use mathlib.Core.List.{List, [], _∷_, _++_}
+use mathlib.Core.Path.{_≡_, refl, sym, ap₂, subst}
+use mathlib.Core.List.{List}
 use Prim.Native.Nat.{ℕ, _+_, _-_, _≤_, _<_}
 use native.Mathlib.Omega.{arith}
-use lib.ListN.{length, set, length-set}
-use Rattle.folds.specs.Folds.{flat, upto}
+use lib.ListN.{length, set}
 use Rattle.folds.specs.Lists.{put}
-use Rattle.folds.proofs.Folds.{flat-more, length-upto}
-use Rattle.folds.proofs.Put.{put-nil, put-set}
+use Rattle.folds.proofs.Writing.{Writing, write-start, write-turn, write-stop}
 use Rattle.opentype.specs.Coverage.{glyphAt, coverGlyphs}
 use Rattle.opentype.proofs.CoverageRead.{Listed, header-list}
 use Rattle.coverage_graph.specs.Coverage.{AsList}
@@ -17,32 +15,22 @@ use Rattle.coverage_graph.proofs.list.list_into.Tie as tie
 
 record Inv (part : List ℕ) (count : ℕ) (out₀ out : List ℕ) (k : ℕ) : Type 0 where
   listed : Listed part count
-  room : count ≤ length out₀
-  within : k ≤ count
-  same : length out ≡ length out₀
-  is : out ≡ put out₀ 0 (upto (glyphAt part) k)
+  room : 0 + count ≤ length out₀
+  writing : Writing (glyphAt part) out₀ 0 count out k
 
 start : (part : List ℕ) (count : ℕ) (out : List ℕ) → AsList part count → count ≤ length out → Inv part count out out 0
-unfolding flat
-start part count out r l = record { listed = header-list part _ r refl; room = l; within = omega arith; same = refl; is = put-nil out 0 }
+start part count out r l =
+    let room : 0 + count ≤ length out = omega arith in
+    record { listed = header-list part _ r refl; room = room; writing = write-start (glyphAt part) out 0 count room }
 
 turn : {part : List ℕ} {count : ℕ} {out₀ out : List ℕ} {k v : ℕ} → Inv part count out₀ out k → k < count → v ≡ glyphAt part k → Inv part count out₀ (set out k v) (k + 1)
 turn {part} {count} {out₀} {out} {k} {v} i l e =
-    let n : k ≡ 0 + length (upto (glyphAt part) k) = omega (arith, length-upto (glyphAt part) k) in
-    record {
-      listed = i .listed;
-      room = i .room;
-      within = omega arith;
-      same = length-set out k v ∙ i .same;
-      is =
-          ap (λ (o : List ℕ). set o k v) (i .is)
-          ∙ put-set out₀ 0 (upto (glyphAt part) k) k v n (omega (arith, i .room))
-          ∙ ap (λ (x : ℕ). put out₀ 0 (upto (glyphAt part) k ++ (x ∷ []))) e
-          ∙ ap (put out₀ 0) (sym (flat-more (λ (j : ℕ). glyphAt part j ∷ []) k));
-    }
+    let z : 0 + k ≡ k = omega arith in
+    let w = write-turn (glyphAt part) out₀ 0 count (i .room) out k (i .writing) l in
+    record { listed = i .listed; room = i .room; writing = subst (λ (o : List ℕ). Writing (glyphAt part) out₀ 0 count o (k + 1)) (ap₂ (set out) z (sym e)) w }
 
 done : {part : List ℕ} {count : ℕ} {out₀ out : List ℕ} {k : ℕ} → Inv part count out₀ out k → count ≤ k → out ≡ put out₀ 0 (coverGlyphs part)
-done {part} {count} {out₀} {out} {k} i l = let e : k ≡ count = omega arith in rw (i .listed .glyphs, ← e) (i .is)
+done {part} {count} {out₀} {out} {k} i l = rw (i .listed .glyphs) (write-stop (glyphAt part) out₀ 0 count (i .room) out k (i .writing) l)
 
 abbrev Inv-loop : tie.InvT-loop
 Inv-loop part count out₀ k₀ out k = Inv part count out₀ out k

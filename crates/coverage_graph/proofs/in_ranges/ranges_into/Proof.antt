@@ -1,4 +1,4 @@
--- `ranges::ranges_into` meets its contract. In the loop the glyphs of the first `k` ranges stand at the front of `out`, up to `at`. Assumes nothing.
+-- `in_ranges::ranges_into` meets its contract. In the loop the glyphs of the first `k` ranges stand at the front of `out`, up to `at`. Assumes nothing.
 use borrow.Author.Needs.{needs}
 use mathlib.Core.Path.{_≡_, refl, sym, ap, ap₂, _∙_}
 use mathlib.Core.List.{List}
@@ -12,8 +12,8 @@ use Rattle.folds.proofs.Put.{put-nil, put-put}
 use Rattle.opentype.specs.Coverage.{startAt, endAt, sizeAt, coverGlyphs}
 use Rattle.opentype.proofs.CoverageRead.{rangeAt, Ranged, header-ranges, length-ranges}
 use Rattle.coverage_graph.specs.Coverage.{AsRanges}
-use Rattle.coverage_graph.proofs.ranges.ranges_into.Statement.{statement}
-use Rattle.coverage_graph.proofs.ranges.ranges_into.Tie as tie
+use Rattle.coverage_graph.proofs.in_ranges.ranges_into.Statement.{statement}
+use Rattle.coverage_graph.proofs.in_ranges.ranges_into.Tie as tie
 
 record Inv (part : List ℕ) (count : ℕ) (out₀ out : List ℕ) (at k : ℕ) : Type 0 where
   ranged : Ranged part count

@@ -1,42 +1,32 @@
 // Format 2 read: ranges of glyphs, six bytes each from byte 4 on: start, end, and the place of start.
 use crate::Place;
+use ranges::Found;
+use ranges::range_of;
 use wire::u16_at;
 ghost use mathlib.Core.Path.{_≡_};
-ghost use mathlib.Core.Bool.{_&&_};
-ghost use Prim.Native.Nat.{_+_, _≤_, _<_};
+ghost use mathlib.Core.Bool.{true};
+ghost use Prim.Native.Nat.{_+_, _≤_};
 ghost use lib.ListN.{length};
 ghost use Rattle.folds.specs.Folds.{run};
 ghost use Rattle.folds.specs.Lists.{put};
 ghost use Rattle.opentype.specs.Coverage.{rangesFit, indexed, coverGlyphs, coverPlace};
 ghost use Rattle.coverage_graph.specs.Coverage.{AsRanges, placeOf};
 
-// Whether nothing stands behind `count` ranges, each starts above the end before it, ends no lower than it starts, and is numbered by the
-// glyphs before it.
-pub fn ranges_fit(part: &[u8], count: usize) -> bool
-    requires { ⌜ count < 65536 ⌝ }
-    ensures { λ r. ⌜ r ≡ rangesFit (now (part .entry)) count && indexed (now (part .entry)) count ⌝ }
+// Whether each range is numbered by the glyphs before it.
+pub fn indices_fit(part: &[u8], count: usize) -> bool
+    requires { ⌜ rangesFit (now part) count ≡ true ⌝ }
+    ensures { λ r. ⌜ r ≡ indexed (now (part .entry)) count ⌝ }
 {
-    if part.len() != 4 + 6 * count {
-        return false;
-    }
-    let mut next: usize = 0;
     let mut total: usize = 0;
     let mut k: usize = 0;
     while k < count {
         let start = u16_at(part, 4 + 6 * k) as usize;
         let end = u16_at(part, 6 + 6 * k) as usize;
         let index = u16_at(part, 8 + 6 * k) as usize;
-        if start < next {
-            return false;
-        }
-        if end < start {
-            return false;
-        }
         if index != total {
             return false;
         }
         total = total + (end + 1 - start);
-        next = end + 1;
         k += 1;
     }
     true
@@ -57,29 +47,20 @@ pub fn count_in_ranges(part: &[u8], count: usize) -> usize
     index + (end + 1 - start)
 }
 
-// The glyph's place, by halving: the ranges before `lo` end below it, and those from `hi` on start above it.
+// The glyph's place: that of the range's start, and on from there.
 pub fn place_in_ranges(part: &[u8], count: usize, glyph: u16) -> Place
     requires { ⌜ AsRanges (now part) count ⌝ }
     ensures { λ r. ⌜ r ≡ placeOf (coverPlace (now (part .entry)) glyph) ⌝ }
 {
-    let mut lo: usize = 0;
-    let mut hi: usize = count;
-    while lo < hi {
-        let mid = lo + (hi - lo) / 2;
-        let start = u16_at(part, 4 + 6 * mid);
-        let end = u16_at(part, 6 + 6 * mid);
-        if end < glyph {
-            lo = mid + 1;
-        } else {
-            if glyph < start {
-                hi = mid;
-            } else {
-                let index = u16_at(part, 8 + 6 * mid) as usize;
-                return Place::At(index + (glyph - start) as usize);
-            }
+    let found = range_of(part, count, glyph);
+    match found {
+        Found::At(k) => {
+            let start = u16_at(part, 4 + 6 * k);
+            let index = u16_at(part, 8 + 6 * k) as usize;
+            Place::At(index + (glyph - start) as usize)
         }
+        Found::Nowhere => Place::Nowhere,
     }
-    Place::Nowhere
 }
 
 // Writes `count` numbers from `from` on to `out`, at `at`.

@@ -1,4 +1,4 @@
--- `ranges::count_in_ranges` meets its contract: the last range is numbered by the glyphs before it, and rising ranges end within sixteen bits. Assumes nothing.
+-- `in_ranges::count_in_ranges` meets its contract: the last range is numbered by the glyphs before it, and rising ranges end within sixteen bits. Assumes nothing.
 use borrow.Author.Needs.{needs}
 use mathlib.Core.Path.{_≡_, refl, ap, _∙_}
 use mathlib.Core.List.{List}
@@ -9,8 +9,8 @@ use Rattle.folds.specs.Folds.{before, sum}
 use Rattle.folds.proofs.Folds.{before-more, sum-none, sum-more}
 use Rattle.opentype.specs.Coverage.{startAt, endAt, besideAt, sizeAt, coverGlyphs}
 use Rattle.opentype.proofs.CoverageRead.{Ranged, header-ranges, length-ranges, sizes-under}
-use Rattle.coverage_graph.proofs.ranges.count_in_ranges.Statement.{statement}
-use Rattle.coverage_graph.proofs.ranges.count_in_ranges.Tie as tie
+use Rattle.coverage_graph.proofs.in_ranges.count_in_ranges.Statement.{statement}
+use Rattle.coverage_graph.proofs.in_ranges.count_in_ranges.Tie as tie
 
 counted : {part : List ℕ} {count : ℕ} → Ranged part count → length (coverGlyphs part) ≡ sum (sizeAt part) count
 counted {part} {count} r = ap length (r .glyphs) ∙ length-ranges part count
