@@ -1,1 +1,3 @@
 pub mod Lookup
+pub mod Entries
+pub mod Written

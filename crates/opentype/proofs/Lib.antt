@@ -12,6 +12,7 @@ pub mod CoverageRoundTrip
 pub mod CoverageLength
 pub mod Classes
 pub mod ClassDefRoundTrip
+pub mod Named
 pub mod Values
 pub mod RunStarts
 pub mod ByGlyph
