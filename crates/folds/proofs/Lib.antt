@@ -15,7 +15,6 @@ pub mod Halving
 pub mod Joined
 pub mod Behind
 pub mod Bits
-pub mod Sifted
 pub mod Each
 pub mod Moved
 pub mod TwoParts

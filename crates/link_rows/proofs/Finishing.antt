@@ -9,13 +9,13 @@ use Rattle.folds.proofs.Put.{put-put, put-before, put-over, length-put}
 use Rattle.opentype.specs.PairPos.{Shape}
 use Rattle.rules.specs.Store.{Store, Link, lent, linksOf, childAt}
 use Rattle.rules.specs.Written.{perTable, newNumber, tableLinks, newLinks, rowNumbers}
+use Rattle.rules.proofs.LinkRows.{rows-numbers}
 use Rattle.link_rows.specs.Rows.{seg, span, row, rows}
 use Rattle.link_rows.specs.Blocks.{Plan, plan, newRows, parted, headCount, grown, keptRow, PartedRows}
-use Rattle.link_rows.specs.Parting.{Parting, Parted}
+use Rattle.link_rows.specs.Parting.{Between, Parted}
 use Rattle.link_rows.proofs.Spans.{seg-ext, span-join, span-ext}
 use Rattle.link_rows.proofs.RowLaws.{rows-long, row-below, row-of-rows, own-rows}
 use Rattle.link_rows.proofs.Keeping.{kept-is, kept-long}
-use Rattle.link_rows.proofs.Links.{numbers-long}
 use Rattle.link_rows.proofs.Parting.{planOf, header-count}
 use Rattle.link_rows.proofs.Written.{link-numbers}
 
@@ -94,7 +94,7 @@ module _ (ls : List ℕ) (a b m : ℕ) (p : Plan) (ab : a ≤ b) (bm : b ≤ m) 
       omega (arith, ahead, done .long)
 
 -- what the code has written is what is to be written
-pub parted-links : (s : Store) (t : ℕ) (sh : Shape) (cs : List ℕ) (a b class2 : ℕ) → Parting s t sh cs a b class2 → (out out′ : List ℕ)
+pub parted-links : (s : Store) (t : ℕ) (sh : Shape) (cs : List ℕ) (a b class2 : ℕ) → Between s t sh cs a b class2 → (out out′ : List ℕ)
     → PartedRows (s .links) out a b (s .linkCount) (planOf s sh cs class2)
     → out′ ≡ put out 0 (span (keptRow out t (newNumber s sh (length cs))) 0 (s .linkCount - (b - a)))
     → Parted s t sh cs out′ (s .linkCount + headCount (perTable sh) * length cs)
@@ -102,10 +102,10 @@ parted-links s t sh cs a b class2 g out out′ done h =
     let v = newNumber s sh (length cs) in
     let p = planOf s sh cs class2 in
     let e = link-numbers s t sh cs a b class2 g in
-    let room : 4 * grown (s .linkCount) p ≤ length (s .links) = rw (header-count sh) at (g .linkRoom) in
+    let room : 4 * grown (s .linkCount) p ≤ length (s .links) = rw (header-count sh) at (g .known .linkRoom) in
     let n = finished-long (s .links) a b (s .linkCount) p (g .ordered) (g .used) room out done t v in
     record {
-      count-is = omega (arith, numbers-long (newLinks s t sh cs), ap length e);
+      count-is = omega (arith, rows-numbers (newLinks s t sh cs), ap length e);
       rows-are = finished (s .links) a b (s .linkCount) p (g .ordered) (g .used) room out done t v out′ h ∙ ap (put (s .links) 0) (sym e);
     }
 
@@ -114,7 +114,7 @@ pub rows-alone : (x y x′ y′ ls cts : List ℕ) (t : ℕ) (sh : Shape) (cs : 
 unfolding newLinks tableLinks linksOf childAt
 rows-alone x y x′ y′ ls cts t sh cs = refl
 
-pub parted-call : (ls cts : List ℕ) (t : ℕ) (sh : Shape) (cs : List ℕ) (a b class2 n : ℕ) → Parting (lent [] [] ls cts) t sh cs a b class2 → n ≡ perTable sh
+pub parted-call : (ls cts : List ℕ) (t : ℕ) (sh : Shape) (cs : List ℕ) (a b class2 n : ℕ) → Between (lent [] [] ls cts) t sh cs a b class2 → n ≡ perTable sh
     → (out out′ : List ℕ) → PartedRows ls out a b (getD cts 2 0) (plan cs (sh .header) (sh .item) (getD cts 1 0) n class2)
     → out′ ≡ put out 0 (span (keptRow out t (getD cts 1 0 + n * length cs)) 0 (getD cts 2 0 - (b - a)))
     → (x y : List ℕ) → Parted (lent x y ls cts) t sh cs out′ (getD cts 2 0 + headCount n * length cs)

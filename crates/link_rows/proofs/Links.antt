@@ -1,13 +1,11 @@
 -- Links as the numbers of their rows, in a row by an index. Assumes nothing.
-use Prim.Native.Nat.{ℕ, zero, suc, _+_, _*_}
+use Prim.Native.Nat.{ℕ, zero, suc, _+_}
 use mathlib.Core.Path.{_≡_, refl, ap, ap₂, _∙_}
 use mathlib.Core.Bool.{Bool, true, false, cond}
 use mathlib.Core.List.{List, [], _∷_, _++_, map, map-append}
-use native.Mathlib.Omega.{arith}
-use lib.ListN.{length}
 use Rattle.folds.specs.Folds.{flat, upto}
 use Rattle.folds.specs.Lists.{sift}
-use Rattle.folds.proofs.Sifted.{sift-append}
+use Rattle.folds.proofs.Picked.{sift-append}
 use Rattle.rules.specs.Store.{Link}
 use Rattle.rules.specs.Written.{rowNumbers}
 use Rattle.link_rows.specs.Rows.{four}
@@ -20,11 +18,6 @@ pub numbers-append : (xs ys : List Link) → rowNumbers (xs ++ ys) ≡ rowNumber
 unfolding rowNumbers
 numbers-append [] ys = refl
 numbers-append (x ∷ xs) ys = ap (λ (r : List ℕ). numbers x ++ r) (numbers-append xs ys)
-
-pub numbers-long : (xs : List Link) → length (rowNumbers xs) ≡ 4 * length xs
-unfolding rowNumbers
-numbers-long [] = refl
-numbers-long (x ∷ xs) = let i = numbers-long xs in omega arith
 
 pub numbers-flat : (f : ℕ → List Link) (n : ℕ) → rowNumbers (flat f n) ≡ flat (λ j. rowNumbers (f j)) n
 unfolding rowNumbers flat

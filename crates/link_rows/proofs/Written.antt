@@ -15,17 +15,18 @@ use Rattle.folds.proofs.Joined.{and-three, three-hold}
 use Rattle.folds.proofs.Parts.{getD-default}
 use Rattle.folds.proofs.FromTheFront.{flat-same}
 use Rattle.opentype.specs.PairPos.{Shape, itemAt}
+use Rattle.opentype.proofs.Shapes.{items-rise}
 use Rattle.rules.specs.Store.{Store, Link, linkAt, linksOf, parentOf, positionOf}
 use Rattle.rules.specs.Walk.{ofItems}
 use Rattle.rules.specs.Table.{linkedAt}
 use Rattle.rules.specs.Written.{from, to, perTable, newNumber, headLinks, moved, kept, tableLinks, newLinks, rowNumbers}
 use Rattle.link_rows.specs.Rows.{span, positionIn}
 use Rattle.link_rows.specs.Blocks.{edge, inside, movedRow, share, heads, tableRows, newRows, keptRow}
-use Rattle.link_rows.specs.Parting.{Parting}
+use Rattle.link_rows.specs.Parting.{Between}
 use Rattle.link_rows.proofs.Spans.{flat-span, span-join, span-none, span-ext}
 use Rattle.link_rows.proofs.Links.{numbers, numbers-append, numbers-flat, numbers-sifted}
 use Rattle.link_rows.proofs.Spreading.{edge-at, edge-end}
-use Rattle.link_rows.proofs.Parting.{planOf, items-rise, moves, stays-before, stays-after}
+use Rattle.link_rows.proofs.Parting.{planOf, moves, stays-before, stays-after}
 
 -- rows of which only those from a up to b are given, and rows of which only those are not
 module _ (f g : ℕ → List ℕ) (a b m : ℕ) (ab : a ≤ b) (bm : b ≤ m) where
@@ -59,7 +60,7 @@ numbers-heads : (sh : Shape) (u class2 c : ℕ) → (eqb (sh .format) 1 ≡ fals
 unfolding rowNumbers headLinks heads
 numbers-heads sh u class2 c h = by-test (eqb (sh .format) 1) (λ e. rw e) (λ e. rw (e, ← h e))
 
-module _ (s : Store) (t : ℕ) (sh : Shape) (cs : List ℕ) (a b class2 : ℕ) (g : Parting s t sh cs a b class2) where
+module _ (s : Store) (t : ℕ) (sh : Shape) (cs : List ℕ) (a b class2 : ℕ) (g : Between s t sh cs a b class2) where
   -- ---- the links that stay
 
   stayed : (v : ℕ) → rowNumbers (map (kept t v) (sift (λ l. not (ofItems t sh (from cs 0) (sh .count) l)) (linksOf s)))
@@ -83,7 +84,7 @@ module _ (s : Store) (t : ℕ) (sh : Shape) (cs : List ℕ) (a b class2 : ℕ) (
     to-within : to sh cs j ≤ sh .count
     to-within =
         ⊎-elim
-        (λ lt. omega (arith, getD-default cs (j + 1) (sh .count) 0 lt, g .within (j + 1) lt))
+        (λ lt. omega (arith, getD-default cs (j + 1) (sh .count) 0 lt, g .known .within (j + 1) lt))
         (λ ge. omega (arith, List·getD-eq-default cs (sh .count) {n = j + 1} ge))
         (either (j + 1) (length cs))
 
@@ -93,7 +94,7 @@ module _ (s : Store) (t : ℕ) (sh : Shape) (cs : List ℕ) (a b class2 : ℕ) (
         by-test (ofItems t sh (from cs j) (to sh cs j) l)
         (λ y.
         let (p, x, z) = and-three (eqb (l .parent) t) (leb (itemAt sh (from cs j)) (l .position)) (ltb (l .position) (itemAt sh (to sh cs j))) y in
-        let lo : itemAt sh (from cs 0) ≤ l .position = omega (arith, leb-true (itemAt sh (from cs j)) (l .position) x, items-rise sh (from cs 0) (from cs j) (g .rising 0 j (omega arith) jk)) in
+        let lo : itemAt sh (from cs 0) ≤ l .position = omega (arith, leb-true (itemAt sh (from cs j)) (l .position) x, items-rise sh (from cs 0) (from cs j) (g .known .rising 0 j (omega arith) jk)) in
         let hi : l .position < itemAt sh (sh .count) = omega (arith, ltb-true (l .position) (itemAt sh (to sh cs j)) z, items-rise sh (to sh cs j) (sh .count) to-within) in
         true-false (sym (three-hold _ _ _ p (le-leb (itemAt sh (from cs 0)) (l .position) lo) (lt-ltb (l .position) (itemAt sh (sh .count)) hi)) ∙ n))
         (λ n. n)
@@ -107,7 +108,7 @@ module _ (s : Store) (t : ℕ) (sh : Shape) (cs : List ℕ) (a b class2 : ℕ) (
         (λ ge.
         let e : j + 1 ≡ length cs = omega arith in
         rw (e, edge-end (planOf s sh cs class2), List·getD-eq-default cs (sh .count) {n = length cs} (omega arith))
-        (lt-ltb (positionOf s k) (itemAt sh (sh .count)) y ∙ sym (lt-ltb (positionOf s k) 4294967296 (omega (arith, g .size)))))
+        (lt-ltb (positionOf s k) (itemAt sh (sh .count)) y ∙ sym (lt-ltb (positionOf s k) 4294967296 (omega (arith, g .known .size)))))
         (either (j + 1) (length cs))
 
     own : (k : ℕ) → a ≤ k → k < b → ofItems t sh (from cs j) (to sh cs j) (linkAt s k) ≡ inside (planOf s sh cs class2) j (positionIn (s .links) k)
@@ -133,7 +134,7 @@ module _ (s : Store) (t : ℕ) (sh : Shape) (cs : List ℕ) (a b class2 : ℕ) (
     table-numbers =
         let u = newNumber s sh j in
         numbers-append (headLinks sh u (linkedAt s t 10)) (map (moved sh u (from cs j)) (sift (ofItems t sh (from cs j) (to sh cs j)) (linksOf s)))
-        ∙ ap₂ (λ (x y : List ℕ). x ++ y) (numbers-heads sh u class2 (linkedAt s t 10) (g .shared)) cut-off
+        ∙ ap₂ (λ (x y : List ℕ). x ++ y) (numbers-heads sh u class2 (linkedAt s t 10) (g .known .shared)) cut-off
 
   -- ---- all links
 

@@ -1,16 +1,17 @@
 -- The link rows of a store after a split, as `rules` says them, and what a caller knows before. Assumes nothing.
 use Prim.Native.Nat.{ℕ, _+_, _*_, _≤_, _<_}
 use mathlib.Core.Path.{_≡_}
-use mathlib.Core.Bool.{true, false, cond, _&&_}
+use mathlib.Core.Bool.{false, cond, _&&_}
 use mathlib.Core.List.{List, []}
 use lib.ListN.{length}
 use lib.Dec.{eqb, leb, ltb}
 use Rattle.folds.specs.Lists.{put}
 use Rattle.opentype.specs.PairPos.{Shape, itemAt}
-use Rattle.rules.specs.Store.{Store, perLink, linkAt, ascends}
+use Rattle.rules.specs.Store.{Store, perLink, linkAt}
 use Rattle.rules.specs.Walk.{ofItems}
 use Rattle.rules.specs.Table.{linkedAt}
 use Rattle.rules.specs.Written.{from, perTable, newLinks, rowNumbers}
+use Rattle.object_store.specs.Rows.{InOrder}
 use Rattle.link_rows.specs.declared.Layout.{Layout}
 
 -- what of a shape the links ask
@@ -25,20 +26,24 @@ shapeWith a = record { format = a .format; header = a .header; heads = []; count
 abbrev pub perHeader : Shape → ℕ
 perHeader sh = cond (eqb (sh .format) 1) 1 3
 
--- what is known when table t of s is to be split at cs: `first` up to `after` are the rows of the items that are cut off, and class2 is the object that
--- new tables of format 2 share
-pub record Parting (s : Store) (t : ℕ) (sh : Shape) (cs : List ℕ) (first after class2 : ℕ) : Type 0 where
+-- what is known when table t of s is to be split at cs: the cuts ascend to the count, the table ends within 32 bits, the rows are in order, class2 is the
+-- object that new tables of format 2 share, and there is room
+pub record Parting (s : Store) (t : ℕ) (sh : Shape) (cs : List ℕ) (class2 : ℕ) : Type 0 where
   pub some : 0 < length cs
   pub rising : (i j : ℕ) → i ≤ j → j < length cs → from cs i ≤ from cs j
   pub within : (j : ℕ) → j < length cs → from cs j ≤ sh .count
   pub size : itemAt sh (sh .count) < 4294967296
-  pub ascending : (k : ℕ) → k < s .linkCount → ascends s k ≡ true
-  pub ordered : first ≤ after
-  pub used : after ≤ s .linkCount
-  pub these : (k : ℕ) → k < s .linkCount → ofItems t sh (from cs 0) (sh .count) (linkAt s k) ≡ leb first k && ltb k after
+  pub order : InOrder (s .links) (s .linkCount)
   pub shared : eqb (sh .format) 1 ≡ false → class2 ≡ linkedAt s t 10
   pub linkRoom : perLink * (s .linkCount + perHeader sh * length cs) ≤ length (s .links)
   pub objectRoom : s .objectCount + perTable sh * length cs + 1 < 4294967296
+
+-- and that `first` up to `after` are the rows of the items that are cut off
+pub record Between (s : Store) (t : ℕ) (sh : Shape) (cs : List ℕ) (first after class2 : ℕ) : Type 0 where
+  pub known : Parting s t sh cs class2
+  pub ordered : first ≤ after
+  pub used : after ≤ s .linkCount
+  pub these : (k : ℕ) → k < s .linkCount → ofItems t sh (from cs 0) (sh .count) (linkAt s k) ≡ leb first k && ltb k after
 
 -- the link rows and their count after the split
 pub record Parted (s : Store) (t : ℕ) (sh : Shape) (cs out : List ℕ) (count : ℕ) : Type 0 where

@@ -10,7 +10,8 @@ ghost use Rattle.rules.specs.Store.{lent, perLink};
 ghost use Rattle.rules.specs.Written.{keptChild};
 ghost use Rattle.link_rows.specs.Rows.{span, positionIn, four, row, rows, reversed, Ordered};
 ghost use Rattle.link_rows.specs.Blocks.{plan, edge, heads, headCount, grown, keptRow, Fit, Moved, Spread, PartedRows};
-ghost use Rattle.link_rows.specs.Parting.{shapeWith, Parting, Parted};
+ghost use Rattle.link_rows.specs.Parting.{shapeWith, Parting, Between, Parted};
+use object_store::first_row;
 
 // What the two formats share of a table, as far as its links go: header bytes, item bytes, and how many items it has.
 pub struct Layout {
@@ -239,7 +240,7 @@ fn objects_per_table(format: u16) -> usize
 
 // Rewrites the link rows for a split of `table` at `cuts`, where the rows from `first` up to `after` are those of the items that are cut off. Returns how
 // many rows are in use then.
-pub fn part_links(
+fn part_between(
     links: &mut [u32],
     counts: &[u32; 3],
     table: u32,
@@ -249,7 +250,7 @@ pub fn part_links(
     after: usize,
     class2: u32,
 ) -> usize
-    requires { ⌜ Parting (lent [] [] (now links) (now counts)) table (shapeWith layout) (now cuts) first after class2 ⌝ }
+    requires { ⌜ Between (lent [] [] (now links) (now counts)) table (shapeWith layout) (now cuts) first after class2 ⌝ }
     ensures { λ r. ⌜ ((b o : List ℕ) → Parted (lent b o (now (links .entry)) (now (counts .entry))) table (shapeWith layout) (now (cuts .entry)) (now (links .exit)) r) ⌝ }
 {
     let objects = counts[1] as usize;
@@ -276,4 +277,24 @@ pub fn part_links(
         (objects + per_table * cuts.len()) as u32,
     );
     count + (2 * per_table - 3) * cuts.len()
+}
+
+// Rewrites the link rows for a split of `table` at `cuts`; `class2` is the object that new tables of format 2 share. Returns how many rows are in use then.
+pub fn part_links(
+    links: &mut [u32],
+    counts: &[u32; 3],
+    table: u32,
+    layout: Layout,
+    cuts: &[u16],
+    class2: u32,
+) -> usize
+    requires { ⌜ Parting (lent [] [] (now links) (now counts)) table (shapeWith layout) (now cuts) class2 ⌝ }
+    ensures { λ r. ⌜ ((b o : List ℕ) → Parted (lent b o (now (links .entry)) (now (counts .entry))) table (shapeWith layout) (now (cuts .entry)) (now (links .exit)) r) ⌝ }
+{
+    let count = counts[2] as usize;
+    let start = layout.header + layout.item * (cuts[0] as usize);
+    let end = layout.header + layout.item * layout.count;
+    let first = first_row(links, count, table, start as u32);
+    let after = first_row(links, count, table, end as u32);
+    part_between(links, counts, table, layout, cuts, first, after, class2)
 }

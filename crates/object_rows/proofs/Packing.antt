@@ -10,6 +10,7 @@ use Rattle.folds.proofs.Folds.{sum-none, sum-more}
 use Rattle.folds.proofs.FromTheFront.{sum-cons, flat-cons, flat-same, length-even}
 use Rattle.folds.proofs.Put.{put-then}
 use Rattle.rules.specs.Written.{rowsFrom}
+use Rattle.rules.proofs.ObjectRows.{rows-length}
 use Rattle.object_rows.specs.Packing.{total, Long, Appended}
 
 -- the row of object i, where objects of these lengths stand from `at` on
@@ -67,11 +68,6 @@ rows-append (x ∷ xs) ys at =
     let e : at + length x + length (join xs) ≡ at + length (x ++ join xs) = omega (arith, length-append x (join xs)) in
     ap (λ (r : List ℕ). at ∷ (at + length x) ∷ r) (rows-append xs ys (at + length x) ∙ ap (λ (n : ℕ). rowsFrom (at + length x) xs ++ rowsFrom n ys) e)
 
-pub rows-long : (at : ℕ) (xs : List (List ℕ)) → length (rowsFrom at xs) ≡ 2 * length xs
-unfolding rowsFrom
-rows-long at [] = refl
-rows-long at (x ∷ xs) = omega (arith, rows-long (at + length x) xs)
-
 join-more : (xs : List (List ℕ)) (x : List ℕ) → length (join (xs ++ (x ∷ []))) ≡ length (join xs) + length x
 unfolding join
 join-more [] x = omega (arith, length-append x [])
@@ -83,7 +79,7 @@ pub one-more : (os out out′ : List ℕ) (n at : ℕ) (new : List (List ℕ)) (
 unfolding rowsFrom
 one-more os out out′ n at new r x a l h =
     let e = a .end-is in
-    let q : 2 * (n + length new) ≡ 2 * n + length (rowsFrom at new) = omega (arith, rows-long at new) in
+    let q : 2 * (n + length new) ≡ 2 * n + length (rowsFrom at new) = omega (arith, rows-length at new) in
     record {
       end-is = omega (arith, join-more new x);
       rows-are =

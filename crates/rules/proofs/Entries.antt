@@ -12,7 +12,7 @@ use Rattle.folds.specs.Folds.{upto, flat}
 use Rattle.folds.specs.Lists.{sift}
 use Rattle.folds.proofs.Tests.{by-test, either, and-both}
 use Rattle.folds.proofs.FromTheFront.{upto-getD}
-use Rattle.folds.proofs.Sifted.{sift-append}
+use Rattle.folds.proofs.Picked.{sift-append}
 use Rattle.folds.proofs.Each.{Each, each-sift}
 use Rattle.folds.proofs.Moved.{map-upto}
 use Rattle.opentype.specs.Coverage.{Entry}

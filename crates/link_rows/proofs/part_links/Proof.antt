@@ -1,24 +1,9 @@
--- `link_rows::part_links` meets its contract: the rows that are cut off are parted, and then the rows that stay are led to the kept table's new objects.
--- Assumes nothing.
+-- `link_rows::part_links` meets its contract: the rows of the items that are cut off are found by two searches. Assumes nothing.
 use native.Mathlib.Omega.{arith}
-use Rattle.rules.specs.Store.{lent}
-use mathlib.Core.List.{[]}
-use Rattle.link_rows.specs.Parting.{shapeWith}
-use Rattle.link_rows.proofs.Parting.{Ready, ready}
-use Rattle.link_rows.proofs.Finishing.{parted-call}
+use Rattle.link_rows.proofs.Parting.{start-short, between}
 use borrow.Author.Needs.{needs}
 use Rattle.link_rows.proofs.part_links.Statement.{statement}
 use Rattle.link_rows.proofs.part_links.Tie as tie
-
-known : (c : tie.After-objects-per-table)
-    → Ready (lent [] [] (c .before .before .before .before .before .args .links .now) (c .before .before .before .before .before .args .counts .now)) (shapeWith (c .before .before .before .before .before .args .layout)) (c .before .before .before .before .before .args .cuts .now) (c .before .before .before .before .before .args .first) (c .before .before .before .before .before .args .after) (c .before .before .before .before .before .args .class2) (c .objects-per-table .result)
-known c = ready _ _ _ _ _ _ _ _ (c .before .before .before .before .before .pre) (c .objects-per-table .ensures)
-
-element-copy-out-objects : tie.Need-element-copy-out-objects
-element-copy-out-objects c = search needs
-
-cast-objects : tie.Need-cast-objects
-cast-objects c = search needs
 
 element-copy-out-count : tie.Need-element-copy-out-count
 element-copy-out-count c = search needs
@@ -26,67 +11,62 @@ element-copy-out-count c = search needs
 cast-count : tie.Need-cast-count
 cast-count c = search needs
 
-objects-per-table-requires : tie.Need-objects-per-table-requires
-objects-per-table-requires c κs = search needs
+shared-slice-read-start : tie.Need-shared-slice-read-start
+shared-slice-read-start c = search needs
 
-part-rows-requires : tie.Need-part-rows-requires
-part-rows-requires c κs = let r = known (c .before) in (r .fits, ((r .few, r .used, r .room), (r .order, r .bottom)))
+cast-start : tie.Need-cast-start
+cast-start c = omega (arith, c .shared-slice-known2 .given 0)
 
-sub-keep-rows : tie.Need-sub-keep-rows
-sub-keep-rows c = search needs
+mul-start : tie.Need-mul-start
+mul-start c = omega (arith, start-short _ _ _ _ _ (c .before .before .before .before .before .pre))
 
-sub-keep-rows-2 : tie.Need-sub-keep-rows-2
-sub-keep-rows-2 c = search needs
+add-start : tie.Need-add-start
+add-start c = omega (arith, start-short _ _ _ _ _ (c .before .before .before .before .before .before .pre))
 
-mul-keep-rows : tie.Need-mul-keep-rows
-mul-keep-rows c = omega (arith, known (c .before .before .before .before .before))
+mul-end : tie.Need-mul-end
+mul-end c = search needs
 
-add-keep-rows : tie.Need-add-keep-rows
-add-keep-rows c = omega (arith, known (c .before .before .before .before .before))
+add-end : tie.Need-add-end
+add-end c = search needs
 
-cast-keep-rows : tie.Need-cast-keep-rows
-cast-keep-rows c = omega (arith, known (c .before .before .before .before .before))
+cast-first-row : tie.Need-cast-first-row
+cast-first-row c = omega (arith, start-short _ _ _ _ _ (c .before .before .before .before .before .before .before .before .before .pre))
 
-keep-rows-requires : tie.Need-keep-rows-requires
-keep-rows-requires c κs = let r = known (c .before .before .before .before .before) in (omega (arith, r), r .numbers)
+first-row-requires : tie.Need-first-row-requires
+first-row-requires c κs = search needs
 
-mul-result : tie.Need-mul-result
-mul-result c = omega (arith, known (c .before .before .before .before .before .before .before .before))
+cast-first-row-2 : tie.Need-cast-first-row-2
+cast-first-row-2 c = search needs
 
-sub-result : tie.Need-sub-result
-sub-result c = omega (arith, known (c .before .before .before .before .before .before .before .before))
+first-row-requires-2 : tie.Need-first-row-requires-2
+first-row-requires-2 c κs = search needs
 
-mul-result-2 : tie.Need-mul-result-2
-mul-result-2 c = omega (arith, known (c .before .before .before .before .before .before .before .before))
-
-add-result : tie.Need-add-result
-add-result c = omega (arith, known (c .before .before .before .before .before .before .before .before))
+part-between-requires : tie.Need-part-between-requires
+part-between-requires c κs =
+    between _ _ _ _ _ (c .before .before .before .before .before .before .before .before .before .before .before .before .before .pre) _ _ (λ i. c .before .before .before .before .before .before .before .before .before .before .before .before .slice-known .given i .fits) (c .before .before .before .first-row .ensures) (c .before .first-row2 .ensures)
 
 same-length : tie.Need-same-length
 same-length c = search needs
 
 returns : tie.Need-returns
-returns c = parted-call _ (c .before .before .before .before .before .before .before .before .before .before .before .before .before .args .counts .now) _ _ _ _ _ _ _ (c .before .before .before .before .before .before .before .before .before .before .before .before .before .pre) (c .before .before .before .before .before .before .before .before .objects-per-table .ensures) _ _ (c .before .before .before .before .before .before .part-rows .ensures) (c .before .before .keep-rows .ensures)
+returns c = search needs
 
 pub part-links-spec : {M : Type 1} → statement M
 part-links-spec =
     tie.close
     (tie.spec
-    element-copy-out-objects
-    cast-objects
     element-copy-out-count
     cast-count
-    objects-per-table-requires
-    part-rows-requires
-    sub-keep-rows
-    sub-keep-rows-2
-    mul-keep-rows
-    add-keep-rows
-    cast-keep-rows
-    keep-rows-requires
-    mul-result
-    sub-result
-    mul-result-2
-    add-result
+    shared-slice-read-start
+    cast-start
+    mul-start
+    add-start
+    mul-end
+    add-end
+    cast-first-row
+    first-row-requires
+    cast-first-row-2
+    first-row-requires-2
+    part-between-requires
     same-length
     returns)
