@@ -23,14 +23,13 @@ use Rattle.rules.specs.Store.{Store, childAt, bytesOf}
 use Rattle.rules.specs.Cuts.{within}
 use Rattle.rules.specs.Table.{shape, entriesOf}
 use Rattle.rules.specs.Written.{splitStore, from, to, newNumber, newTable, newParts, reduced, keptChild}
-use Rattle.rules.proofs.Samples.{same}
 use Rattle.rules.proofs.CutPlaces.{range-high}
 use Rattle.rules.proofs.Lookups.{child-used, child-other, mapped, mapped-id}
 use Rattle.rules.proofs.NewCounts.{per-two}
 use Rattle.rules.proofs.NewTable.{new-long, new-count, new-same, new-wide, new-rows}
 use Rattle.promises.proofs.Ready.{Ready, first-cut}
 use Rattle.promises.proofs.NewLinks.{others-child, new-item, new-cover, new-class1, new-class2, kept-child}
-use Rattle.promises.proofs.NewBytes.{table-object, counted, kept-bytes, kept-object}
+use Rattle.promises.proofs.NewBytes.{table-object, kept-bytes, kept-object}
 use Rattle.promises.proofs.OthersKept.{others-bytes}
 use Rattle.promises.proofs.View.{View}
 

@@ -23,7 +23,6 @@ use Rattle.opentype.proofs.Shapes.{header-long, format-two}
 use Rattle.opentype.proofs.Slots.{slot-eight, slot-fits}
 use Rattle.rules.specs.Store.{Store, Link, sizeOf, tailOf, headOf, parentOf, positionOf, ascends, linksOf, linkAt, bytesOf, sound}
 use Rattle.rules.specs.Walk.{ofItems}
-use Rattle.rules.specs.Cuts.{after}
 use Rattle.rules.specs.Table.{shape, linkedAt, cutPlaces}
 use Rattle.rules.specs.Written.{splitStore, newOf, link, newNumber, perTable, from, to, newLinks, kept, keptChild, headLinks, tableLinks, moved, storeAfter, rowNumbers}
 use Rattle.rules.proofs.Sound.{ObjectFits, LinkFits, Fits, fits-sound}

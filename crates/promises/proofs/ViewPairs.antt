@@ -18,7 +18,7 @@ use Rattle.opentype.specs.Numbers.{signed16, u16At}
 use Rattle.opentype.specs.Values.{bit, fieldAt, position, fieldCount}
 use Rattle.opentype.specs.Coverage.{Entry}
 use Rattle.opentype.specs.ClassDef.{classOf}
-use Rattle.opentype.specs.PairPos.{itemAt, recordSize, value1, value2, columns, Shape, firstRecord, valuesAt}
+use Rattle.opentype.specs.PairPos.{recordSize, value1, value2, Shape, itemAt, columns, firstRecord, valuesAt}
 use Rattle.opentype.proofs.Runs.{Ascends}
 use Rattle.opentype.proofs.Shapes.{format-two, format-one}
 use Rattle.opentype.proofs.Slots.{field-fits}
@@ -26,7 +26,6 @@ use Rattle.opentype.proofs.Octets.{u16-same}
 use Rattle.rules.specs.Store.{Store, bytesOf, childAt}
 use Rattle.rules.specs.Table.{shape, linkedBytes, entriesOf}
 use Rattle.rules.specs.Pairs.{numberOf, deviceNumber, pairAt, Spot, pairOf, noPair}
-use Rattle.rules.proofs.Examples.{found}
 use Rattle.rules.proofs.Lookups.{linked-some}
 use Rattle.rules.proofs.PairByItem.{rowSpot, setSpot, itemSpot, lies, entryOf, spot-by-item, entry-ranged, reduce}
 use Rattle.promises.proofs.View.{View, view-shape, view-columns, view-record, view-value1, view-value2, view-test, view-entries}
@@ -47,7 +46,7 @@ row-fits r k i c lo hi h l =
     let d : r * k * hi ≡ r * (hi * k) = mul-assoc r k hi ∙ ap (λ (n : ℕ). r * n) (mul-comm k hi) in
     omega (arith, mul-le-mul-left {m = i * k + c + 1 + lo * k} {n = hi * k} r n, mul-add r (i * k + c + 1) (lo * k), mul-add r (i * k + c) 1)
 
--- ---- numbers
+-- ---- what the readings share
 
 -- of another object that is as it was
 number-kept : (s s′ : Store) (o q vf j : ℕ) → bytesOf s′ o ≡ bytesOf s o → ((p : ℕ) → childAt s′ o p ≡ childAt s o p) → numberOf s′ o q vf j ≡ numberOf s o q vf j
@@ -55,137 +54,152 @@ unfolding numberOf
 number-kept s s′ o q vf j b l =
     ap₂ (λ (x : Option ℕ) (y : List ℕ). cond (eqb (bit vf j) 0) (pos 0) (cond (fieldAt j .device) (deviceNumber x) (signed16 (u16At y (q + 2 * position vf j))))) (l (q + 2 * position vf j)) b
 
-module _ {s : Store} {t : ℕ} {s′ : Store} {u lo hi : ℕ} (v : View s t s′ u lo hi) (two : eqb (shape s t .format) 1 ≡ false) where
-  number-row : (q vf j : ℕ) → j < 8 → shape s t .header ≤ q → q + 2 * fieldCount vf + shape s t .item * lo ≤ itemAt (shape s t) hi
-      → numberOf s′ u q vf j ≡ numberOf s t (q + shape s t .item * lo) vf j
-  unfolding numberOf
-  number-row q vf j h a b = go (eqb (bit vf j) 0) refl
-    where
-      go : (z : Bool) → eqb (bit vf j) 0 ≡ z
-          → cond z (pos 0) (cond (fieldAt j .device) (deviceNumber (childAt s′ u (q + 2 * position vf j))) (signed16 (u16At (bytesOf s′ u) (q + 2 * position vf j))))
-          ≡ cond z (pos 0) (cond (fieldAt j .device) (deviceNumber (childAt s t (q + shape s t .item * lo + 2 * position vf j))) (signed16 (u16At (bytesOf s t) (q + shape s t .item * lo + 2 * position vf j))))
-      go true e = refl
-      go false e =
-          let p = q + 2 * position vf j in
-          let f : position vf j + 1 ≤ fieldCount vf = field-fits vf j h e in
-          let w : p + shape s t .item * lo ≡ q + shape s t .item * lo + 2 * position vf j = omega arith in
-          let w1 : p + 1 + shape s t .item * lo ≡ q + shape s t .item * lo + 2 * position vf j + 1 = omega arith in
-          ap₂ (λ (x : Option ℕ) (y : ℕ). cond (fieldAt j .device) (deviceNumber x) (signed16 y))
-          (v .links p (omega arith) (omega arith) ∙ ap (childAt s t) w)
-          (u16-same (bytesOf s′ u) (bytesOf s t) p (q + shape s t .item * lo + 2 * position vf j)
-          (v .rows two p (omega arith) (omega arith) ∙ ap (λ (n : ℕ). getD (bytesOf s t) n 0) w)
-          (v .rows two (p + 1) (omega arith) (omega arith) ∙ ap (λ (n : ℕ). getD (bytesOf s t) n 0) w1))
-
--- ---- format 2: the row of an item
-
 record-is : (b : List ℕ) → recordSize b ≡ 2 * (fieldCount (value1 b) + fieldCount (value2 b))
 unfolding recordSize
 record-is b = refl
-
-module _ {s : Store} {t : ℕ} {s′ : Store} {u lo hi : ℕ} (v : View s t s′ u lo hi) (two : eqb (shape s t .format) 1 ≡ false) where
-  class2-view : (b : ℕ) → classOf (linkedBytes s′ u 10) b ≡ classOf (linkedBytes s t 10) b
-  class2-view b = let (c, e, f, g) = v .class2 two in ap (λ (x : List ℕ). classOf x b) (linked-some s′ u 10 c e ∙ g ∙ sym (linked-some s t 10 c f))
-
-  -- where the values stand in the row of item i
-  abbrev rowAt : ℕ → ℕ → ℕ
-  rowAt b i = 16 + recordSize (bytesOf s t) * (i * columns (bytesOf s t) + classOf (linkedBytes s t 10) b)
-
-  spot-new : (b i : ℕ) → i + lo < hi → rowSpot s′ u b i ≡ given (ltb (classOf (linkedBytes s t 10) b) (columns (bytesOf s t))) (record { object = u; at = rowAt b i })
-  unfolding rowSpot
-  spot-new b i h =
-      let count′ : shape s′ u .count ≡ hi - lo = ap (λ (sh : Shape). sh .count) (view-shape v) in
-      let x : ltb i (shape s′ u .count) ≡ true = lt-ltb i (shape s′ u .count) (omega arith) in
-      λ d. given (x d && ltb (class2-view b d) (view-columns v two d)) (record { object = u; at = 16 + view-record v d * (i * view-columns v two d + class2-view b d) })
-
-  spot-old : (b i : ℕ) → i + lo < hi → rowSpot s t b (i + lo) ≡ given (ltb (classOf (linkedBytes s t 10) b) (columns (bytesOf s t))) (record { object = t; at = rowAt b i + shape s t .item * lo })
-  unfolding rowSpot
-  spot-old b i h =
-      let hh = v .high in
-      let y : ltb (i + lo) (shape s t .count) ≡ true = lt-ltb (i + lo) (shape s t .count) (omega arith) in
-      let f = format-two (bytesOf s t) two in
-      let g : shape s t .item * lo ≡ recordSize (bytesOf s t) * columns (bytesOf s t) * lo = ap (λ (n : ℕ). n * lo) (f .itemIs) in
-      let z : 16 + recordSize (bytesOf s t) * ((i + lo) * columns (bytesOf s t) + classOf (linkedBytes s t 10) b) ≡ rowAt b i + shape s t .item * lo
-      = omega (arith, row-shift (recordSize (bytesOf s t)) (columns (bytesOf s t)) i (classOf (linkedBytes s t 10) b) lo) in
-      λ d. given (y d && ltb (classOf (linkedBytes s t 10) b) (columns (bytesOf s t))) (record { object = t; at = z d })
-
-  pair-given : (b i : ℕ) → i + lo < hi → (x : Bool) → (x ≡ true → classOf (linkedBytes s t 10) b < columns (bytesOf s t))
-      → pairAt s′ u (given x (record { object = u; at = rowAt b i })) ≡ pairAt s t (given x (record { object = t; at = rowAt b i + shape s t .item * lo }))
-  unfolding pairAt
-  pair-given b i h false c = refl
-  pair-given b i h true c =
-      let f = format-two (bytesOf s t) two in
-      let g : shape s t .item * lo ≡ recordSize (bytesOf s t) * columns (bytesOf s t) * lo = ap (λ (n : ℕ). n * lo) (f .itemIs) in
-      let g′ : shape s t .item * hi ≡ recordSize (bytesOf s t) * columns (bytesOf s t) * hi = ap (λ (n : ℕ). n * hi) (f .itemIs) in
-      let r = record-is (bytesOf s t) in
-      let fits : rowAt b i + recordSize (bytesOf s t) + shape s t .item * lo ≤ itemAt (shape s t) hi = omega (arith, row-fits (recordSize (bytesOf s t)) (columns (bytesOf s t)) i (classOf (linkedBytes s t 10) b) lo hi h (c refl)) in
-      let z : rowAt b i + 2 * fieldCount (value1 (bytesOf s t)) + shape s t .item * lo ≡ rowAt b i + shape s t .item * lo + 2 * fieldCount (value1 (bytesOf s t)) = omega arith in
-      let p : upto (numberOf s′ u (rowAt b i) (value1 (bytesOf s′ u))) 8 ≡ upto (numberOf s t (rowAt b i + shape s t .item * lo) (value1 (bytesOf s t))) 8
-      = ap (λ (vf : ℕ). upto (numberOf s′ u (rowAt b i) vf) 8) (view-value1 v)
-      ∙ upto-same (numberOf s′ u (rowAt b i) (value1 (bytesOf s t))) (numberOf s t (rowAt b i + shape s t .item * lo) (value1 (bytesOf s t))) 8 (λ j l. number-row v two (rowAt b i) (value1 (bytesOf s t)) j l (omega arith) (omega arith)) in
-      let q : upto (numberOf s′ u (rowAt b i + 2 * fieldCount (value1 (bytesOf s′ u))) (value2 (bytesOf s′ u))) 8 ≡ upto (numberOf s t (rowAt b i + shape s t .item * lo + 2 * fieldCount (value1 (bytesOf s t))) (value2 (bytesOf s t))) 8
-      = ap₂ (λ (x y : ℕ). upto (numberOf s′ u (rowAt b i + 2 * fieldCount x) y) 8) (view-value1 v) (view-value2 v)
-      ∙ upto-same (numberOf s′ u (rowAt b i + 2 * fieldCount (value1 (bytesOf s t))) (value2 (bytesOf s t))) (numberOf s t (rowAt b i + 2 * fieldCount (value1 (bytesOf s t)) + shape s t .item * lo) (value2 (bytesOf s t))) 8
-      (λ j l. number-row v two (rowAt b i + 2 * fieldCount (value1 (bytesOf s t))) (value2 (bytesOf s t)) j l (omega arith) (omega arith))
-      ∙ ap (λ (n : ℕ). upto (numberOf s t n (value2 (bytesOf s t))) 8) z in
-      λ d. record { found = true; first = p d; second = q d }
-
-  pub row-pair : (b i : ℕ) → i + lo < hi → pairAt s′ u (rowSpot s′ u b i) ≡ pairAt s t (rowSpot s t b (i + lo))
-  row-pair b i h =
-      ap (pairAt s′ u) (spot-new b i h)
-      ∙ pair-given b i h (ltb (classOf (linkedBytes s t 10) b) (columns (bytesOf s t))) (λ e. ltb-true (classOf (linkedBytes s t 10) b) (columns (bytesOf s t)) e)
-      ∙ sym (ap (pairAt s t) (spot-old b i h))
-
--- ---- format 1: the pair set of an item
 
 -- what t leads to is as it was
 abbrev pub Kin : Store → ℕ → Store → Type 0
 Kin s t s′ = (q c : ℕ) → childAt s t q ≡ some c → (bytesOf s′ c ≡ bytesOf s c) × ((p : ℕ) → childAt s′ c p ≡ childAt s c p)
 
-module _ {s : Store} {t : ℕ} {s′ : Store} {u lo hi : ℕ} (v : View s t s′ u lo hi) (one : eqb (shape s t .format) 1 ≡ true) (kin : Kin s t s′) where
-  -- the reading from a set on
-  abbrev inSet : Store → ℕ → ℕ → ℕ → Option Spot
-  inSet r size b c = andThen (firstRecord (bytesOf r c) size b) λ k. some (record { object = c; at = valuesAt size k })
+module _ {s : Store} {t : ℕ} {s′ : Store} {u lo hi : ℕ} (v : View s t s′ u lo hi) where
+  abbrev sh : Shape
+  sh = shape s t
 
-  set-pair-at : (b : ℕ) (o : Option ℕ) → ((c : ℕ) → o ≡ some c → (bytesOf s′ c ≡ bytesOf s c) × ((p : ℕ) → childAt s′ c p ≡ childAt s c p))
-      → pairAt s′ u (andThen o (inSet s′ (recordSize (bytesOf s′ u)) b)) ≡ pairAt s t (andThen o (inSet s (recordSize (bytesOf s t)) b))
-  unfolding andThen pairAt
-  set-pair-at b none k = refl
-  set-pair-at b (some c) k =
-      let (x, y) = k c refl in
-      ap₂ (λ (z : List ℕ) (n : ℕ). pairAt s′ u (andThen (firstRecord z n b) λ k. some (record { object = c; at = valuesAt n k }))) x (view-record v)
-      ∙ go x y (firstRecord (bytesOf s c) (recordSize (bytesOf s t)) b)
-    where
-      go : bytesOf s′ c ≡ bytesOf s c → ((p : ℕ) → childAt s′ c p ≡ childAt s c p) → (o : Option ℕ)
-          → pairAt s′ u (andThen o λ k. some (record { object = c; at = valuesAt (recordSize (bytesOf s t)) k })) ≡ pairAt s t (andThen o λ k. some (record { object = c; at = valuesAt (recordSize (bytesOf s t)) k }))
-      go x y none = refl
-      go x y (some k) =
-          let q = valuesAt (recordSize (bytesOf s t)) k in
-          let f : upto (numberOf s′ c q (value1 (bytesOf s′ u))) 8 ≡ upto (numberOf s c q (value1 (bytesOf s t))) 8
-          = ap (λ (vf : ℕ). upto (numberOf s′ c q vf) 8) (view-value1 v) ∙ upto-same (numberOf s′ c q (value1 (bytesOf s t))) (numberOf s c q (value1 (bytesOf s t))) 8 (λ j l. number-kept s s′ c q (value1 (bytesOf s t)) j x y) in
-          let g : upto (numberOf s′ c (q + 2 * fieldCount (value1 (bytesOf s′ u))) (value2 (bytesOf s′ u))) 8 ≡ upto (numberOf s c (q + 2 * fieldCount (value1 (bytesOf s t))) (value2 (bytesOf s t))) 8
-          = ap₂ (λ (m n : ℕ). upto (numberOf s′ c (q + 2 * fieldCount m) n) 8) (view-value1 v) (view-value2 v)
-          ∙ upto-same (numberOf s′ c (q + 2 * fieldCount (value1 (bytesOf s t))) (value2 (bytesOf s t))) (numberOf s c (q + 2 * fieldCount (value1 (bytesOf s t))) (value2 (bytesOf s t))) 8 (λ j l. number-kept s s′ c (q + 2 * fieldCount (value1 (bytesOf s t))) (value2 (bytesOf s t)) j x y) in
-          λ d. record { found = true; first = f d; second = g d }
+  -- the old table's bytes
+  abbrev old : List ℕ
+  old = bytesOf s t
 
-  pub set-pair : (b i : ℕ) → i + lo < hi → pairAt s′ u (setSpot s′ u b i) ≡ pairAt s t (setSpot s t b (i + lo))
-  unfolding setSpot andThen
-  set-pair b i h =
-      let hh = v .high in
-      let i2 = format-one (bytesOf s t) one .itemIs in
-      let m : shape s t .item * (i + lo) ≡ 2 * (i + lo) = ap (λ (n : ℕ). n * (i + lo)) i2 in
-      let m1 : shape s t .item * i ≡ 2 * i = ap (λ (n : ℕ). n * i) i2 in
-      let m2 : shape s t .item * lo ≡ 2 * lo = ap (λ (n : ℕ). n * lo) i2 in
-      let m3 : shape s t .item * hi ≡ 2 * hi = ap (λ (n : ℕ). n * hi) i2 in
-      let count′ : shape s′ u .count ≡ hi - lo = ap (λ (sh : Shape). sh .count) (view-shape v) in
-      let place′ : itemAt (shape s′ u) i ≡ itemAt (shape s t) i = ap (λ (sh : Shape). itemAt sh i) (view-shape v) in
-      let x : ltb i (shape s′ u .count) ≡ true = lt-ltb i (shape s′ u .count) (omega arith) in
-      let y : ltb (i + lo) (shape s t .count) ≡ true = lt-ltb (i + lo) (shape s t .count) (omega arith) in
-      let e : itemAt (shape s t) i + shape s t .item * lo ≡ itemAt (shape s t) (i + lo) = omega arith in
-      let w : childAt s′ u (itemAt (shape s′ u) i) ≡ childAt s t (itemAt (shape s t) (i + lo)) = ap (childAt s′ u) place′ ∙ v .links (itemAt (shape s t) i) (omega arith) (omega arith) ∙ ap (childAt s t) e in
-      ap (λ (z : Bool). pairAt s′ u (andThen (given z (itemAt (shape s′ u) i)) λ q. andThen (childAt s′ u q) (inSet s′ (recordSize (bytesOf s′ u)) b))) x
-      ∙ ap (λ (o : Option ℕ). pairAt s′ u (andThen o (inSet s′ (recordSize (bytesOf s′ u)) b))) w
-      ∙ set-pair-at b (childAt s t (itemAt (shape s t) (i + lo))) (λ c r. kin (itemAt (shape s t) (i + lo)) c r)
-      ∙ sym (ap (λ (z : Bool). pairAt s t (andThen (given z (itemAt (shape s t) (i + lo))) λ q. andThen (childAt s t q) (inSet s (recordSize (bytesOf s t)) b))) y)
+  -- and its own
+  abbrev new : List ℕ
+  new = bytesOf s′ u
+
+  -- ---- format 2: the row of an item
+
+  module _ (two : eqb (shape s t .format) 1 ≡ false) where
+    -- the class of the second glyph
+    abbrev column : ℕ → ℕ
+    column b = classOf (linkedBytes s t 10) b
+
+    number-row : (q vf j : ℕ) → j < 8 → sh .header ≤ q → q + 2 * fieldCount vf + sh .item * lo ≤ itemAt sh hi
+        → numberOf s′ u q vf j ≡ numberOf s t (q + sh .item * lo) vf j
+    unfolding numberOf
+    number-row q vf j h a b = go (eqb (bit vf j) 0) refl
+      where
+        go : (z : Bool) → eqb (bit vf j) 0 ≡ z
+            → cond z (pos 0) (cond (fieldAt j .device) (deviceNumber (childAt s′ u (q + 2 * position vf j))) (signed16 (u16At new (q + 2 * position vf j))))
+            ≡ cond z (pos 0) (cond (fieldAt j .device) (deviceNumber (childAt s t (q + sh .item * lo + 2 * position vf j))) (signed16 (u16At old (q + sh .item * lo + 2 * position vf j))))
+        go true e = refl
+        go false e =
+            let p = q + 2 * position vf j in
+            let f : position vf j + 1 ≤ fieldCount vf = field-fits vf j h e in
+            let w : p + sh .item * lo ≡ q + sh .item * lo + 2 * position vf j = omega arith in
+            let w1 : p + 1 + sh .item * lo ≡ q + sh .item * lo + 2 * position vf j + 1 = omega arith in
+            ap₂ (λ (x : Option ℕ) (y : ℕ). cond (fieldAt j .device) (deviceNumber x) (signed16 y))
+            (v .links p (omega arith) (omega arith) ∙ ap (childAt s t) w)
+            (u16-same new old p (q + sh .item * lo + 2 * position vf j)
+            (v .rows two p (omega arith) (omega arith) ∙ ap (λ (n : ℕ). getD old n 0) w)
+            (v .rows two (p + 1) (omega arith) (omega arith) ∙ ap (λ (n : ℕ). getD old n 0) w1))
+
+    class2-view : (b : ℕ) → classOf (linkedBytes s′ u 10) b ≡ column b
+    class2-view b = let (c, e, f, g) = v .class2 two in ap (λ (x : List ℕ). classOf x b) (linked-some s′ u 10 c e ∙ g ∙ sym (linked-some s t 10 c f))
+
+    -- where the values stand in the row of item i
+    abbrev rowAt : ℕ → ℕ → ℕ
+    rowAt b i = 16 + recordSize old * (i * columns old + column b)
+
+    spot-new : (b i : ℕ) → i + lo < hi → rowSpot s′ u b i ≡ given (ltb (column b) (columns old)) (record { object = u; at = rowAt b i })
+    unfolding rowSpot
+    spot-new b i h =
+        let count′ : shape s′ u .count ≡ hi - lo = ap (λ (sh : Shape). sh .count) (view-shape v) in
+        let x : ltb i (shape s′ u .count) ≡ true = lt-ltb i (shape s′ u .count) (omega arith) in
+        λ d. given (x d && ltb (class2-view b d) (view-columns v two d)) (record { object = u; at = 16 + view-record v d * (i * view-columns v two d + class2-view b d) })
+
+    spot-old : (b i : ℕ) → i + lo < hi → rowSpot s t b (i + lo) ≡ given (ltb (column b) (columns old)) (record { object = t; at = rowAt b i + sh .item * lo })
+    unfolding rowSpot
+    spot-old b i h =
+        let hh = v .high in
+        let y : ltb (i + lo) (sh .count) ≡ true = lt-ltb (i + lo) (sh .count) (omega arith) in
+        let f = format-two old two in
+        let g : sh .item * lo ≡ recordSize old * columns old * lo = ap (λ (n : ℕ). n * lo) (f .itemIs) in
+        let z : 16 + recordSize old * ((i + lo) * columns old + column b) ≡ rowAt b i + sh .item * lo
+        = omega (arith, row-shift (recordSize old) (columns old) i (column b) lo) in
+        λ d. given (y d && ltb (column b) (columns old)) (record { object = t; at = z d })
+
+    pair-given : (b i : ℕ) → i + lo < hi → (x : Bool) → (x ≡ true → column b < columns old)
+        → pairAt s′ u (given x (record { object = u; at = rowAt b i })) ≡ pairAt s t (given x (record { object = t; at = rowAt b i + sh .item * lo }))
+    unfolding pairAt
+    pair-given b i h false c = refl
+    pair-given b i h true c =
+        let f = format-two old two in
+        let g : sh .item * lo ≡ recordSize old * columns old * lo = ap (λ (n : ℕ). n * lo) (f .itemIs) in
+        let g′ : sh .item * hi ≡ recordSize old * columns old * hi = ap (λ (n : ℕ). n * hi) (f .itemIs) in
+        let r = record-is old in
+        let fits : rowAt b i + recordSize old + sh .item * lo ≤ itemAt sh hi = omega (arith, row-fits (recordSize old) (columns old) i (column b) lo hi h (c refl)) in
+        let z : rowAt b i + 2 * fieldCount (value1 old) + sh .item * lo ≡ rowAt b i + sh .item * lo + 2 * fieldCount (value1 old) = omega arith in
+        let p : upto (numberOf s′ u (rowAt b i) (value1 new)) 8 ≡ upto (numberOf s t (rowAt b i + sh .item * lo) (value1 old)) 8
+        = ap (λ (vf : ℕ). upto (numberOf s′ u (rowAt b i) vf) 8) (view-value1 v)
+        ∙ upto-same (numberOf s′ u (rowAt b i) (value1 old)) (numberOf s t (rowAt b i + sh .item * lo) (value1 old)) 8 (λ j l. number-row (rowAt b i) (value1 old) j l (omega arith) (omega arith)) in
+        let q : upto (numberOf s′ u (rowAt b i + 2 * fieldCount (value1 new)) (value2 new)) 8 ≡ upto (numberOf s t (rowAt b i + sh .item * lo + 2 * fieldCount (value1 old)) (value2 old)) 8
+        = ap₂ (λ (x y : ℕ). upto (numberOf s′ u (rowAt b i + 2 * fieldCount x) y) 8) (view-value1 v) (view-value2 v)
+        ∙ upto-same (numberOf s′ u (rowAt b i + 2 * fieldCount (value1 old)) (value2 old)) (numberOf s t (rowAt b i + 2 * fieldCount (value1 old) + sh .item * lo) (value2 old)) 8
+        (λ j l. number-row (rowAt b i + 2 * fieldCount (value1 old)) (value2 old) j l (omega arith) (omega arith))
+        ∙ ap (λ (n : ℕ). upto (numberOf s t n (value2 old)) 8) z in
+        λ d. record { found = true; first = p d; second = q d }
+
+    pub row-pair : (b i : ℕ) → i + lo < hi → pairAt s′ u (rowSpot s′ u b i) ≡ pairAt s t (rowSpot s t b (i + lo))
+    row-pair b i h =
+        ap (pairAt s′ u) (spot-new b i h)
+        ∙ pair-given b i h (ltb (column b) (columns old)) (λ e. ltb-true (column b) (columns old) e)
+        ∙ sym (ap (pairAt s t) (spot-old b i h))
+
+  -- ---- format 1: the pair set of an item
+
+  module _ (one : eqb (shape s t .format) 1 ≡ true) (kin : Kin s t s′) where
+    -- the reading from a set on
+    abbrev inSet : Store → ℕ → ℕ → ℕ → Option Spot
+    inSet r size b c = andThen (firstRecord (bytesOf r c) size b) λ k. some (record { object = c; at = valuesAt size k })
+
+    set-pair-at : (b : ℕ) (o : Option ℕ) → ((c : ℕ) → o ≡ some c → (bytesOf s′ c ≡ bytesOf s c) × ((p : ℕ) → childAt s′ c p ≡ childAt s c p))
+        → pairAt s′ u (andThen o (inSet s′ (recordSize new) b)) ≡ pairAt s t (andThen o (inSet s (recordSize old) b))
+    unfolding andThen pairAt
+    set-pair-at b none k = refl
+    set-pair-at b (some c) k =
+        let (x, y) = k c refl in
+        ap₂ (λ (z : List ℕ) (n : ℕ). pairAt s′ u (andThen (firstRecord z n b) λ k. some (record { object = c; at = valuesAt n k }))) x (view-record v)
+        ∙ go x y (firstRecord (bytesOf s c) (recordSize old) b)
+      where
+        go : bytesOf s′ c ≡ bytesOf s c → ((p : ℕ) → childAt s′ c p ≡ childAt s c p) → (o : Option ℕ)
+            → pairAt s′ u (andThen o λ k. some (record { object = c; at = valuesAt (recordSize old) k })) ≡ pairAt s t (andThen o λ k. some (record { object = c; at = valuesAt (recordSize old) k }))
+        go x y none = refl
+        go x y (some k) =
+            let q = valuesAt (recordSize old) k in
+            let f : upto (numberOf s′ c q (value1 new)) 8 ≡ upto (numberOf s c q (value1 old)) 8
+            = ap (λ (vf : ℕ). upto (numberOf s′ c q vf) 8) (view-value1 v) ∙ upto-same (numberOf s′ c q (value1 old)) (numberOf s c q (value1 old)) 8 (λ j l. number-kept s s′ c q (value1 old) j x y) in
+            let g : upto (numberOf s′ c (q + 2 * fieldCount (value1 new)) (value2 new)) 8 ≡ upto (numberOf s c (q + 2 * fieldCount (value1 old)) (value2 old)) 8
+            = ap₂ (λ (m n : ℕ). upto (numberOf s′ c (q + 2 * fieldCount m) n) 8) (view-value1 v) (view-value2 v)
+            ∙ upto-same (numberOf s′ c (q + 2 * fieldCount (value1 old)) (value2 old)) (numberOf s c (q + 2 * fieldCount (value1 old)) (value2 old)) 8 (λ j l. number-kept s s′ c (q + 2 * fieldCount (value1 old)) (value2 old) j x y) in
+            λ d. record { found = true; first = f d; second = g d }
+
+    pub set-pair : (b i : ℕ) → i + lo < hi → pairAt s′ u (setSpot s′ u b i) ≡ pairAt s t (setSpot s t b (i + lo))
+    unfolding setSpot andThen
+    set-pair b i h =
+        let hh = v .high in
+        let i2 = format-one old one .itemIs in
+        let m : sh .item * (i + lo) ≡ 2 * (i + lo) = ap (λ (n : ℕ). n * (i + lo)) i2 in
+        let m1 : sh .item * i ≡ 2 * i = ap (λ (n : ℕ). n * i) i2 in
+        let m2 : sh .item * lo ≡ 2 * lo = ap (λ (n : ℕ). n * lo) i2 in
+        let m3 : sh .item * hi ≡ 2 * hi = ap (λ (n : ℕ). n * hi) i2 in
+        let count′ : shape s′ u .count ≡ hi - lo = ap (λ (sh : Shape). sh .count) (view-shape v) in
+        let place′ : itemAt (shape s′ u) i ≡ itemAt sh i = ap (λ (sh : Shape). itemAt sh i) (view-shape v) in
+        let x : ltb i (shape s′ u .count) ≡ true = lt-ltb i (shape s′ u .count) (omega arith) in
+        let y : ltb (i + lo) (sh .count) ≡ true = lt-ltb (i + lo) (sh .count) (omega arith) in
+        let e : itemAt sh i + sh .item * lo ≡ itemAt sh (i + lo) = omega arith in
+        let w : childAt s′ u (itemAt (shape s′ u) i) ≡ childAt s t (itemAt sh (i + lo)) = ap (childAt s′ u) place′ ∙ v .links (itemAt sh i) (omega arith) (omega arith) ∙ ap (childAt s t) e in
+        ap (λ (z : Bool). pairAt s′ u (andThen (given z (itemAt (shape s′ u) i)) λ q. andThen (childAt s′ u q) (inSet s′ (recordSize new) b))) x
+        ∙ ap (λ (o : Option ℕ). pairAt s′ u (andThen o (inSet s′ (recordSize new) b))) w
+        ∙ set-pair-at b (childAt s t (itemAt sh (i + lo))) (λ c r. kin (itemAt sh (i + lo)) c r)
+        ∙ sym (ap (λ (z : Bool). pairAt s t (andThen (given z (itemAt sh (i + lo))) λ q. andThen (childAt s t q) (inSet s (recordSize old) b))) y)
 
 -- ---- in either format
 

@@ -28,8 +28,7 @@ use Rattle.opentype.proofs.Entries.{ascends-plain, Agrees, agrees-self}
 use Rattle.rules.specs.Store.{Store, sound, childAt, bytesOf}
 use Rattle.rules.specs.Cuts.{within}
 use Rattle.rules.specs.Table.{entriesOf, linkedBytes, shape, partsReadable, glyphsOf, linkedAt, cutPlaces}
-use Rattle.rules.specs.Written.{reduced, splitStore, kept}
-use Rattle.rules.proofs.Examples.{enough, covers}
+use Rattle.rules.specs.Written.{reduced, splitStore}
 use Rattle.rules.proofs.Lookups.{linked-some}
 use Rattle.rules.proofs.Entries.{under-reduced, inRange, entries1, within-upto, within-low, entries2}
 use Rattle.rules.proofs.Checks.{Reads, entries-ascend, entries-under, class-read, reads-no-case}
