@@ -10,6 +10,7 @@ pub mod PairsKept
 pub mod LinksCounted
 pub mod StaysSound
 pub mod WrittenAfresh
+pub mod ReadingsKept
 pub mod SameReach
 pub mod AgainNothing
 pub mod StaysOctets

@@ -130,6 +130,14 @@ abbrev pub WrittenAfresh : Type 0
 WrittenAfresh =
     (s : Store) (t : ℕ) (w : Scratch) (list : List ℕ) → Octets s → Splits s t w list → AllAfresh s t (storeThen s t w list) (cutPlaces s t)
 
+-- and the pair reading takes the old table and each resulting one: it answers 0 with the table's own pair, of which `PairsKept` speaks
+abbrev pub ReadingsKept : Type 0
+ReadingsKept =
+    (s : Store) (t : ℕ) (w : Scratch) (list : List ℕ) → Octets s → Splits s t w list → (a b : ℕ)
+    → (pairCall s t a b ≡ reported 0 (pairOf s t a b))
+    × ((i : ℕ) → i < length (resulting s t)
+    → pairCall (storeThen s t w list) (getD (resulting s t) i 0) a b ≡ reported 0 (pairOf (storeThen s t w list) (getD (resulting s t) i 0) a b))
+
 -- ---- 3: every other object in use keeps its place, its bytes and its links
 
 abbrev pub OthersKept : Type 0
