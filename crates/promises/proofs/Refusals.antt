@@ -18,7 +18,7 @@ use Rattle.rules.specs.Pairs.{pairOf, noPair}
 use Rattle.rules.specs.Answers.{Scratch, Outcome, settle, splitCall, planCall, done, firstCase, splitCases, planCases, cutCases, case, roomShort, readCases, pairCall, settlePair, cleared}
 use Rattle.rules.specs.declared.Answer.the-variants.{NoRoom}
 use Rattle.rules.proofs.Checks.{some-case, first-stands}
-use Rattle.promises.specs.Demands.{Unchanged, Refusals, NoCutNothing, OtherFormats, PlanReads, PairRefusals, AsManyAsCuts}
+use Rattle.promises.specs.Demands.{Unchanged, Refusals, NoCutNothing, OtherFormats, ScratchZero, PlanReads, PairRefusals, AsManyAsCuts}
 use Rattle.promises.proofs.Ready.{splits-ready}
 
 -- ---- a split or a plan
@@ -88,15 +88,31 @@ other-formats s t w list a b c d e =
       λ x y. ap (λ (c : Option ℕ). settlePair c (pairOf s t x y)) f,
     )
 
--- ---- the plan, and the pair reading
+-- ---- in every case
+
+-- where the outcome of going ahead has its scratch cleared
+zeroed : (c : Option ℕ) (s : Store) (w : Scratch) (list : List ℕ) (o : Outcome) → o .scratch ≡ cleared w → settle c s list w o .scratch ≡ cleared w
+unfolding settle
+zeroed (some n) s w list o z = refl
+zeroed none s w list o z = z
+
+-- "All lent scratch is zero after every call."
+pub scratch-zero : ScratchZero
+unfolding splitCall planCall done
+scratch-zero s t w list = (
+  zeroed (firstCase (splitCases s t w list)) s w list (done (splitStore s t (cutPlaces s t)) (newTables s t (cutPlaces s t)) list w) refl,
+  zeroed (firstCase (planCases s t w list)) s w list (done s (cutPlaces s t) list w) refl,
+)
 
 pub plan-reads : PlanReads
 unfolding planCall done settle
 plan-reads s t w list = go (firstCase (planCases s t w list))
   where
-    go : (c : Option ℕ) → (settle c s list w (done s (cutPlaces s t) list w) .store ≡ s) × (settle c s list w (done s (cutPlaces s t) list w) .scratch ≡ cleared w)
-    go (some n) = let u = settled n s w list (done s (cutPlaces s t) list w) in (u .sameStore, u .zeroScratch)
-    go none = (refl, refl)
+    go : (c : Option ℕ) → settle c s list w (done s (cutPlaces s t) list w) .store ≡ s
+    go (some n) = refl
+    go none = refl
+
+-- ---- the pair reading
 
 -- "refuses by 1 to 5 in this order with no pair and sixteen zeros"
 pub pair-refusals : PairRefusals

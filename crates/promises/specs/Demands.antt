@@ -1,4 +1,5 @@
--- What is promised of every call, as statements over its outcome in `rules`. Assumes nothing.
+-- What is promised of every call, as statements over its outcome in `rules`: s is the store that is lent, t the table's number, w the scratch and list the
+-- result list, or the plan's places. Assumes nothing.
 use Prim.Native.Nat.{ℕ, _+_, _<_, _≤_}
 use mathlib.Core.Path.{_≡_}
 use mathlib.Core.Bool.{true, false}
@@ -55,9 +56,13 @@ PairRefusals =
     (s : Store) (t a b : ℕ) → (pairCall s t a b .answer ≡ 0 → ⊥)
     → (pairCall s t a b .found ≡ 0) × (pairCall s t a b .values ≡ replicate 16 (pos 0))
 
--- the plan writes to its own list and to the scratch alone
+-- "All lent scratch is zero after every call."
+abbrev pub ScratchZero : Type 0
+ScratchZero = (s : Store) (t : ℕ) (w : Scratch) (list : List ℕ) → (splitCall s t w list .scratch ≡ cleared w) × (planCall s t w list .scratch ≡ cleared w)
+
+-- the plan's store is read only
 abbrev pub PlanReads : Type 0
-PlanReads = (s : Store) (t : ℕ) (w : Scratch) (list : List ℕ) → (planCall s t w list .store ≡ s) × (planCall s t w list .scratch ≡ cleared w)
+PlanReads = (s : Store) (t : ℕ) (w : Scratch) (list : List ℕ) → planCall s t w list .store ≡ s
 
 -- ---- after a split
 
