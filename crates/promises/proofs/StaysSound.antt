@@ -28,7 +28,8 @@ use Rattle.rules.specs.Written.{splitStore, newOf, link, newNumber, perTable, f
 use Rattle.rules.proofs.Sound.{ObjectFits, LinkFits, Fits, fits-sound}
 use Rattle.rules.proofs.Lookups.{child-used}
 use Rattle.rules.proofs.ItemLinks.{items-in, items-from}
-use Rattle.rules.proofs.LinkRows.{From, Climb, climb-upto, climb-upper, climb-append, climb-stay, climb-flat, noLink, row-is, climb-next, rows-numbers}
+use Rattle.rules.proofs.LinkRows.{noLink, row-is, rows-numbers}
+use Rattle.rules.proofs.LinksAscend.{From, Climb, climb-upto, climb-upper, climb-append, climb-stay, climb-flat, climb-next}
 use Rattle.rules.proofs.Checks.{at-slot}
 use Rattle.rules.proofs.NewCounts.{per-two}
 use Rattle.rules.proofs.TableLinks.{table-climb, heads-one, heads-two}

@@ -8,6 +8,7 @@ pub mod FirstCut
 pub mod Lookups
 pub mod ItemLinks
 pub mod LinkRows
+pub mod LinksAscend
 pub mod Entries
 pub mod PairByItem
 pub mod Checks

@@ -20,7 +20,7 @@ use Rattle.rules.specs.Table.{linkedAt, shape}
 use Rattle.rules.specs.Written.{moved, headLinks, tableLinks, link, kept, keptChild}
 use Rattle.rules.proofs.Lookups.{hit, lookup-append, lookup-lost}
 use Rattle.rules.proofs.ItemLinks.{items-from}
-use Rattle.rules.proofs.LinkRows.{Climb, climb-moved}
+use Rattle.rules.proofs.LinksAscend.{Climb, climb-moved}
 
 -- ---- where a new table's links stand
 
