@@ -1,6 +1,6 @@
 -- What the checks 1 to 5 decide, as the code answers it. Assumes nothing.
 use Prim.Native.Nat.{ℕ}
-use mathlib.Core.Bool.{Bool, cond, not}
+use mathlib.Core.Bool.{cond, not}
 use mathlib.Core.List.{List}
 use mathlib.Core.Option.{Option, some, none}
 use lib.ListN.{length}
@@ -13,14 +13,12 @@ use Rattle.pair_pos.specs.declared.Layout.{Layout}
 use Rattle.pair_pos.specs.declared.Opened.{Opened}
 use Rattle.pair_pos.specs.declared.Opened.the-variants as Opened
 use Rattle.pair_pos.specs.Layout.{openedOf}
-use Rattle.rules.specs.declared.Answer.{Answer}
 use Rattle.rules.specs.declared.Answer.the-variants.{Done, Unsound, NoTable, BadTable, BadParts, FewGlyphs}
 use Rattle.rules.specs.Store.{Store, sound, bytesOf, childAt}
 use Rattle.rules.specs.Answers.{number}
 use Rattle.checks.specs.declared.Part.{Part}
 use Rattle.checks.specs.declared.Linked.{Linked}
 use Rattle.checks.specs.declared.Linked.the-variants.{To, Nothing}
-use Rattle.checks.specs.declared.PairTable.{PairTable}
 use Rattle.checks.specs.declared.Checked.{Checked}
 use Rattle.checks.specs.declared.Checked.the-variants.{Open, Refused}
 
