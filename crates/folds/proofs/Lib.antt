@@ -21,3 +21,4 @@ pub mod TwoParts
 pub mod Offsets
 pub mod FindFirst
 pub mod WrittenPart
+pub mod Tally

@@ -1,9 +1,9 @@
 -- The rows of a sound store are in the order of their keys, and what stands between two keys. Assumes nothing.
 use Prim.Native.Nat.{ℕ, zero, suc, _+_, _-_, _*_, _<_, _≤_}
-use mathlib.Core.Bool.{true, _&&_, _||_}
+use mathlib.Core.Bool.{Bool, true, false, _&&_, _||_}
 use mathlib.Core.List.{List}
 use mathlib.Core.Logic.{_⊎_, inl, inr, ⊎-elim}
-use mathlib.Core.Path.{_≡_, refl, sym, ap, _∙_}
+use mathlib.Core.Path.{_≡_, refl, sym, ap, subst, _∙_}
 use native.Mathlib.Decide.{ℕ-discrete}
 use native.Mathlib.Nat.{not-suc-le-zero, le-of-suc-le-suc, eq-or-lt-of-le}
 use native.Mathlib.Omega.{arith}
@@ -126,3 +126,16 @@ pub rows-between : {l : List ℕ} {m lo hi : ℕ} (p a b : ℕ) → FirstRow l m
     → (leb lo k && ltb k hi) ≡ (eqb (getD l (perLink * k + 0) 0) p && leb a (getD l (perLink * k + 1) 0) && ltb (getD l (perLink * k + 1) 0) b)
 rows-between {l} {m} {lo} {hi} p a b f g short k used small =
     between lo hi k p a b (getD l (perLink * k + 0) 0) (getD l (perLink * k + 1) 0) small short (f .below k) (λ d. f .above k d used) (g .below k) (λ d. g .above k d used)
+
+-- the same for all rows of parent p
+pub parent-rows : {l : List ℕ} {m lo hi : ℕ} (p : ℕ) → FirstRow l m (keyOf p 0) lo → FirstRow l m (keyOf (p + 1) 0) hi → (k : ℕ) → k < m → getD l (perLink * k + 1) 0 < 4294967296
+    → (leb lo k && ltb k hi) ≡ eqb (getD l (perLink * k + 0) 0) p
+parent-rows {l} {m} {lo} {hi} p f g k used small =
+    let e : keyOf (p + 1) 0 ≡ keyOf p 4294967296 = omega arith in
+    let h : FirstRow l m (keyOf p 4294967296) hi = subst (λ (key : ℕ). FirstRow l m key hi) e g in
+    rows-between p 0 4294967296 f h (omega arith) k used small
+    ∙ rw (le-leb 0 (getD l (perLink * k + 1) 0) (omega arith), lt-ltb (getD l (perLink * k + 1) 0) 4294967296 small) (and-true (eqb (getD l (perLink * k + 0) 0) p))
+  where
+    and-true : (b : Bool) → b && true && true ≡ b
+    and-true true = refl
+    and-true false = refl

@@ -1,14 +1,8 @@
 -- The order of link rows as an order of numbers, and where a parent's rows begin. Assumes nothing.
 use Prim.Native.Nat.{ℕ, _+_, _*_, _<_, _≤_}
-use mathlib.Core.Path.{_≡_}
-use mathlib.Core.Bool.{true}
 use mathlib.Core.List.{List}
 use lib.ListN.{length, getD}
-use Rattle.rules.specs.Store.{lent, perLink, sound}
-
--- the rows are those of a sound store, whatever its bytes
-abbrev pub SoundRows : List ℕ → List ℕ → List ℕ → Type 0
-SoundRows o l c = (b : List ℕ) × (sound (lent b o l c) ≡ true)
+use Rattle.rules.specs.Store.{perLink}
 
 -- object i of these rows lies within n bytes
 pub record Inside (n : ℕ) (o : List ℕ) (i : ℕ) : Type 0 where

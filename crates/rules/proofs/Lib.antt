@@ -3,6 +3,7 @@ pub mod Figures
 pub mod Examples
 pub mod Sound
 pub mod Reached
+pub mod Reaching
 pub mod CutPlaces
 pub mod FirstCut
 pub mod Lookups

@@ -1,19 +1,19 @@
 -- `reached` marks what can be reached along the link rows, and nothing else. Assumes nothing.
 use Prim.Native.Nat.{ℕ, zero, suc, _+_, _<_, _≤_}
-use mathlib.Core.Path.{_≡_, refl, sym, ap, ap₂, _∙_}
-use mathlib.Core.Bool.{Bool, true, false, cond, not, _||_}
+use mathlib.Core.Path.{_≡_, refl, sym, ap, _∙_}
+use mathlib.Core.Bool.{Bool, true, false, not, _||_}
 use mathlib.Core.List.{List}
 use mathlib.Core.Logic.{_⊎_, inl, inr, ⊎-elim}
 use native.Mathlib.Omega.{arith}
 use native.Mathlib.Decide.{ℕ-discrete}
-use native.Mathlib.Nat.{not-suc-le-zero, le-of-suc-le-suc, eq-or-lt-of-le}
+use native.Mathlib.Nat.{eq-or-lt-of-le}
 use lib.ListN.{length, getD, set, replicate, length-set, length-replicate, getD-replicate}
 use lib.Seq.{getD-set-same, getD-set-other}
 use lib.Dec.{eqb}
 use borrow.Author.Tests.{ne-eqb, eq-eqb, not-true}
-use Rattle.folds.specs.Folds.{sum}
 use Rattle.folds.proofs.Tests.{and-both, and-intro, by-test, true-false}
 use Rattle.folds.proofs.Joined.{or-either, or-first, or-second}
+use Rattle.folds.proofs.Tally.{count, tally-one, count-all}
 use Rattle.rules.specs.Store.{Store, parentOf, childOf}
 use Rattle.rules.specs.Walk.{marked, due, once, grow, reached}
 use Rattle.rules.proofs.Sound.{Fits}
@@ -23,45 +23,13 @@ pub data Reach (s : Store) (from : ℕ → Bool) : ℕ → Type 0 where
   seed : {i : ℕ} (k : ℕ) → k < s .linkCount → from k ≡ true → childOf s k ≡ i → Reach s from i
   step : {i j : ℕ} → Reach s from i → (k : ℕ) → k < s .linkCount → parentOf s k ≡ i → childOf s k ≡ j → Reach s from j
 
--- ---- how many are marked
-
--- of the objects below n
-abbrev tally : List ℕ → ℕ → ℕ
-tally w n = sum (λ i. cond (marked w i) 1 0) n
-
-tally-le : (w : List ℕ) (n : ℕ) → tally w n ≤ n
-unfolding sum
-tally-le w zero = omega arith
-tally-le w (suc n) = let i = tally-le w n in by-test (marked w n) (λ e. rw e (omega arith)) (λ e. rw e (omega arith))
-
-all-marked : (w : List ℕ) (n : ℕ) → n ≤ tally w n → (i : ℕ) → i < n → marked w i ≡ true
-unfolding sum
-all-marked w zero h i l = absurd (not-suc-le-zero l)
-all-marked w (suc n) h i l = go (marked w n) refl h (λ z. all-marked w n z i)
-  where
-    go : (b : Bool) → marked w n ≡ b → suc n ≤ tally w n + cond b 1 0 → (n ≤ tally w n → i < n → marked w i ≡ true) → marked w i ≡ true
-    go true e z ih = ⊎-elim (λ q. rw q e) (λ lt. ih (omega arith) lt) (eq-or-lt-of-le (le-of-suc-le-suc l))
-    go false e z ih = absurd (omega (arith, tally-le w n))
+-- ---- one mark more
 
 marked-set : (w : List ℕ) (j i : ℕ) → (i ≡ j → ⊥) → marked (set w j 1) i ≡ marked w i
 marked-set w j i ne = ap (λ (v : ℕ). eqb v 1) (getD-set-other w j i 1 0 ne)
 
 marked-here : (w : List ℕ) (j : ℕ) → j < length w → marked (set w j 1) j ≡ true
 marked-here w j h = eq-eqb (getD (set w j 1) j 0) 1 (getD-set-same w j 1 0 h)
-
-tally-above : (w : List ℕ) (j n : ℕ) → n ≤ j → tally (set w j 1) n ≡ tally w n
-unfolding sum
-tally-above w j zero h = refl
-tally-above w j (suc n) h = ap₂ (λ (a : ℕ) (b : Bool). a + cond b 1 0) (tally-above w j n (omega arith)) (marked-set w j n (λ e. omega arith))
-
-tally-mark : (w : List ℕ) (j n : ℕ) → j < n → j < length w → marked w j ≡ false → tally (set w j 1) n ≡ tally w n + 1
-unfolding sum
-tally-mark w j zero h l m = absurd (not-suc-le-zero h)
-tally-mark w j (suc n) h l m =
-    ⊎-elim
-    (λ e. rw (tally-above w j n (omega arith), ← e) (rw (marked-here w j l, m) (omega arith)))
-    (λ lt. rw (tally-mark w j n lt l m, marked-set w j n (λ e. omega arith)) (omega arith))
-    (eq-or-lt-of-le (le-of-suc-le-suc h))
 
 -- ---- one round
 
@@ -108,19 +76,21 @@ module _ (s : Store) (from : ℕ → Bool) (f : Fits s) where
   still (suc n) w p = rw p (still n w p)
 
   -- enough rounds: no row is due
-  full : (n : ℕ) (w : List ℕ) → s .objectCount ≤ length w → s .objectCount ≤ n + tally w (s .objectCount) → (k : ℕ) → k < s .linkCount → From s from (grow s from n w) k → marked (grow s from n w) (childOf s k) ≡ true
+  full : (n : ℕ) (w : List ℕ) → s .objectCount ≤ length w → s .objectCount ≤ n + count (marked w) (s .objectCount) → (k : ℕ) → k < s .linkCount → From s from (grow s from n w) k → marked (grow s from n w) (childOf s k) ≡ true
   unfolding grow
-  full zero w big h k l p = all-marked w (s .objectCount) (omega arith) (childOf s k) (f .link k l .childUsed)
+  full zero w big h k l p = count-all (marked w) (s .objectCount) (omega arith) (childOf s k) (f .link k l .childUsed)
   full (suc n) w big h k l p = ⊎-elim same (more (λ v a b. full n v a b k l)) (once-cases s from w (s .linkCount)) p
     where
       same : Still s from w (s .linkCount) → From s from (grow s from n (once s from w (s .linkCount))) k → marked (grow s from n (once s from w (s .linkCount))) (childOf s k) ≡ true
       same (p, d) = rw (p, still n w p) (due-not s from w k (d k l))
 
-      more : ((v : List ℕ) → s .objectCount ≤ length v → s .objectCount ≤ n + tally v (s .objectCount) → From s from (grow s from n v) k → marked (grow s from n v) (childOf s k) ≡ true)
+      more : ((v : List ℕ) → s .objectCount ≤ length v → s .objectCount ≤ n + count (marked v) (s .objectCount) → From s from (grow s from n v) k → marked (grow s from n v) (childOf s k) ≡ true)
           → Marks s from w (s .linkCount) → From s from (grow s from n (once s from w (s .linkCount))) k → marked (grow s from n (once s from w (s .linkCount))) (childOf s k) ≡ true
       more ih (j, j<, d, p) =
-          rw p (ih (set w (childOf s j) 1) (simp length-set big)
-          (omega (arith, tally-mark w (childOf s j) (s .objectCount) (f .link j j< .childUsed) (omega (arith, f .link j j< .childUsed)) (due-true s from w j d .1))))
+          let c = childOf s j in
+          let c< : c < s .objectCount = f .link j j< .childUsed in
+          rw p (ih (set w c 1) (simp length-set big)
+          (omega (arith, tally-one (λ i. 1) (marked w) (marked (set w c 1)) c (s .objectCount) c< (due-true s from w j d .1) (marked-here w c (omega arith)) (λ i l ne. marked-set w c i ne))))
 
   -- only what can be reached is marked
   only : (n : ℕ) (w : List ℕ) → ((i : ℕ) → i < s .objectCount → marked w i ≡ true → Reach s from i) → (i : ℕ) → i < s .objectCount → marked (grow s from n w) i ≡ true → Reach s from i

@@ -1,0 +1,57 @@
+-- The walk's scratch, "two numbers an object in use": a mark for each object, then a queue, which is empty between walks. A mark is the number
+-- of an epoch, so that a new epoch forgets all that was seen with nothing to clear. Assumes nothing.
+use Prim.Native.Nat.{ℕ, zero, suc, _+_, _*_, _≤_, _<_}
+use mathlib.Core.Bool.{Bool, true, false, cond, _&&_, _||_}
+use mathlib.Core.List.{List}
+use mathlib.Core.Path.{_≡_}
+use lib.Dec.{leb, ltb, eqb}
+use lib.ListN.{length, getD, set}
+use Rattle.rules.specs.Store.{Store, lent, linkAt, sound}
+use Rattle.rules.specs.Walk.{marked, reached, reachSize, ofTable, onCycle}
+
+-- row k is one of those from lo up to hi, hi left out
+abbrev pub between : ℕ → ℕ → ℕ → Bool
+between lo hi k = leb lo k && ltb k hi
+
+-- no row
+abbrev pub noRow : ℕ → Bool
+noRow k = false
+
+-- row k is one of `from`, or from lo up to hi
+abbrev pub alsoBetween : (ℕ → Bool) → ℕ → ℕ → ℕ → Bool
+alsoBetween from lo hi k = from k || between lo hi k
+
+-- the scratch in epoch e, in which the rows of `from` have been walked
+pub record Marks (s : Store) (from : ℕ → Bool) (e : ℕ) (w : List ℕ) : Type 0 where
+  pub room : 2 * s .objectCount ≤ length w
+  -- what has the epoch's mark is what these rows reach
+  pub seen : (i : ℕ) → i < s .objectCount → eqb (getD w i 0) e ≡ marked (reached s from) i
+  -- every other mark is an earlier epoch's
+  pub latest : (i : ℕ) → i < s .objectCount → getD w i 0 ≤ e
+  pub queue : (j : ℕ) → s .objectCount ≤ j → j < 2 * s .objectCount → getD w j 0 ≡ 0
+
+-- w with the mark e for each of the first n objects that r marks
+unfoldable pub stamp : ℕ → List ℕ → List ℕ → ℕ → List ℕ
+stamp e r w zero = w
+stamp e r w (suc n) = cond (marked r n) (set (stamp e r w n) n e) (stamp e r w n)
+
+-- before a walk: the rows are those of a sound store, and those of `from` have been walked
+pub record Ready (o l c : List ℕ) (from : ℕ → Bool) (e : ℕ) (w : List ℕ) : Type 0 where
+  pub bytes : List ℕ
+  pub is-sound : sound (lent bytes o l c) ≡ true
+  pub marks : Marks (lent bytes o l c) from e w
+
+-- after a walk of the rows from lo up to hi: what these reach has the mark too, and r is the length of what they have added
+pub record Walked (s : Store) (from : ℕ → Bool) (lo hi e : ℕ) (w w′ : List ℕ) (r : ℕ) : Type 0 where
+  pub walk : w′ ≡ stamp e (reached s (alsoBetween from lo hi)) w (s .objectCount)
+  pub size : r + reachSize s from ≡ reachSize s (alsoBetween from lo hi)
+  pub most : r ≤ 16777216
+
+-- the same, whatever the bytes of the store and the rows that had been walked
+abbrev pub Walks : List ℕ → List ℕ → List ℕ → ℕ → ℕ → ℕ → List ℕ → List ℕ → ℕ → Type 0
+Walks o l c lo hi e w w′ r = (b : List ℕ) (from : ℕ → Bool) → Marks (lent b o l c) from e w → Walked (lent b o l c) from lo hi e w w′ r
+
+-- after the look for a way from table t back to it: what it reaches has the mark
+pub record Looked (s : Store) (t e : ℕ) (w w′ : List ℕ) (r : Bool) : Type 0 where
+  pub answer : r ≡ onCycle s t
+  pub walk : w′ ≡ stamp e (reached s (λ k. ofTable t (linkAt s k))) w (s .objectCount)
