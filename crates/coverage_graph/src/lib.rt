@@ -111,12 +111,11 @@ pub fn glyphs_into(part: &[u8], header: Header, out: &mut [u16])
 pub fn coverage_length(glyphs: &[u16]) -> usize
     ensures { λ r. ⌜ r ≡ length (coverageBytes (now (glyphs .entry))) ⌝ }
 {
-    let n = glyphs.len();
-    let count = run_count(glyphs);
-    if 3 * count < n {
-        4 + 6 * count
+    let runs = run_count(glyphs);
+    if 3 * runs < glyphs.len() {
+        4 + 6 * runs
     } else {
-        4 + 2 * n
+        4 + 2 * glyphs.len()
     }
 }
 
