@@ -20,6 +20,11 @@ use Rattle.coverage_graph.proofs.Places.{has, place-at, place-none}
 use Rattle.coverage_graph.proofs.in_ranges.place_in_ranges.Statement.{statement}
 use Rattle.coverage_graph.proofs.in_ranges.place_in_ranges.Tie as tie
 
+-- where range k is found: its numbers stand in the table, and it starts no higher than the glyph
+record Inside (part : List ℕ) (g k : ℕ) : Type 0 where
+  long : 8 + 6 * k + 1 < length part
+  starts : startAt part k ≤ g
+
 module _ (part : List ℕ) (count g : ℕ) (a : AsRanges part count) where
   ranged : Ranged part count
   ranged = header-ranges part _ a refl
@@ -32,14 +37,17 @@ module _ (part : List ℕ) (count g : ℕ) (a : AsRanges part count) where
       which : rangeOf part count g ≡ some k
       which = found-some (rangeOf part count g) k (sym q ∙ e)
 
-      inside : (8 + 6 * k + 1 < length part) × (startAt part k ≤ g)
-      inside = let h = has part g count k which in (omega (arith, ranged .read .long), h .starts)
+      inside : Inside part g k
+      inside = let h = has part g count k which in record { long = omega (arith, ranged .read .long); starts = h .starts }
 
       hit : {b x : ℕ} → b ≡ startAt part k → x ≡ besideAt part k → At (x + (g - b)) ≡ placeOf (coverPlace part g)
       hit {b} {x} pb px = rw (pb, px, place-at ranged g k which)
 
     miss : f ≡ Found.Nowhere → Nowhere ≡ placeOf (coverPlace part g)
     miss q = rw (place-none ranged g (found-none (rangeOf part count g) (sym q ∙ e)))
+
+abbrev here : (c : tie.After-known-told) → Inside (c .before .before .before .before .before .args .part .now) (c .before .before .before .before .before .args .glyph) (c .before .found .given .0 .0)
+here c = inside _ (c .before .before .before .before .before .args .count) _ (c .before .before .before .before .before .pre) (c .before .before .before .range-of .ensures) (c .before .found .given .1)
 
 range-of-requires : tie.Need-range-of-requires
 range-of-requires c κs = fit (c .before .args .part .now) (c .before .args .count) (c .before .args .glyph) (c .before .pre)
@@ -48,28 +56,28 @@ enum-known-found : tie.Need-enum-known-found
 enum-known-found c = search needs
 
 mul-u16-at : tie.Need-mul-u16-at
-mul-u16-at c = let h = inside (c .before .before .before .before .before .args .part .now) (c .before .before .before .before .before .args .count) (c .before .before .before .before .before .args .glyph) (c .before .before .before .before .before .pre) (c .before .before .before .range-of .ensures) (c .before .found .given .1) in omega arith
+mul-u16-at c = omega (arith, here c .long)
 
 add-u16-at : tie.Need-add-u16-at
-add-u16-at c = let h = inside (c .before .before .before .before .before .args .part .now) (c .before .before .before .before .before .args .count) (c .before .before .before .before .before .args .glyph) (c .before .before .before .before .before .pre) (c .before .before .before .range-of .ensures) (c .before .found .given .1) in omega arith
+add-u16-at c = omega (arith, here c .long)
 
 u16-at-requires : tie.Need-u16-at-requires
-u16-at-requires c κs = let h = inside (c .before .before .before .before .before .args .part .now) (c .before .before .before .before .before .args .count) (c .before .before .before .before .before .args .glyph) (c .before .before .before .before .before .pre) (c .before .before .before .range-of .ensures) (c .before .found .given .1) in omega arith
+u16-at-requires c κs = omega (arith, here c .long)
 
 mul-u16-at-2 : tie.Need-mul-u16-at-2
-mul-u16-at-2 c = let h = inside (c .before .before .before .before .before .before .args .part .now) (c .before .before .before .before .before .before .args .count) (c .before .before .before .before .before .before .args .glyph) (c .before .before .before .before .before .before .pre) (c .before .before .before .before .range-of .ensures) (c .before .before .found .given .1) in omega arith
+mul-u16-at-2 c = omega (arith, here (c .before) .long)
 
 add-u16-at-2 : tie.Need-add-u16-at-2
-add-u16-at-2 c = let h = inside (c .before .before .before .before .before .before .args .part .now) (c .before .before .before .before .before .before .args .count) (c .before .before .before .before .before .before .args .glyph) (c .before .before .before .before .before .before .pre) (c .before .before .before .before .range-of .ensures) (c .before .before .found .given .1) in omega arith
+add-u16-at-2 c = omega (arith, here (c .before) .long)
 
 u16-at-requires-2 : tie.Need-u16-at-requires-2
-u16-at-requires-2 c κs = let h = inside (c .before .before .before .before .before .before .args .part .now) (c .before .before .before .before .before .before .args .count) (c .before .before .before .before .before .before .args .glyph) (c .before .before .before .before .before .before .pre) (c .before .before .before .before .range-of .ensures) (c .before .before .found .given .1) in omega arith
+u16-at-requires-2 c κs = omega (arith, here (c .before) .long)
 
 cast-index : tie.Need-cast-index
 cast-index c = search needs
 
 sub-t11 : tie.Need-sub-t11
-sub-t11 c = let h = inside (c .before .before .before .before .before .before .before .args .part .now) (c .before .before .before .before .before .before .before .args .count) (c .before .before .before .before .before .before .before .args .glyph) (c .before .before .before .before .before .before .before .pre) (c .before .before .before .before .before .range-of .ensures) (c .before .before .before .found .given .1) in omega arith
+sub-t11 c = omega (arith, here (c .before .before) .starts)
 
 cast-t10 : tie.Need-cast-t10
 cast-t10 c = search needs
