@@ -10,6 +10,7 @@ ghost use Rattle.opentype.specs.Numbers.{be16, words};
 ghost use Rattle.opentype.specs.Coverage.{plain, runs, coverRanges};
 ghost use Rattle.coverage_graph.specs.Coverage.{joinsNext};
 
+// A glyph as a number to which one can be added.
 fn wide(x: u16) -> usize
     ensures { λ r. ⌜ (r ≡ x) × (r < 65536) ⌝ }
 {
