@@ -23,6 +23,7 @@ use Rattle.opentype.proofs.RangesRead.{ranges-read}
 
 -- ---- of 65,536 glyphs one has class 0, or two that follow one another have the same class
 
+-- what a class definition that two bytes count always leaves
 abbrev pub Slack : (ℕ → ℕ) → Type 0
 Slack f = ((g : ℕ) × (g < 65536) × (f g ≡ 0)) ⊎ ((g : ℕ) × (g + 1 < 65536) × (f g ≡ f (g + 1)))
 

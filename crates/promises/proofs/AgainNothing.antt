@@ -73,7 +73,7 @@ module _ (s : Store) (t : ℕ) (cs : List ℕ) (g : Ready s t cs) where
   up : Ascends 0 (entriesOf s t)
   up = entries-ascend s t (g .reads)
 
-  pub count-then : shape s′ t .count ≡ p0
+  count-then : shape s′ t .count ≡ p0
   count-then = ap (λ (sh : Shape). sh .count) (view-shape view) ∙ omega arith
 
   linked-same : eqb (shape s t .format) 1 ≡ true → (i : ℕ) → i < p0 → childAt s′ t (itemAt (shape s′ t) i) ≡ childAt s t (itemAt (shape s t) i)

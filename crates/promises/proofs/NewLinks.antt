@@ -54,7 +54,7 @@ module _ (s : Store) (t : ℕ) (cs : List ℕ) (g : Ready s t cs) where
 
   -- ---- an old object has the links that stay
 
-  pub child-of-old : (i q : ℕ) → i < s .objectCount → childAt s′ i q ≡ lookup (stayed s t cs) i q
+  child-of-old : (i q : ℕ) → i < s .objectCount → childAt s′ i q ≡ lookup (stayed s t cs) i q
   unfolding childAt
   child-of-old i q h =
       rw (links-then s t cs)
@@ -97,7 +97,7 @@ module _ (s : Store) (t : ℕ) (cs : List ℕ) (g : Ready s t cs) where
   unfolding linksOf
   old-parents = each-upto (λ l. l .parent < s .objectCount) (linkAt s) (s .linkCount) (λ k m. g .fit .link k m .parentUsed)
 
-  pub child-of-new : (j q : ℕ) → j < length cs → childAt s′ (newNumber s sh j) q ≡ lookup (piece s t cs j) (newNumber s sh j) q
+  child-of-new : (j q : ℕ) → j < length cs → childAt s′ (newNumber s sh j) q ≡ lookup (piece s t cs j) (newNumber s sh j) q
   unfolding childAt
   child-of-new j q l =
       let u = newNumber s sh j in

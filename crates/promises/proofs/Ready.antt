@@ -23,15 +23,20 @@ use Rattle.rules.proofs.Checks.{Reads, Parts, first-append, first-head, no-case
 use Rattle.rules.proofs.NewCounts.{new-many}
 use Rattle.promises.specs.Demands.{Splits, storeThen}
 
+-- table t of s is ready to be split at cs
 pub record Ready (s : Store) (t : ℕ) (cs : List ℕ) : Type 0 where
+  -- 1 to 5 do not apply
   pub reads : Reads s t
   pub fit : Fits s
   pub size : sizeOf s t ≡ itemAt (shape s t) (shape s t .count)
   pub parts : Parts s t
+  -- nor does 7
   pub atSlots : allAtSlots s t ≡ true
   pub acyclic : onCycle s t ≡ false
+  -- there is a cut, and each is an item
   pub cuts : Places (shape s t .count) cs
   pub someCut : 0 < length cs
+  -- and 8 does not apply
   pub objectsRoom : 2 * (s .objectCount + length (newOf s t cs)) ≤ length (s .objects)
   pub objectsMost : s .objectCount + length (newOf s t cs) ≤ 65536
   pub bytesRoom : s .byteCount + length (join (newOf s t cs)) ≤ length (s .bytes)

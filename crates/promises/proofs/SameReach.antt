@@ -221,7 +221,7 @@ module _ (s : Store) (t : ℕ) (cs : List ℕ) (g : Ready s t cs) where
         (λ y. let x : s .objectCount + i < s .objectCount = reach-old (reached-only s′ (ofI s′) (fits-then s t cs g) (s .objectCount + i) (omega (arith, objects-then s t cs g)) y) .0 in absurd (omega arith)) (λ n. n) in
         rw f
 
-    pub reach-same : itemsReach s′ t sh 0 j ≡ itemsReach s t sh 0 j
+    reach-same : itemsReach s′ t sh 0 j ≡ itemsReach s t sh 0 j
     unfolding reachSize
     reach-same =
         ap (sum (λ i. cond (marked (reached s′ (ofI s′)) i) (sizeOf s′ i) 0)) (objects-then s t cs g)

@@ -33,14 +33,19 @@ use Rattle.rules.proofs.Entries.{inRange, ascends-reduced, entries2, reduced-gl
 
 -- object u of s′ is the table of items lo up to hi of table t of s
 pub record View (s : Store) (t : ℕ) (s′ : Store) (u lo hi : ℕ) : Type 0 where
+  -- a range of items
   pub low : lo ≤ hi
   pub high : hi ≤ shape s t .count
+  -- as long as header and count say
   pub long : length (bytesOf s′ u) ≡ shape s t .header + shape s t .item * (hi - lo)
   pub counted : u16At (bytesOf s′ u) (shape s t .countAt) ≡ hi - lo
+  -- format and value formats are the old ones, and class2Count
   pub same : (i : ℕ) → (i < 2) ⊎ ((4 ≤ i) × (i < 8)) → getD (bytesOf s′ u) i 0 ≡ getD (bytesOf s t) i 0
   pub wide : eqb (shape s t .format) 1 ≡ false → (i : ℕ) → 14 ≤ i → i < 16 → getD (bytesOf s′ u) i 0 ≡ getD (bytesOf s t) i 0
+  -- the rows of the range, and the links of its items
   pub rows : eqb (shape s t .format) 1 ≡ false → (i : ℕ) → shape s t .header ≤ i → i + shape s t .item * lo < itemAt (shape s t) hi → getD (bytesOf s′ u) i 0 ≡ getD (bytesOf s t) (i + shape s t .item * lo) 0
   pub links : (q : ℕ) → shape s t .header ≤ q → q + shape s t .item * lo < itemAt (shape s t) hi → childAt s′ u q ≡ childAt s t (q + shape s t .item * lo)
+  -- a new coverage and class definition 1, and the old class definition 2
   pub cover : (c : ℕ) × (s .objectCount ≤ c) × (childAt s′ u 2 ≡ some c) × (bytesOf s′ c ≡ coverageBytes (map (λ e. e .glyph) (within lo hi (entriesOf s t))))
   pub class1 : eqb (shape s t .format) 1 ≡ false → (c : ℕ) × (s .objectCount ≤ c) × (childAt s′ u 8 ≡ some c) × (bytesOf s′ c ≡ classDefBytes (reduced lo (within lo hi (entriesOf s t))))
   pub class2 : eqb (shape s t .format) 1 ≡ false → (c : ℕ) × (childAt s′ u 10 ≡ some c) × (childAt s t 10 ≡ some c) × (bytesOf s′ c ≡ bytesOf s c)

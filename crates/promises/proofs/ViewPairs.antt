@@ -147,7 +147,7 @@ module _ {s : Store} {t : ℕ} {s′ : Store} {u lo hi : ℕ} (v : View s t s′
         ∙ ap (λ (n : ℕ). upto (numberOf s t n (value2 old)) 8) z in
         λ d. record { found = true; first = p d; second = q d }
 
-    pub row-pair : (b i : ℕ) → i + lo < hi → pairAt s′ u (rowSpot s′ u b i) ≡ pairAt s t (rowSpot s t b (i + lo))
+    row-pair : (b i : ℕ) → i + lo < hi → pairAt s′ u (rowSpot s′ u b i) ≡ pairAt s t (rowSpot s t b (i + lo))
     row-pair b i h =
         ap (pairAt s′ u) (spot-new b i h)
         ∙ pair-given b i h (ltb (column b) (columns old)) (λ e. ltb-true (column b) (columns old) e)
@@ -181,7 +181,7 @@ module _ {s : Store} {t : ℕ} {s′ : Store} {u lo hi : ℕ} (v : View s t s′
             ∙ upto-same (numberOf s′ c (q + 2 * fieldCount (value1 old)) (value2 old)) (numberOf s c (q + 2 * fieldCount (value1 old)) (value2 old)) 8 (λ j l. number-kept s s′ c (q + 2 * fieldCount (value1 old)) (value2 old) j x y) in
             λ d. record { found = true; first = f d; second = g d }
 
-    pub set-pair : (b i : ℕ) → i + lo < hi → pairAt s′ u (setSpot s′ u b i) ≡ pairAt s t (setSpot s t b (i + lo))
+    set-pair : (b i : ℕ) → i + lo < hi → pairAt s′ u (setSpot s′ u b i) ≡ pairAt s t (setSpot s t b (i + lo))
     unfolding setSpot andThen
     set-pair b i h =
         let hh = v .high in

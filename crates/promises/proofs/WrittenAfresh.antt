@@ -89,7 +89,7 @@ module _ {s : Store} {t : ℕ} {s′ : Store} {u lo hi : ℕ} (v : View s t s′
       ap length (view-glyphs v up) ∙ length-map (λ (e : Entry). e .glyph) es
       ∙ ap length (ap (within lo hi) (entries1 s t e) ∙ within-upto (λ k. getD gs k 0) lo hi (length gs)) ∙ length-upto (λ k. entry (getD gs (lo + k) 0) (lo + k)) (min (length gs) hi - lo) ∙ omega arith
 
-  pub view-reads : Reads s′ u
+  view-reads : Reads s′ u
   view-reads =
       record {
         sounds = sounds;
@@ -144,7 +144,7 @@ module _ {s : Store} {t : ℕ} {s′ : Store} {u lo hi : ℕ} (v : View s t s′
   linked-at : (q c : ℕ) → childAt s′ u q ≡ some c → s .objectCount ≤ c → s .objectCount ≤ linkedAt s′ u q
   linked-at q c e h = let f : linkedAt s′ u q ≡ c = ap (λ (o : Option ℕ). Option·getD o 0) e in omega arith
 
-  pub afresh : Afresh s t s′ u lo hi
+  afresh : Afresh s t s′ u lo hi
   afresh =
       record {
         readable = reads-no-case s′ u view-reads;

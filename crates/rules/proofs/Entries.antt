@@ -48,7 +48,7 @@ entries-glyphs s t =
 abbrev pub inRange : ℕ → ℕ → Entry → Bool
 inRange lo hi e = leb lo (e .class) && ltb (e .class) hi
 
-pub within-places : (h : ℕ → ℕ) (lo hi n : ℕ) → sift (inRange lo hi) (upto (λ k. entry (h k) k) n) ≡ upto (λ k. entry (h (lo + k)) (lo + k)) (min n hi - lo)
+within-places : (h : ℕ → ℕ) (lo hi n : ℕ) → sift (inRange lo hi) (upto (λ k. entry (h k) k) n) ≡ upto (λ k. entry (h (lo + k)) (lo + k)) (min n hi - lo)
 unfolding flat sift
 within-places h lo hi zero = let z : min 0 hi - lo ≡ 0 = omega arith in ap (λ (m : ℕ). upto (λ k. entry (h (lo + k)) (lo + k)) m) (sym z)
 within-places h lo hi (suc n) =

@@ -111,7 +111,7 @@ lookup-above f p n u q h k (l ∷ ls) a = go (p l) (lookup-above f p n u q h k l
 -- ---- in a store
 
 -- a link that is found is one of the rows
-pub found-row : (s : Store) (n p q c : ℕ) → lookup (upto (linkAt s) n) p q ≡ some c → (k : ℕ) × (k < n) × (parentOf s k ≡ p) × (positionOf s k ≡ q) × (childOf s k ≡ c)
+found-row : (s : Store) (n p q c : ℕ) → lookup (upto (linkAt s) n) p q ≡ some c → (k : ℕ) × (k < n) × (parentOf s k ≡ p) × (positionOf s k ≡ q) × (childOf s k ≡ c)
 unfolding flat lookup
 found-row s zero p q c e = let z : _≡_ {A = ℕ} 0 1 = cc in absurd (omega arith)
 found-row s (suc n) p q c e = go (lookup (upto (linkAt s) n) p q) refl (found-row s n p q c)
