@@ -13,7 +13,7 @@ use Rattle.folds.specs.Lists.{sift}
 use Rattle.folds.proofs.Tests.{and-both, and-first}
 use Rattle.opentype.specs.Coverage.{Entry, single, runs}
 use Rattle.opentype.specs.ClassDef.{lastGlyph, named}
-use Rattle.opentype.proofs.Runs.{Ascends, ascends-sift, ascends-lower, follows, from, runs-join, runs-part, runs-one}
+use Rattle.opentype.proofs.Runs.{Ascends, ascends-sift, ascends-lower, follows, startingAt, runs-join, runs-part, runs-one}
 
 pub named-none : named [] ≡ []
 unfolding named sift
@@ -82,7 +82,7 @@ named-part e (f ∷ es) lo a n p = ap runs (named-keep e (f ∷ es) n) ∙ go (�
     go (yes z) = rw (named-skip f es z) (runs-apart e (named es) (ascends-lower (named es) (f .glyph + 1) (e .glyph + 2) (omega arith) (ascends-named es (f .glyph + 1) (a .1 .1))))
     go (no z) = rw (named-keep f es z) (runs-part e f (named es) p)
 
-named-join : (e f : Entry) (es : List Entry) → (e .class ≡ 0 → ⊥) → follows e f ≡ true → runs (named (e ∷ f ∷ es)) ≡ from (e .glyph) (runs (named (f ∷ es)))
+named-join : (e f : Entry) (es : List Entry) → (e .class ≡ 0 → ⊥) → follows e f ≡ true → runs (named (e ∷ f ∷ es)) ≡ startingAt (e .glyph) (runs (named (f ∷ es)))
 named-join e f es n j =
     let (g, c) = and-both (eqb (e .glyph + 1) (f .glyph)) (eqb (e .class) (f .class)) j in
     let k : e .class ≡ f .class = eqb-true (e .class) (f .class) c in
@@ -100,5 +100,5 @@ named-run (e ∷ []) (suc r) lo d a l n j p = absurd (omega arith)
 named-run (e ∷ f ∷ es) (suc r) lo d a l n j p =
     let k : e .class ≡ f .class = eqb-true (e .class) (f .class) (and-both (eqb (e .glyph + 1) (f .glyph)) (eqb (e .class) (f .class)) (j 0 (omega arith)) .1) in
     named-join e f es n (j 0 (omega arith))
-    ∙ ap (from (e .glyph)) (named-run (f ∷ es) r (e .glyph + 1) d (a .1) (omega arith) (λ z. n (k ∙ z)) (λ i m. j (suc i) (omega arith)) (λ m. p (omega arith)))
+    ∙ ap (startingAt (e .glyph)) (named-run (f ∷ es) r (e .glyph + 1) d (a .1) (omega arith) (λ z. n (k ∙ z)) (λ i m. j (suc i) (omega arith)) (λ m. p (omega arith)))
     ∙ ap (λ (c : ℕ). record { start = e .glyph; end = getD (f ∷ es) r d .glyph; class = c } ∷ runs (named (drop (suc r) (f ∷ es)))) (sym k)
