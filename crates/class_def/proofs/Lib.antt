@@ -3,3 +3,4 @@ pub mod Ends
 pub mod Heads
 pub mod Written
 pub mod RoundTrip
+pub mod Filled

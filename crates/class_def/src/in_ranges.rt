@@ -10,15 +10,17 @@ use ranges::ranges_fit;
 use wire::put_u16;
 use wire::u16_at;
 ghost use mathlib.Core.Path.{_≡_};
-ghost use mathlib.Core.Bool.{true};
-ghost use mathlib.Core.List.{_++_};
+ghost use mathlib.Core.Bool.{true, cond, _&&_};
+ghost use mathlib.Core.List.{_++_, map};
 ghost use Prim.Native.Nat.{_+_, _*_, _≤_, _<_};
 ghost use lib.ListN.{length};
+ghost use lib.Dec.{leb, ltb};
 ghost use Rattle.folds.specs.Lists.{put};
 ghost use Rattle.opentype.specs.Numbers.{u16At, be16};
-ghost use Rattle.opentype.specs.Coverage.{rangesFit, runs, plain};
+ghost use Rattle.opentype.specs.Coverage.{startAt, endAt, besideAt, rangesFit, runs, plain};
 ghost use Rattle.opentype.specs.ClassDef.{classDefOf, named, classRanges};
 ghost use Rattle.opentype.proofs.Runs.{Ascends};
+ghost use Rattle.ranges.specs.Ascending.{Ascending};
 ghost use Rattle.class_def.specs.Lookup.{rangeClass};
 ghost use Rattle.class_def.specs.Entries.{reducedEntries};
 
@@ -49,12 +51,60 @@ pub fn class_in_ranges(part: &[u8], count: usize, glyph: u16) -> u16
     }
 }
 
+// Whether there is a range `k`, and it ends below the glyph.
+pub fn ends_below(part: &[u8], count: usize, k: usize, glyph: u16) -> bool
+    requires { ⌜ length (now part) ≡ 4 + 6 * count ⌝ }
+    ensures { λ r. ⌜ r ≡ (ltb k count && ltb (endAt (now (part .entry)) k) glyph) ⌝ }
+{
+    if k < count {
+        u16_at(part, 6 + 6 * k) < glyph
+    } else {
+        false
+    }
+}
+
+// The class beside range `k` where there is one and it starts no higher than the glyph, else 0.
+pub fn class_beside(part: &[u8], count: usize, k: usize, glyph: u16) -> u16
+    requires { ⌜ length (now part) ≡ 4 + 6 * count ⌝ }
+    ensures { λ r. ⌜ r ≡ cond (ltb k count && leb (startAt (now (part .entry)) k) glyph) (besideAt (now (part .entry)) k) 0 ⌝ }
+{
+    if count <= k {
+        return 0;
+    }
+    if glyph < u16_at(part, 4 + 6 * k) {
+        return 0;
+    }
+    u16_at(part, 8 + 6 * k)
+}
+
+// The classes of ascending glyphs, in order, at the front of `out`: ranges and glyphs are walked together.
+pub fn range_classes(part: &[u8], count: usize, glyphs: &[u16], out: &mut [u16])
+    requires { ⌜ rangesFit (now part) count ≡ true ⌝ }
+    requires { ⌜ Ascending (now glyphs) ⌝ }
+    requires { ⌜ length (now glyphs) ≤ length (now out) ⌝ }
+    ensures { λ _. ⌜ now (out .exit) ≡ put (now (out .entry)) 0 (map (rangeClass (now (part .entry)) count) (now (glyphs .entry))) ⌝ }
+{
+    let mut k: usize = 0;
+    let mut i: usize = 0;
+    while i < glyphs.len() {
+        let glyph = glyphs[i];
+        if ends_below(part, count, k, glyph) {
+            k += 1;
+        } else {
+            let class = class_beside(part, count, k, glyph);
+            out[i] = class;
+            i += 1;
+        }
+    }
+}
+
 // Writes a range for each run of the named entries from `at` on, and returns where they end.
 pub fn put_runs(glyphs: &[u16], classes: &[u16], first: u16, out: &mut [u8], at: usize) -> usize
     requires { ⌜ length (now classes) ≡ length (now glyphs) ⌝ }
     requires { ⌜ Ascends 0 (plain (now glyphs)) ⌝ }
     requires { ⌜ at + 6 * length (runs (named (reducedEntries (now glyphs) (now classes) first))) ≤ length (now out) ⌝ }
-    ensures { λ r. ⌜ (now (out .exit) ≡ put (now (out .entry)) at (classRanges (runs (named (reducedEntries (now (glyphs .entry)) (now (classes .entry)) first))))) × (r ≡ at + 6 * length (runs (named (reducedEntries (now (glyphs .entry)) (now (classes .entry)) first)))) ⌝ }
+    ensures { λ _. ⌜ now (out .exit) ≡ put (now (out .entry)) at (classRanges (runs (named (reducedEntries (now (glyphs .entry)) (now (classes .entry)) first)))) ⌝ }
+    ensures { λ r. ⌜ r ≡ at + 6 * length (runs (named (reducedEntries (now (glyphs .entry)) (now (classes .entry)) first))) ⌝ }
 {
     let mut end = at;
     let mut k: usize = 0;
@@ -86,7 +136,8 @@ pub fn write_ranges(
     requires { ⌜ count ≡ length (runs (named (reducedEntries (now glyphs) (now classes) first))) ⌝ }
     requires { ⌜ count < 65536 ⌝ }
     requires { ⌜ at + (4 + 6 * count) ≤ length (now out) ⌝ }
-    ensures { λ r. ⌜ (now (out .exit) ≡ put (now (out .entry)) at (be16 2 ++ be16 count ++ classRanges (runs (named (reducedEntries (now (glyphs .entry)) (now (classes .entry)) first))))) × (r ≡ at + (4 + 6 * count)) ⌝ }
+    ensures { λ _. ⌜ now (out .exit) ≡ put (now (out .entry)) at (be16 2 ++ be16 count ++ classRanges (runs (named (reducedEntries (now (glyphs .entry)) (now (classes .entry)) first)))) ⌝ }
+    ensures { λ r. ⌜ r ≡ at + (4 + 6 * count) ⌝ }
 {
     put_u16(out, at, 2);
     put_u16(out, at + 2, count as u16);

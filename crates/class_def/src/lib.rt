@@ -9,14 +9,17 @@ pub mod list;
 pub mod named;
 
 use in_ranges::class_in_ranges;
+use in_ranges::range_classes;
 use in_ranges::read_ranges;
 use in_ranges::write_ranges;
 use list::class_in_list;
+use list::list_classes;
 use list::read_list;
 use list::write_list;
 use named::outline_of;
 use named::ranges_win;
 ghost use mathlib.Core.Path.{_≡_};
+ghost use mathlib.Core.List.{map};
 ghost use Prim.Native.Nat.{_+_, _≤_, _<_};
 ghost use lib.ListN.{length};
 ghost use Rattle.folds.specs.Lists.{put};
@@ -55,6 +58,21 @@ pub fn class_of(part: &[u8], header: Header, glyph: u16) -> u16
     }
 }
 
+// The classes of ascending glyphs, in order, at the front of `out`.
+pub fn classes_into(part: &[u8], header: Header, glyphs: &[u16], out: &mut [u16])
+    requires { ⌜ classDefOf (now part) ≡ Reading.Readable header ⌝ }
+    requires { ⌜ Ascending (now glyphs) ⌝ }
+    requires { ⌜ length (now glyphs) ≤ length (now out) ⌝ }
+    ensures { λ _. ⌜ now (out .exit) ≡ put (now (out .entry)) 0 (map (classOf (now (part .entry))) (now (glyphs .entry))) ⌝ }
+{
+    let kind = header.kind;
+    let count = header.count;
+    match kind {
+        Kind::List => list_classes(part, count, glyphs, out),
+        Kind::Ranges => range_classes(part, count, glyphs, out),
+    }
+}
+
 // How many bytes the class definition of these glyphs and classes has, the classes reduced by `first`.
 pub fn class_def_length(glyphs: &[u16], classes: &[u16], first: u16) -> usize
     requires { ⌜ length (now classes) ≡ length (now glyphs) ⌝ }
@@ -83,7 +101,8 @@ pub fn write_class_def(
     requires { ⌜ Ascending (now glyphs) ⌝ }
     requires { ⌜ length (runs (named (reducedEntries (now glyphs) (now classes) first))) < 65536 ⌝ }
     requires { ⌜ at + length (classDefBytes (reducedEntries (now glyphs) (now classes) first)) ≤ length (now out) ⌝ }
-    ensures { λ r. ⌜ (now (out .exit) ≡ put (now (out .entry)) at (classDefBytes (reducedEntries (now (glyphs .entry)) (now (classes .entry)) first))) × (r ≡ at + length (classDefBytes (reducedEntries (now (glyphs .entry)) (now (classes .entry)) first))) ⌝ }
+    ensures { λ _. ⌜ now (out .exit) ≡ put (now (out .entry)) at (classDefBytes (reducedEntries (now (glyphs .entry)) (now (classes .entry)) first)) ⌝ }
+    ensures { λ r. ⌜ r ≡ at + length (classDefBytes (reducedEntries (now (glyphs .entry)) (now (classes .entry)) first)) ⌝ }
 {
     let outline = outline_of(glyphs, classes, first);
     let runs = outline.runs;

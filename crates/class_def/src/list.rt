@@ -7,7 +7,7 @@ use wire::put_u16;
 use wire::u16_at;
 ghost use mathlib.Core.Path.{_≡_};
 ghost use mathlib.Core.Bool.{_&&_};
-ghost use mathlib.Core.List.{_++_};
+ghost use mathlib.Core.List.{_++_, map};
 ghost use Prim.Native.Nat.{_+_, _-_, _*_, _≤_, _<_};
 ghost use lib.ListN.{length, getD};
 ghost use lib.Dec.{ltb, eqb};
@@ -54,6 +54,20 @@ pub fn class_in_list(part: &[u8], count: usize, glyph: u16) -> u16
         u16_at(part, 6 + 2 * place)
     } else {
         0
+    }
+}
+
+// The classes of the glyphs, in order, at the front of `out`.
+pub fn list_classes(part: &[u8], count: usize, glyphs: &[u16], out: &mut [u16])
+    requires { ⌜ length (now part) ≡ 6 + 2 * count ⌝ }
+    requires { ⌜ length (now glyphs) ≤ length (now out) ⌝ }
+    ensures { λ _. ⌜ now (out .exit) ≡ put (now (out .entry)) 0 (map (listClass (now (part .entry)) count) (now (glyphs .entry))) ⌝ }
+{
+    let mut i: usize = 0;
+    while i < glyphs.len() {
+        let class = class_in_list(part, count, glyphs[i]);
+        out[i] = class;
+        i += 1;
     }
 }
 
@@ -120,7 +134,8 @@ pub fn write_list(
     requires { ⌜ Outlines (now glyphs) (now classes) first outline ⌝ }
     requires { ⌜ outline .span < 65536 ⌝ }
     requires { ⌜ at + (6 + 2 * (outline .span)) ≤ length (now out) ⌝ }
-    ensures { λ r. ⌜ (now (out .exit) ≡ put (now (out .entry)) at (be16 1 ++ be16 (outline .start) ++ be16 (outline .span) ++ classRow (named (reducedEntries (now (glyphs .entry)) (now (classes .entry)) first)) (outline .start) (outline .span))) × (r ≡ at + (6 + 2 * (outline .span))) ⌝ }
+    ensures { λ _. ⌜ now (out .exit) ≡ put (now (out .entry)) at (be16 1 ++ be16 (outline .start) ++ be16 (outline .span) ++ classRow (named (reducedEntries (now (glyphs .entry)) (now (classes .entry)) first)) (outline .start) (outline .span)) ⌝ }
+    ensures { λ r. ⌜ r ≡ at + (6 + 2 * (outline .span)) ⌝ }
 {
     let start = outline.start;
     let span = outline.span;

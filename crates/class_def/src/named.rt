@@ -53,7 +53,8 @@ pub fn run_last(glyphs: &[u16], classes: &[u16], k: usize) -> usize
 pub fn count_runs(glyphs: &[u16], classes: &[u16], first: u16) -> usize
     requires { ⌜ length (now classes) ≡ length (now glyphs) ⌝ }
     requires { ⌜ Ascends 0 (plain (now glyphs)) ⌝ }
-    ensures { λ r. ⌜ (r ≡ length (runs (named (reducedEntries (now (glyphs .entry)) (now (classes .entry)) first)))) × (r ≤ length (now (glyphs .entry))) ⌝ }
+    ensures { λ r. ⌜ r ≡ length (runs (named (reducedEntries (now (glyphs .entry)) (now (classes .entry)) first))) ⌝ }
+    ensures { λ r. ⌜ r ≤ length (now (glyphs .entry)) ⌝ }
 {
     let mut count: usize = 0;
     let mut k: usize = 0;
