@@ -1,19 +1,17 @@
 -- One item measured after another, and what counts as seen after a cut. Assumes nothing.
 use Prim.Native.Nat.{ℕ, _+_, _≤_, _<_}
-use mathlib.Core.Path.{_≡_, ap, subst, _∙_}
+use mathlib.Core.Path.{_≡_, subst}
 use mathlib.Core.List.{List}
 use native.Mathlib.Omega.{arith}
-use lib.ListN.{length}
 use Rattle.opentype.specs.PairPos.{Shape, itemAt}
 use Rattle.opentype.proofs.Shapes.{items-rise}
 use Rattle.rules.specs.Store.{Store}
-use Rattle.rules.specs.Walk.{reached}
 use Rattle.rules.proofs.Sound.{Fits, sound-fits}
 use Rattle.rules.proofs.Reaches.{used}
 use Rattle.object_store.specs.Rows.{keyOf, rowKey, InOrder, FirstRow}
 use Rattle.object_store.proofs.Rows.{in-order, rows-rise}
-use Rattle.walk.specs.Marks.{Walked, alsoBetween}
-use Rattle.walk.proofs.Marks.{length-stamp, marks-next}
+use Rattle.walk.specs.Marks.{Walked}
+use Rattle.walk.proofs.Marks.{marks-next}
 use Rattle.walk.proofs.Items.{items, items-none, ItemRows, item-size, item-seen}
 use Rattle.split_points.specs.Measuring.{At, Measures}
 
@@ -39,7 +37,6 @@ module _ {s : Store} {t : ℕ} {sh : Shape} {a i row e : ℕ} {w : List ℕ} (x 
           most = d .most;
           later = rows-rise (x .first) (item-rows .next) (omega (arith, items-rise sh i (i + 1) (omega arith)));
           after = record { is-sound = x .is-sound; order = omega (arith, x .order); first = item-rows .next; marks = item-seen at-fits item-rows (x .order) (x .marks) d };
-          long = ap length (d .walk) ∙ length-stamp e (reached s (alsoBetween (items s t sh a i) row next)) w (s .objectCount);
         }
 
   -- a cut before item i: the next epoch, in which nothing counts as seen

@@ -1,2 +1,4 @@
 pub mod Weighing
 pub mod ItemSizes
+pub mod Turns
+pub mod PairSets

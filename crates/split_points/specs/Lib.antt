@@ -1,2 +1,4 @@
 pub mod Filling
 pub mod Measuring
+pub mod Filled
+pub mod Format1

@@ -3,7 +3,6 @@ use Prim.Native.Nat.{ℕ, _+_, _≤_}
 use mathlib.Core.Path.{_≡_}
 use mathlib.Core.Bool.{true}
 use mathlib.Core.List.{List}
-use lib.ListN.{length}
 use Rattle.opentype.specs.PairPos.{Shape, itemAt}
 use Rattle.rules.specs.Store.{Store, linkAt, sound}
 use Rattle.rules.specs.Walk.{ofItems, itemSize}
@@ -24,4 +23,3 @@ pub record Measures (s : Store) (t : ℕ) (sh : Shape) (a i row epoch : ℕ) (w 
   pub most : m .size ≤ 16777216
   pub later : row ≤ m .next
   pub after : At s t sh a (i + 1) (m .next) epoch w′
-  pub long : length w′ ≡ length w

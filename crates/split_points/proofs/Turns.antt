@@ -1,0 +1,159 @@
+-- One item after another: before the first, an item that is passed over, added or cut at, and after the last. Assumes nothing.
+use Prim.Native.Nat.{ℕ, _+_, _*_, _≤_, _<_}
+use mathlib.Core.Path.{_≡_, refl, sym, ap, subst, _∙_}
+use mathlib.Core.Bool.{Bool, true, false, cond}
+use mathlib.Core.List.{List, [], _∷_}
+use native.Mathlib.Numerals.{add-one}
+use native.Mathlib.Omega.{arith}
+use lib.ListN.{length, length-append}
+use borrow.Author.Tests.{ltb-false}
+use Rattle.folds.specs.Lists.{put}
+use Rattle.folds.proofs.Tests.{by-test}
+use Rattle.folds.proofs.Put.{put-nil, length-put}
+use Rattle.opentype.specs.PairPos.{itemAt}
+use Rattle.opentype.proofs.Shapes.{items-rise}
+use Rattle.rules.specs.Store.{Store}
+use Rattle.rules.specs.Cuts.{Rule, Cutting, exceeds, cutHere, goOn, weigh, step, after, cutsOf}
+use Rattle.rules.specs.Table.{shape, ruleOf, cutPlaces}
+use Rattle.rules.proofs.Sound.{Fits, sound-fits, size-bytes}
+use Rattle.rules.proofs.Reaches.{used}
+use Rattle.rules.proofs.CutPlaces.{rule-count}
+use Rattle.object_store.specs.Rows.{keyOf, FirstRow}
+use Rattle.walk.proofs.Marks.{marks-same}
+use Rattle.walk.proofs.Items.{items-none}
+use Rattle.split_points.specs.declared.filling.Filling.{Filling}
+use Rattle.split_points.specs.declared.measuring.Measured.{Measured}
+use Rattle.split_points.specs.declared.«table_info».TableInfo.{TableInfo}
+use Rattle.split_points.specs.Filling.{Fills, Listed}
+use Rattle.split_points.specs.Measuring.{Measures}
+use Rattle.split_points.specs.Filled.{Described, Unseen, Filled}
+use Rattle.split_points.proofs.ItemSizes.{at-cut}
+
+-- ---- document 01's step
+
+module _ (r : Rule) where
+  pub after-looked : (i : ℕ) → r .looks i ≡ true → after r (i + 1) ≡ weigh r (after r i) i (r .cost (after r i .seen) i)
+  unfolding after step
+  after-looked i h = ap (after r) (add-one i) ∙ ap (λ (b : Bool). cond b (weigh r (after r i) i (r .cost (after r i .seen) i)) (after r i)) h
+
+  pub after-passed : (i : ℕ) → r .looks i ≡ false → after r (i + 1) ≡ after r i
+  unfolding after step
+  after-passed i h = ap (after r) (add-one i) ∙ ap (λ (b : Bool). cond b (weigh r (after r i) i (r .cost (after r i .seen) i)) (after r i)) h
+
+  module _ (c : Cutting) (i cost : ℕ) where
+    weigh-cut : exceeds r c i cost ≡ true → weigh r c i cost ≡ cutHere r c i cost
+    unfolding weigh
+    weigh-cut e = ap (λ (b : Bool). cond b (cutHere r c i cost) (goOn c cost)) e
+
+    weigh-on : exceeds r c i cost ≡ false → weigh r c i cost ≡ goOn c cost
+    unfolding weigh
+    weigh-on e = ap (λ (b : Bool). cond b (cutHere r c i cost) (goOn c cost)) e
+
+    weigh-small : exceeds r c i cost ≡ false → c .sum + cost ≤ 65535
+    unfolding exceeds
+    weigh-small e = omega (arith, ltb-false 65535 (c .sum + cost + r .beside (c .first) i) e)
+
+    cut-longer : length (cutHere r c i cost .cuts) ≡ length (c .cuts) + 1
+    unfolding cutHere
+    cut-longer = length-append (c .cuts) (i ∷ [])
+
+    on-same : length (goOn c cost .cuts) ≡ length (c .cuts)
+    unfolding goOn
+    on-same = refl
+
+-- ---- the code's step
+
+module _ {s : Store} {x : TableInfo} (u : Described s x) where
+  fits : Fits s
+  fits = sound-fits s (u .is-sound)
+
+  -- an item ends within the table
+  pub item-ends : (i : ℕ) → i < x .count → (x .header + x .item * (i + 1) ≡ itemAt (shape s (x .table)) (i + 1)) × (x .header + x .item * (i + 1) < 4294967296)
+  item-ends i h =
+      let e : x .header + x .item * (i + 1) ≡ itemAt (shape s (x .table)) (i + 1) = rw (u .header, u .item) in
+      let r = items-rise (shape s (x .table)) (i + 1) (shape s (x .table) .count) (omega (arith, u .count)) in
+      let o = fits .object (x .table) (u .used) in
+      (e, omega (arith, u .exactly, size-bytes s fits (x .table) (u .used), o .inside, fits .bytesMost))
+
+  pub filled-start : (r : Rule) {f : Filling} {row start : ℕ} {w l : List ℕ} → Unseen s x w l → Fills f (after r 0) → r .start ≤ 16 → start ≡ shape s (x .table) .header → FirstRow (s .links) (s .linkCount) (keyOf (x .table) start) row → Filled s x l 0 (after r 0) f row w l
+  unfolding after
+  filled-start r {f} {row} {start} {w} {l} n a b h g =
+      let e : start ≡ itemAt (shape s (x .table)) 0 = omega arith in
+      let z : f .cuts ≡ 0 = a .cuts in
+      let y : x .epoch ≡ x .epoch + f .cuts = omega arith in
+      record {
+        listed = record { fills = a; listed = put-nil l 0 };
+        at = record {
+          is-sound = u .is-sound;
+          order = omega arith;
+          first = subst (λ (q : ℕ). FirstRow (s .links) (s .linkCount) (keyOf (x .table) q) row) e g;
+          marks = rw y at (marks-same (used s fits) (n .marks) (λ k l. sym (items-none s (x .table) (shape s (x .table)) 0 k)));
+        };
+        first = omega arith;
+        few = omega arith;
+        small = omega (arith, a .sum);
+        room = n .room;
+      }
+
+module _ {s : Store} {x : TableInfo} {d : List ℕ} {i : ℕ} {c : Cutting} {f : Filling} {row : ℕ} {w l : List ℕ} (v : Filled s x d i c f row w l) where
+  -- there is an entry for a cut at item i
+  pub cuts-room : i < x .count → f .cuts < length l
+  cuts-room h = omega (arith, v .few, v .room, v .listed .fills .cuts, ap length (v .listed .listed), length-put d 0 (c .cuts) (omega (arith, v .few, v .room, v .listed .fills .cuts)))
+
+  module _ {m : Measured} {w′ : List ℕ} (y : Measures s (x .table) (shape s (x .table)) (c .seen) i row (x .epoch + f .cuts) w m w′) where
+    -- an item that is not looked at
+    pub filled-pass : Filled s x d (i + 1) c f (m .next) w′ l
+    filled-pass = record { listed = v .listed; at = y .after; first = omega (arith, v .first); few = omega (arith, v .few); small = v .small; room = v .room }
+
+    module _ (r : Rule) (cost : ℕ) {f′ : Filling} {l′ : List ℕ} (g : Listed f′ (weigh r c i cost) d l′) where
+      same-cuts : f′ .cuts ≡ f .cuts → length (weigh r c i cost .cuts) ≡ length (c .cuts)
+      same-cuts e = sym (g .fills .cuts) ∙ e ∙ v .listed .fills .cuts
+
+      -- no cut: the item is in the table that is being filled
+      pub on-told : f′ .cuts ≡ f .cuts → weigh r c i cost ≡ goOn c cost
+      on-told e = by-test (exceeds r c i cost)
+        (λ b. absurd (omega (arith, same-cuts e, ap (λ (z : Cutting). length (z .cuts)) (weigh-cut r c i cost b), cut-longer r c i cost)))
+        (λ b. weigh-on r c i cost b)
+
+      pub filled-on : f′ .cuts ≡ f .cuts → Filled s x d (i + 1) (goOn c cost) f′ (m .next) w′ l′
+      unfolding goOn
+      filled-on e = record {
+        listed = subst (λ (z : Cutting). Listed f′ z d l′) (on-told e) g;
+        at = let q : x .epoch + f .cuts ≡ x .epoch + f′ .cuts = omega arith in rw q at (y .after);
+        first = omega (arith, v .first);
+        few = omega (arith, v .few);
+        small = by-test (exceeds r c i cost)
+          (λ b. absurd (omega (arith, same-cuts e, ap (λ (z : Cutting). length (z .cuts)) (weigh-cut r c i cost b), cut-longer r c i cost)))
+          (λ b. omega (arith, g .fills .sum, ap (λ (z : Cutting). z .sum) (weigh-on r c i cost b), weigh-small r c i cost b));
+        room = v .room;
+      }
+
+      -- a cut: the item is the first of the next table
+      pub cut-told : (f′ .cuts ≡ f .cuts → ⊥) → weigh r c i cost ≡ cutHere r c i cost
+      cut-told ne = by-test (exceeds r c i cost) (λ b. weigh-cut r c i cost b)
+        (λ b. absurd (ne (g .fills .cuts ∙ ap (λ (z : Cutting). length (z .cuts)) (weigh-on r c i cost b) ∙ on-same r c i cost ∙ sym (v .listed .fills .cuts))))
+
+      pub filled-cut : (f′ .cuts ≡ f .cuts → ⊥) → r .start + cost ≤ 67108864 → Filled s x d (i + 1) (cutHere r c i cost) f′ (m .next) w′ l′
+      unfolding cutHere
+      filled-cut ne few =
+          let e : weigh r c i cost ≡ cutHere r c i cost = cut-told ne in
+          let n : f′ .cuts ≡ f .cuts + 1 = omega (arith, g .fills .cuts, v .listed .fills .cuts, ap (λ (z : Cutting). length (z .cuts)) e, cut-longer r c i cost) in
+          record {
+            listed = subst (λ (z : Cutting). Listed f′ z d l′) e g;
+            at = let q : x .epoch + f .cuts + 1 ≡ x .epoch + f′ .cuts = omega arith in rw q at (at-cut (y .after));
+            first = omega arith;
+            few = omega (arith, v .few);
+            small = omega (arith, g .fills .sum, ap (λ (z : Cutting). z .sum) e);
+            room = v .room;
+          }
+
+-- all items are in tables
+all-in : (s : Store) (t i : ℕ) → i ≡ ruleOf s t .count → after (ruleOf s t) i .cuts ≡ cutPlaces s t
+unfolding cutPlaces cutsOf
+all-in s t i n = ap (λ (k : ℕ). after (ruleOf s t) k .cuts) n
+
+pub filled-stop : {s : Store} {x : TableInfo} {d : List ℕ} {i : ℕ} {f : Filling} {row : ℕ} {w l : List ℕ} → Described s x → Filled s x d i (after (ruleOf s (x .table)) i) f row w l → i ≡ x .count
+    → (f .cuts ≡ length (cutPlaces s (x .table))) × (l ≡ put d 0 (cutPlaces s (x .table)))
+filled-stop {s} {x} {d} {i} {f} {row} {w} {l} u v e =
+    let q : after (ruleOf s (x .table)) i .cuts ≡ cutPlaces s (x .table) = all-in s (x .table) i (e ∙ u .count ∙ sym (rule-count s (x .table))) in
+    (v .listed .fills .cuts ∙ ap length q, v .listed .listed ∙ ap (put d 0) q)

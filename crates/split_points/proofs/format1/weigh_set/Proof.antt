@@ -1,0 +1,115 @@
+use mathlib.Core.Path.{_∙_}
+use native.Mathlib.Omega.{arith}
+use borrow.Author.Needs.{needs}
+use Rattle.split_points.proofs.Turns.{cuts-room}
+use Rattle.split_points.proofs.PairSets.{set-ends, partial-most, set-passed, set-on, set-cut}
+use Rattle.split_points.proofs.format1.weigh_set.Statement.{statement}
+use Rattle.split_points.proofs.format1.weigh_set.Tie as tie
+
+cast-epoch : tie.Need-cast-epoch
+cast-epoch c = search needs
+
+add-epoch : tie.Need-add-epoch
+add-epoch c = search needs
+
+item-end-requires : tie.Need-item-end-requires
+item-end-requires c κs =
+    let s = c .before .before .before .before .before .before .before in
+    set-ends (s .pre .1 .2) (s .pre .0) .1
+
+measure-requires : tie.Need-measure-requires
+measure-requires c κs =
+    let s = c .before .before .before .before .before .before .before .before .before in
+    let v = s .pre .1 .2 in
+    (s .pre .1 .0, _, _, s .args .i, c .before .item-end .ensures ∙ set-ends v (s .pre .0) .0, v .filled .at)
+
+same-length : tie.Need-same-length
+same-length c = search needs
+
+returns : tie.Need-returns
+returns c =
+    let s = c .before .before .before .before .before .before .before .before .before .before .before .before .before in
+    let m = c .before .before .before in
+    λ b d v.
+    set-passed v (s .pre .0) (m .measure .ensures b _ _ (s .args .i) (m .before .before .item-end .ensures ∙ set-ends v (s .pre .0) .0) (v .filled .at)) (c .if1 .taken)
+
+add-partial : tie.Need-add-partial
+add-partial c =
+    let s = c .before .before .before .before .before .before .before .before .before .before .before .before .before .before in
+    omega (arith, partial-most (s .pre .1 .2) (s .pre .0))
+
+cast-lesser : tie.Need-cast-lesser
+cast-lesser c = search needs
+
+lesser-requires : tie.Need-lesser-requires
+lesser-requires c κs = search needs
+
+add-weigh : tie.Need-add-weigh
+add-weigh c =
+    let s = c .before .before .before .before .before .before .before .before .before .before .before .before .before .before .before .before .before in
+    let m = c .before .before .before .before .before .before .before in
+    let v = s .pre .1 .2 in
+    omega (arith, m .measure .ensures (s .pre .1 .0) _ _ (s .args .i) (m .before .before .item-end .ensures ∙ set-ends v (s .pre .0) .0) (v .filled .at) .most)
+
+weigh-requires : tie.Need-weigh-requires
+weigh-requires c κs =
+    let s = c .before .before .before .before .before .before .before .before .before .before .before .before .before .before .before .before .before .before in
+    let m = c .before .before .before .before .before .before .before .before in
+    let v = s .pre .1 .2 in
+    let y = m .measure .ensures (s .pre .1 .0) _ _ (s .args .i) (m .before .before .item-end .ensures ∙ set-ends v (s .pre .0) .0) (v .filled .at) in
+    let f = v .filled in
+    (omega (arith, f .small), omega (arith, y .most), omega (arith, c .before .before .lesser .ensures, partial-most v (s .pre .0)), omega arith, cuts-room f (s .pre .0))
+
+same-length-2 : tie.Need-same-length-2
+same-length-2 c = search needs
+
+same-length-3 : tie.Need-same-length-3
+same-length-3 c = search needs
+
+returns-2 : tie.Need-returns-2
+returns-2 c =
+    let g = c .before .before .before .before .before in
+    let k = g .before .before .before in
+    let m = k .before .before .before .before .before .before in
+    let s = m .before .before .before .before .before .before .before .before .before .before in
+    λ b d v.
+    let y = m .measure .ensures b _ _ (s .args .i) (m .before .before .item-end .ensures ∙ set-ends v (s .pre .0) .0) (v .filled .at) in
+    set-cut v (s .pre .0) y (k .before .before .before .if1 .left) (k .lesser .ensures) (g .weigh .ensures) (c .if2 .taken)
+
+same-length-4 : tie.Need-same-length-4
+same-length-4 c = search needs
+
+same-length-5 : tie.Need-same-length-5
+same-length-5 c = search needs
+
+returns-3 : tie.Need-returns-3
+returns-3 c =
+    let g = c .before .before .before .before .before in
+    let k = g .before .before .before in
+    let m = k .before .before .before .before .before .before in
+    let s = m .before .before .before .before .before .before .before .before .before .before in
+    λ b d v.
+    let y = m .measure .ensures b _ _ (s .args .i) (m .before .before .item-end .ensures ∙ set-ends v (s .pre .0) .0) (v .filled .at) in
+    set-on v (s .pre .0) y (k .before .before .before .if1 .left) (k .lesser .ensures) (g .weigh .ensures) (c .if2 .left)
+
+pub weigh-set-spec : {M : Type 1} → statement M
+weigh-set-spec =
+    tie.close
+    (tie.spec
+    cast-epoch
+    add-epoch
+    item-end-requires
+    measure-requires
+    same-length
+    returns
+    add-partial
+    cast-lesser
+    lesser-requires
+    add-weigh
+    weigh-requires
+    same-length-2
+    same-length-3
+    returns-2
+    same-length-4
+    same-length-5
+    returns-3)

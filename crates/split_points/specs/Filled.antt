@@ -1,0 +1,39 @@
+-- The items below some item in tables, as the code accounts for it and as document 01 does. Assumes nothing.
+use Prim.Native.Nat.{ℕ, _+_, _≤_, _<_}
+use mathlib.Core.Path.{_≡_}
+use mathlib.Core.Bool.{true}
+use mathlib.Core.List.{List}
+use lib.ListN.{length}
+use Rattle.opentype.specs.PairPos.{itemAt}
+use Rattle.rules.specs.Store.{Store, sound, bytesOf}
+use Rattle.rules.specs.Cuts.{Cutting}
+use Rattle.rules.specs.Table.{shape}
+use Rattle.walk.specs.Marks.{noRow, Marks}
+use Rattle.split_points.specs.declared.filling.Filling.{Filling}
+use Rattle.split_points.specs.declared.«table_info».TableInfo.{TableInfo}
+use Rattle.split_points.specs.Filling.{Listed}
+use Rattle.split_points.specs.Measuring.{At}
+
+-- the numbers are those of the table, which has passed the checks up to 3
+pub record Described (s : Store) (x : TableInfo) : Type 0 where
+  pub is-sound : sound s ≡ true
+  pub used : x .table < s .objectCount
+  pub exactly : length (bytesOf s (x .table)) ≡ itemAt (shape s (x .table)) (shape s (x .table) .count)
+  pub header : x .header ≡ shape s (x .table) .header
+  pub item : x .item ≡ shape s (x .table) .item
+  pub count : x .count ≡ shape s (x .table) .count
+  pub epochs : x .epoch + x .count < 4294967296
+
+-- before the first item: nothing counts as seen, and there is an entry for each cut
+pub record Unseen (s : Store) (x : TableInfo) (w l : List ℕ) : Type 0 where
+  pub marks : Marks s noRow (x .epoch) w
+  pub room : x .count ≤ length l
+
+-- the items below i have been weighed, and c is where document 01 then stands
+pub record Filled (s : Store) (x : TableInfo) (d : List ℕ) (i : ℕ) (c : Cutting) (f : Filling) (row : ℕ) (w l : List ℕ) : Type 0 where
+  pub listed : Listed f c d l
+  pub at : At s (x .table) (shape s (x .table)) (c .seen) i row (x .epoch + f .cuts) w
+  pub first : c .first ≤ i
+  pub few : f .cuts ≤ i
+  pub small : f .sum ≤ 67108864
+  pub room : x .count ≤ length d

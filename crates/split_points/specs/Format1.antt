@@ -1,0 +1,37 @@
+-- The pair sets below some pair set in tables. Assumes nothing.
+use Prim.Native.Nat.{ℕ, _+_, _*_}
+use mathlib.Core.Path.{_≡_}
+use mathlib.Core.Bool.{Bool, true, cond, _&&_}
+use mathlib.Core.List.{List}
+use lib.Dec.{leb, eqb}
+use Rattle.folds.specs.Folds.{sum}
+use Rattle.folds.specs.Lists.{isSome}
+use Rattle.opentype.specs.PairPos.{itemAt}
+use Rattle.rules.specs.Store.{Store, sizeOf, childAt}
+use Rattle.rules.specs.Cuts.{after}
+use Rattle.rules.specs.Table.{shape, linkedAt, allAtSlots, ruleOf}
+use Rattle.split_points.specs.declared.«table_info».TableInfo.{TableInfo}
+use Rattle.split_points.specs.declared.format1.Sets.{Sets}
+use Rattle.split_points.specs.Filled.{Described, Unseen, Filled}
+
+-- the table is of format 1, and its links stand at slots
+pub record Table1 (s : Store) (x : TableInfo) : Type 0 where
+  pub described : Described s x
+  pub format : eqb (shape s (x .table) .format) 1 ≡ true
+  pub slots : allAtSlots s (x .table) ≡ true
+  pub coverage : x .beside ≡ sizeOf s (linkedAt s (x .table) 2)
+
+-- what a caller has seen before it asks for the cut places
+pub record Ready1 (s : Store) (x : TableInfo) (w l : List ℕ) : Type 0 where
+  pub table : Table1 s x
+  pub unseen : Unseen s x w l
+
+-- the slot of pair set k is not empty
+abbrev pub linked : Store → ℕ → ℕ → Bool
+linked s t k = isSome (childAt s t (itemAt (shape s t) k))
+
+-- the pair sets below i have been weighed, and the coverage has the glyphs of those in the table that is being filled
+pub record Below1 (s : Store) (x : TableInfo) (d : List ℕ) (i : ℕ) (p : Sets) (w l : List ℕ) : Type 0 where
+  pub table : Table1 s x
+  pub filled : Filled s x d i (after (ruleOf s (x .table)) i) (p .filling) (p .row) w l
+  pub coverage : p .partial ≡ 4 + 2 * sum (λ k. cond (leb (after (ruleOf s (x .table)) i .first) k && linked s (x .table) k) 1 0) i
