@@ -1,4 +1,6 @@
 // The checks 1 to 5 of a table, in document 01's order: one decision, which splits, cut plans and pair readings share.
+pub mod slots;
+
 use class_def::read_class_def;
 use coverage_graph::glyph_count;
 use coverage_graph::read_coverage;

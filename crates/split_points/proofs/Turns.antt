@@ -112,8 +112,8 @@ module _ {s : Store} {x : TableInfo} {d : List ℕ} {i : ℕ} {c : Cutting} {f :
       -- no cut: the item is in the table that is being filled
       pub on-told : f′ .cuts ≡ f .cuts → weigh r c i cost ≡ goOn c cost
       on-told e = by-test (exceeds r c i cost)
-        (λ b. absurd (omega (arith, same-cuts e, ap (λ (z : Cutting). length (z .cuts)) (weigh-cut r c i cost b), cut-longer r c i cost)))
-        (λ b. weigh-on r c i cost b)
+          (λ b. absurd (omega (arith, same-cuts e, ap (λ (z : Cutting). length (z .cuts)) (weigh-cut r c i cost b), cut-longer r c i cost)))
+          (λ b. weigh-on r c i cost b)
 
       pub filled-on : f′ .cuts ≡ f .cuts → Filled s x d (i + 1) (goOn c cost) f′ (m .next) w′ l′
       unfolding goOn
@@ -123,15 +123,15 @@ module _ {s : Store} {x : TableInfo} {d : List ℕ} {i : ℕ} {c : Cutting} {f :
         first = omega (arith, v .first);
         few = omega (arith, v .few);
         small = by-test (exceeds r c i cost)
-          (λ b. absurd (omega (arith, same-cuts e, ap (λ (z : Cutting). length (z .cuts)) (weigh-cut r c i cost b), cut-longer r c i cost)))
-          (λ b. omega (arith, g .fills .sum, ap (λ (z : Cutting). z .sum) (weigh-on r c i cost b), weigh-small r c i cost b));
+            (λ b. absurd (omega (arith, same-cuts e, ap (λ (z : Cutting). length (z .cuts)) (weigh-cut r c i cost b), cut-longer r c i cost)))
+            (λ b. omega (arith, g .fills .sum, ap (λ (z : Cutting). z .sum) (weigh-on r c i cost b), weigh-small r c i cost b));
         room = v .room;
       }
 
       -- a cut: the item is the first of the next table
       pub cut-told : (f′ .cuts ≡ f .cuts → ⊥) → weigh r c i cost ≡ cutHere r c i cost
       cut-told ne = by-test (exceeds r c i cost) (λ b. weigh-cut r c i cost b)
-        (λ b. absurd (ne (g .fills .cuts ∙ ap (λ (z : Cutting). length (z .cuts)) (weigh-on r c i cost b) ∙ on-same r c i cost ∙ sym (v .listed .fills .cuts))))
+          (λ b. absurd (ne (g .fills .cuts ∙ ap (λ (z : Cutting). length (z .cuts)) (weigh-on r c i cost b) ∙ on-same r c i cost ∙ sym (v .listed .fills .cuts))))
 
       pub filled-cut : (f′ .cuts ≡ f .cuts → ⊥) → r .start + cost ≤ 67108864 → Filled s x d (i + 1) (cutHere r c i cost) f′ (m .next) w′ l′
       unfolding cutHere

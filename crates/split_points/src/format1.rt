@@ -1,8 +1,8 @@
 // The cut places of a table of format 1: the counterpart of `compute_format1_split_points`.
 use crate::filling::Filling;
 use crate::measuring::measure;
-use object_store::first_row;
 use crate::table_info::TableInfo;
+use object_store::first_row;
 ghost use mathlib.Core.Path.{_≡_};
 ghost use mathlib.Core.List.{List};
 ghost use Prim.Native.Nat.{ℕ, _+_, _<_, _≤_, min};
@@ -63,7 +63,16 @@ fn weigh_set(
     let filling = sets.filling;
     let row = sets.row;
     let epoch = info.epoch + (filling.cuts as u32);
-    let set = measure(objects, links, counts, info.table, row, info.item_end(i), epoch, walk);
+    let set = measure(
+        objects,
+        links,
+        counts,
+        info.table,
+        row,
+        info.item_end(i),
+        epoch,
+        walk,
+    );
     let next = set.next;
     if next == row {
         return sets;

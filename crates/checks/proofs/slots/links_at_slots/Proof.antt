@@ -1,0 +1,50 @@
+-- `checks::slots::links_at_slots` meets its contract: the rows of the table's own links decide. Assumes nothing.
+use mathlib.Core.Path.{_∙_}
+use native.Mathlib.Omega.{arith}
+use Rattle.object_store.proofs.Rows.{rows-rise}
+use Rattle.rules.specs.Store.{lent, bytesOf}
+use Rattle.checks.proofs.AtSlots.{table-slots}
+use borrow.Author.Needs.{needs}
+use Rattle.checks.proofs.slots.links_at_slots.Statement.{statement}
+use Rattle.checks.proofs.slots.links_at_slots.Tie as tie
+
+element-copy-out-count : tie.Need-element-copy-out-count
+element-copy-out-count c = search needs
+
+cast-count : tie.Need-cast-count
+cast-count c = search needs
+
+first-row-requires : tie.Need-first-row-requires
+first-row-requires c κs = search needs
+
+add-first-row : tie.Need-add-first-row
+add-first-row c = search needs
+
+first-row-requires-2 : tie.Need-first-row-requires-2
+first-row-requires-2 c κs = search needs
+
+rows-at-slots-requires : tie.Need-rows-at-slots-requires
+rows-at-slots-requires c κs =
+    let start = c .before .before .before .before in
+    let f = c .before .first-row .ensures in
+    let g = c .first-row2 .ensures in
+    (rows-rise f g (omega arith), omega (arith, g .within, start .pre .0 .room))
+
+returns : tie.Need-returns
+returns c b o e =
+    let a = c .before .before .before .before .before .args in
+    c .rows-at-slots .ensures (bytesOf (lent b o (a .links .now) (a .counts .now)) (a .table)) e
+    ∙ table-slots b o (a .links .now) (a .counts .now) (a .table) (c .before .before .first-row .result) (c .before .first-row2 .result)
+    (λ k. omega (arith, c .before .before .before .before .shared-slice-known .given k)) (c .before .before .first-row .ensures) (c .before .first-row2 .ensures)
+
+pub links-at-slots-spec : {M : Type 1} → statement M
+links-at-slots-spec =
+    tie.close
+    (tie.spec
+    element-copy-out-count
+    cast-count
+    first-row-requires
+    add-first-row
+    first-row-requires-2
+    rows-at-slots-requires
+    returns)
