@@ -73,14 +73,14 @@ pub fn count_runs(glyphs: &[u16], classes: &[u16], first: u16) -> usize
 pub fn first_named(classes: &[u16], first: u16) -> usize
     ensures { λ r. ⌜ FirstNamed (now (classes .entry)) first r ⌝ }
 {
-    let mut k: usize = 0;
-    while k < classes.len() {
-        if first < classes[k] {
-            return k;
+    let mut from: usize = 0;
+    while from < classes.len() {
+        if first < classes[from] {
+            return from;
         }
-        k += 1;
+        from += 1;
     }
-    k
+    from
 }
 
 // One past the last entry that is named, or 0.
@@ -89,11 +89,11 @@ pub fn last_named(classes: &[u16], first: u16) -> usize
 {
     let mut end = classes.len();
     while 0 < end {
-        let k = end - 1;
-        if first < classes[k] {
+        let last = end - 1;
+        if first < classes[last] {
             return end;
         }
-        end = k;
+        end = last;
     }
     end
 }

@@ -29,10 +29,10 @@ stop : {cs : List ℕ} {first k : ℕ} → Inv cs first k → length cs ≤ k �
 stop i h = record { within = i .within; unnamed = i .unnamed; is-named = λ l. absurd (omega arith) }
 
 abbrev Inv-loop : tie.InvT-loop
-Inv-loop classes first k₀ k = Inv classes first k
+Inv-loop classes first from₀ from = Inv classes first from
 
 abbrev μ-loop : tie.MeasureT-loop
-μ-loop classes first k₀ k = length classes - k
+μ-loop classes first from₀ from = length classes - from
 
 loop-holds : tie.Need-loop-holds Inv-loop μ-loop
 loop-holds c = start _ _
@@ -46,8 +46,8 @@ shared-slice-read-if1 c = search needs
 returns : tie.Need-returns Inv-loop μ-loop
 returns c = found (c .before .before .before .loop .inv) (c .if1 .taken)
 
-add-k : tie.Need-add-k Inv-loop μ-loop
-add-k c = search needs
+add-from : tie.Need-add-from Inv-loop μ-loop
+add-from c = search needs
 
 loop-less : tie.Need-loop-less Inv-loop μ-loop
 loop-less c = search needs
@@ -68,7 +68,7 @@ first-named-spec =
     mul-if1
     shared-slice-read-if1
     returns
-    add-k
+    add-from
     loop-less
     loop-again
     returns-2)

@@ -41,8 +41,8 @@ abbrev μ-loop : tie.MeasureT-loop
 loop-holds : tie.Need-loop-holds Inv-loop μ-loop
 loop-holds c = start _ _
 
-sub-k : tie.Need-sub-k Inv-loop μ-loop
-sub-k c = search needs
+sub-last : tie.Need-sub-last Inv-loop μ-loop
+sub-last c = search needs
 
 mul-if1 : tie.Need-mul-if1 Inv-loop μ-loop
 mul-if1 c = search needs
@@ -69,7 +69,7 @@ last-named-spec =
     Inv-loop
     μ-loop
     loop-holds
-    sub-k
+    sub-last
     mul-if1
     shared-slice-read-if1
     returns
