@@ -1,5 +1,5 @@
 pub mod Headers
-pub mod Ascending
+pub mod Counts
 pub mod Tails
 pub mod Places
 pub mod RoundTrip

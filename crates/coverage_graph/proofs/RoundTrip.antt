@@ -8,8 +8,8 @@ use Rattle.folds.specs.Lists.{put, part}
 use Rattle.folds.proofs.WrittenPart.{part-written}
 use Rattle.opentype.specs.Coverage.{coverReadable, coverGlyphs, coverageBytes}
 use Rattle.opentype.proofs.CoverageRoundTrip.{cover-back, cover-readable}
-use Rattle.coverage_graph.specs.Coverage.{Ascending}
-use Rattle.coverage_graph.proofs.Ascending.{ascends}
+use Rattle.ranges.specs.Ascending.{Ascending}
+use Rattle.ranges.proofs.Ascending.{ascends}
 
 module _ (gs : List ℕ) (a : Ascending gs) where
   pub readable : coverReadable (coverageBytes gs) ≡ true

@@ -1,5 +1,5 @@
 -- What the functions over a Coverage take and answer, beside what OpenType says of one. Assumes nothing.
-use Prim.Native.Nat.{ℕ, _+_, _<_}
+use Prim.Native.Nat.{ℕ, _+_}
 use mathlib.Core.Path.{_≡_}
 use mathlib.Core.Bool.{Bool, _&&_}
 use mathlib.Core.List.{List}
@@ -24,10 +24,6 @@ AsList b n = coverageOf b ≡ Readable (record { kind = Kind.List; count = n })
 -- a readable Coverage of n ranges
 abbrev pub AsRanges : List ℕ → ℕ → Type 0
 AsRanges b n = coverageOf b ≡ Readable (record { kind = Kind.Ranges; count = n })
-
--- each glyph is above the one before it
-abbrev pub Ascending : List ℕ → Type 0
-Ascending gs = (k : ℕ) → k + 1 < length gs → getD gs k 0 < getD gs (k + 1) 0
 
 -- there is a glyph after the one at k, and it is one more
 unfoldable pub joinsNext : List ℕ → ℕ → Bool

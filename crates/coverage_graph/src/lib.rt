@@ -23,7 +23,8 @@ ghost use Prim.Native.Nat.{_+_, _≤_};
 ghost use lib.ListN.{length};
 ghost use Rattle.folds.specs.Lists.{put};
 ghost use Rattle.opentype.specs.Coverage.{coverageOf, coverGlyphs, coverPlace, coverageBytes};
-ghost use Rattle.coverage_graph.specs.Coverage.{placeOf, Ascending};
+ghost use Rattle.ranges.specs.Ascending.{Ascending};
+ghost use Rattle.coverage_graph.specs.Coverage.{placeOf};
 
 // A glyph's place in the coverage.
 pub enum Place {

@@ -6,6 +6,7 @@ use native.Mathlib.Omega.{arith}
 use lib.ListN.{length, getD}
 use Rattle.opentype.specs.Coverage.{plain}
 use Rattle.opentype.proofs.Runs.{Ascends}
+use Rattle.opentype.proofs.CoverageRoundTrip.{ascends-at}
 use Rattle.ranges.specs.Ascending.{Ascending}
 
 from-index : (gs : List ℕ) (lo : ℕ) → (0 < length gs → lo ≤ getD gs 0 0) → ((k : ℕ) → suc k < length gs → getD gs k 0 < getD gs (suc k) 0) → Ascends lo (plain gs)
@@ -15,3 +16,6 @@ from-index (g ∷ gs) lo h a =
 
 pub ascends : (gs : List ℕ) → Ascending gs → Ascends 0 (plain gs)
 ascends gs a = from-index gs 0 (λ l. omega arith) (λ k l. rw add-one at (a k (omega arith)))
+
+pub ascending : (gs : List ℕ) → Ascends 0 (plain gs) → Ascending gs
+ascending gs a k l = rw add-one (let z = ascends-at gs 0 k a (omega arith) in omega arith)

@@ -10,8 +10,8 @@ use Rattle.opentype.specs.Numbers.{be16, words}
 use Rattle.opentype.specs.Coverage.{runs, plain, coverRanges, coverageBytes}
 use Rattle.opentype.proofs.RunCount.{many}
 use Rattle.opentype.proofs.CoverageLength.{as-ranges, ranges-long, as-list, list-long}
-use Rattle.coverage_graph.specs.Coverage.{Ascending}
-use Rattle.coverage_graph.proofs.Ascending.{at-most, listed}
+use Rattle.ranges.specs.Ascending.{Ascending}
+use Rattle.coverage_graph.proofs.Counts.{at-most, listed}
 use Rattle.coverage_graph.proofs.write_coverage.Statement.{statement}
 use Rattle.coverage_graph.proofs.write_coverage.Tie as tie
 

@@ -1,25 +1,13 @@
--- Glyphs in ascending order, by index and from one to the next; and how many there can be. Assumes nothing.
+-- How many glyphs in ascending order there can be, and how many of them in a list. Assumes nothing.
 use Prim.Native.Nat.{ℕ, suc, _+_, _*_, _≤_, _<_}
 use mathlib.Core.List.{List, [], _∷_}
-use native.Mathlib.Numerals.{add-one}
 use native.Mathlib.Omega.{arith}
 use lib.ListN.{length, getD}
 use Rattle.opentype.specs.Coverage.{plain}
-use Rattle.opentype.proofs.Runs.{Ascends, Under}
+use Rattle.opentype.proofs.Runs.{Under}
 use Rattle.opentype.proofs.RunCount.{many, alone, some-run, few}
-use Rattle.opentype.proofs.CoverageRoundTrip.{ascends-at}
-use Rattle.coverage_graph.specs.Coverage.{Ascending}
-
-from-index : (gs : List ℕ) (lo : ℕ) → (0 < length gs → lo ≤ getD gs 0 0) → ((k : ℕ) → suc k < length gs → getD gs k 0 < getD gs (suc k) 0) → Ascends lo (plain gs)
-from-index [] lo h a = tt
-from-index (g ∷ gs) lo h a =
-    (h (omega arith), from-index gs (g + 1) (λ l. let z : g < getD gs 0 0 = a 0 (omega arith) in omega arith) (λ k l. a (suc k) (omega arith)))
-
-pub ascends : (gs : List ℕ) → Ascending gs → Ascends 0 (plain gs)
-ascends gs a = from-index gs 0 (λ l. omega arith) (λ k l. rw add-one at (a k (omega arith)))
-
-pub ascending : (gs : List ℕ) → Ascends 0 (plain gs) → Ascending gs
-ascending gs a k l = rw add-one (let z = ascends-at gs 0 k a (omega arith) in omega arith)
+use Rattle.ranges.specs.Ascending.{Ascending}
+use Rattle.ranges.proofs.Ascending.{ascends}
 
 -- glyphs are below what their numbers are
 under : (gs : List ℕ) (n : ℕ) → ((k : ℕ) → getD gs k 0 < n) → Under n (plain gs)
