@@ -20,6 +20,10 @@ agrees-change f g (e ∷ es) lo a h b =
     let l : lo ≤ e .glyph = a .0 in
     (sym (h (e .glyph) l) ∙ b .0, agrees-change f g es (e .glyph + 1) (a .1) (λ x m. h x (omega arith)) (b .1))
 
+pub agrees-glyphs : (f : ℕ → ℕ) (gs : List ℕ) → Agrees f (map (λ g. entry g (f g)) gs)
+agrees-glyphs f [] = tt
+agrees-glyphs f (g ∷ gs) = (refl, agrees-glyphs f gs)
+
 -- entries in ascending order go by their own classes
 pub agrees-self : (es : List Entry) (lo : ℕ) → Ascends lo es → Agrees (classIn es) es
 unfolding classIn

@@ -12,8 +12,9 @@ use borrow.Author.Tests.{eqb-true, eq-eqb, ne-eqb}
 use Rattle.folds.specs.Folds.{flat, upto, sum}
 use Rattle.folds.specs.Lists.{sift}
 use Rattle.folds.proofs.Tests.{by-test, true-false}
-use Rattle.folds.proofs.Folds.{length-upto, all-intro}
+use Rattle.folds.proofs.Folds.{length-upto}
 use Rattle.folds.proofs.FromTheFront.{upto-at, sum-same}
+use Rattle.folds.proofs.Agree.{both-ways}
 use Rattle.folds.proofs.Each.{Each, each-upto, each-append, each-moved, each-flat, each-at}
 use Rattle.folds.proofs.Moved.{has-moved}
 use Rattle.folds.proofs.TwoParts.{sum-zeros}
@@ -26,7 +27,7 @@ use Rattle.rules.specs.Written.{splitStore, newNumber, kept, tableLinks, moved,
 use Rattle.rules.proofs.Reached.{Reach, reached-all, reached-only}
 use Rattle.rules.proofs.ItemLinks.{items-from, items-in, items-out}
 use Rattle.rules.proofs.LinkRows.{row-is, noLink}
-use Rattle.rules.proofs.Checks.{at-slot}
+use Rattle.rules.proofs.Checks.{all-at-slots, at-slot}
 use Rattle.rules.proofs.NewCounts.{per-two}
 use Rattle.rules.proofs.TableLinks.{heads-one, heads-two, kept-parent, kept-position, kept-any, kept-other, kept-item}
 use Rattle.promises.proofs.Ready.{Ready, links-count, objects-then}
@@ -122,8 +123,7 @@ module _ (s : Store) (t : ℕ) (cs : List ℕ) (g : Ready s t cs) where
   slot-same q = ap (λ (x : Shape). isSlot x q) (view-shape view)
 
   pub at-slots : allAtSlots s′ t ≡ true
-  unfolding allAtSlots
-  at-slots = all-intro (λ k. cond (ofTable t (linkAt s′ k)) (isSlot (shape s′ t) (positionOf s′ k)) true) (s′ .linkCount) (λ k l. by-test (eqb (parentOf s′ k) t) (λ e. rw e (one k l (eqb-true (parentOf s′ k) t e))) (λ e. rw e))
+  at-slots = all-at-slots s′ t one
     where
       one : (k : ℕ) → k < s′ .linkCount → parentOf s′ k ≡ t → isSlot (shape s′ t) (positionOf s′ k) ≡ true
       one k l e =
@@ -203,23 +203,29 @@ module _ (s : Store) (t : ℕ) (cs : List ℕ) (g : Ready s t cs) where
         let (m, b, c) = row-stays k l (rw (ne-eqb (parentOf s k) t ne)) in
         Reach.step (reach-new r) m b (ap (λ (x : Link). x .parent) c ∙ kept-parent t v (linkAt s k) ∙ p) (child-is m (kept t v (linkAt s k)) c ∙ kept-other t v (linkAt s k) ne ∙ e)
 
+    -- what is marked then is old, and was marked
+    was-marked : (i : ℕ) → i < s′ .objectCount → marked (reached s′ (ofI s′)) i ≡ true → (i < s .objectCount) × Reach s (ofI s) i
+    was-marked i h y = reach-old (reached-only s′ (ofI s′) (fits-then s t cs g) i h y)
+
+    old-marks : (i : ℕ) → i < s .objectCount → marked (reached s′ (ofI s′)) i ≡ marked (reached s (ofI s)) i
+    old-marks i h =
+        both-ways (marked (reached s′ (ofI s′)) i) (marked (reached s (ofI s)) i)
+        (λ y. reached-all s (ofI s) (g .fit) (was-marked i (omega (arith, objects-then s t cs g)) y .1))
+        (λ e. reached-all s′ (ofI s′) (fits-then s t cs g) (reach-new (reached-only s (ofI s) (g .fit) i h e)))
+
     old-term : (i : ℕ) → i < s .objectCount → cond (marked (reached s′ (ofI s′)) i) (sizeOf s′ i) 0 ≡ cond (marked (reached s (ofI s)) i) (sizeOf s i) 0
-    old-term i h =
-        by-test (marked (reached s (ofI s)) i)
-        (λ e.
-        let r = reached-only s (ofI s) (g .fit) i h e in
-        let ne : i ≡ t → ⊥ = λ z. not-back (subst (Reach s (ofT s)) z (items-table r)) in
-        let f : marked (reached s′ (ofI s′)) i ≡ true = reached-all s′ (ofI s′) (fits-then s t cs g) (reach-new r) in
-        rw (e, f) (omega (arith, old-head s t cs g i h, other-tail s t cs g i h ne)))
-        (λ e.
-        let f : marked (reached s′ (ofI s′)) i ≡ false = by-test (marked (reached s′ (ofI s′)) i) (λ y. true-false (sym (reached-all s (ofI s) (g .fit) (reach-old (reached-only s′ (ofI s′) (fits-then s t cs g) i (omega (arith, objects-then s t cs g)) y) .1)) ∙ e)) (λ n. n) in
-        rw (e, f))
+    old-term i h = ap (λ (b : Bool). cond b (sizeOf s′ i) 0) (old-marks i h) ∙ by-test (marked (reached s (ofI s)) i) (λ e. rw e (same-size e)) (λ e. rw e)
+      where
+        same-size : marked (reached s (ofI s)) i ≡ true → sizeOf s′ i ≡ sizeOf s i
+        same-size e =
+            let ne : i ≡ t → ⊥ = λ z. not-back (subst (Reach s (ofT s)) z (items-table (reached-only s (ofI s) (g .fit) i h e))) in
+            omega (arith, old-head s t cs g i h, other-tail s t cs g i h ne)
 
     new-term : (i : ℕ) → i < length (newOf s t cs) → cond (marked (reached s′ (ofI s′)) (s .objectCount + i)) (sizeOf s′ (s .objectCount + i)) 0 ≡ 0
     new-term i h =
-        let f : marked (reached s′ (ofI s′)) (s .objectCount + i) ≡ false = by-test (marked (reached s′ (ofI s′)) (s .objectCount + i))
-        (λ y. let x : s .objectCount + i < s .objectCount = reach-old (reached-only s′ (ofI s′) (fits-then s t cs g) (s .objectCount + i) (omega (arith, objects-then s t cs g)) y) .0 in absurd (omega arith)) (λ n. n) in
-        rw f
+        by-test (marked (reached s′ (ofI s′)) (s .objectCount + i))
+        (λ y. let x : s .objectCount + i < s .objectCount = was-marked (s .objectCount + i) (omega (arith, objects-then s t cs g)) y .0 in absurd (omega arith))
+        (λ n. rw n)
 
     reach-same : itemsReach s′ t sh 0 j ≡ itemsReach s t sh 0 j
     unfolding reachSize

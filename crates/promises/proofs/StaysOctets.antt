@@ -1,8 +1,8 @@
 -- The data stay bytes: every number that is written fits its two bytes. Assumes nothing.
 use Prim.Native.Nat.{ℕ, _+_, _-_, _<_}
-use mathlib.Core.Path.{_≡_, sym, subst}
+use mathlib.Core.Path.{_≡_}
 use mathlib.Core.Bool.{Bool, false, not}
-use mathlib.Core.List.{List, [], _∷_, map}
+use mathlib.Core.List.{List, map}
 use native.Mathlib.Omega.{arith}
 use lib.ListN.{length}
 use lib.Dec.{eqb}
@@ -10,7 +10,7 @@ use borrow.Author.Tests.{eqb-false, not-true}
 use Rattle.folds.specs.Folds.{flat}
 use Rattle.folds.specs.Lists.{join}
 use Rattle.folds.proofs.Tests.{by-test}
-use Rattle.folds.proofs.Each.{Each, each-sift, each-map, each-then, each-at, each-append, each-flat}
+use Rattle.folds.proofs.Each.{Each, each-map, each-sift, each-then, each-at, each-append, each-flat}
 use Rattle.opentype.specs.Numbers.{be16}
 use Rattle.opentype.specs.Coverage.{Entry}
 use Rattle.opentype.specs.ClassDef.{named, classDefBytes, classOf}
@@ -19,15 +19,15 @@ use Rattle.opentype.proofs.Runs.{Ascends, Under, ascends-sift, under-sift}
 use Rattle.opentype.proofs.RunStarts.{entry}
 use Rattle.opentype.proofs.Shapes.{by-format}
 use Rattle.opentype.proofs.Octets.{bytes-u16, Bytes, bytes-put, bytes-be16, bytes-join}
-use Rattle.opentype.proofs.Entries.{ascends-plain, under-plain}
+use Rattle.opentype.proofs.Entries.{Agrees, ascends-plain, under-plain}
 use Rattle.opentype.proofs.RangesCounted.{few-runs, class-slack}
 use Rattle.opentype.proofs.BytesWritten.{bytes-class-def, class-of-bits, bytes-coverage}
 use Rattle.rules.specs.Store.{Store, bytesOf, headOf}
 use Rattle.rules.specs.Cuts.{within}
-use Rattle.rules.specs.Table.{shape, entriesOf, linkedBytes, linkedAt, glyphsOf, cutPlaces}
+use Rattle.rules.specs.Table.{shape, entriesOf, linkedBytes, linkedAt, cutPlaces}
 use Rattle.rules.specs.Written.{reduced, newParts, newOf, newObjects, from, to, splitStore, storeAfter}
 use Rattle.rules.proofs.CutPlaces.{range-high}
-use Rattle.rules.proofs.Entries.{inRange, within-ascends, within-under, ascends-reduced, under-reduced, entries2}
+use Rattle.rules.proofs.Entries.{within-ascends, within-under, ascends-reduced, under-reduced, within-agrees, entries-agree}
 use Rattle.rules.proofs.Checks.{object-bytes, entries-ascend, entries-under, class-read}
 use Rattle.rules.proofs.NewTable.{bytes-new-table}
 use Rattle.promises.specs.Demands.{Octets, StaysOctets}
@@ -38,16 +38,8 @@ use Rattle.promises.proofs.NewBytes.{objectsOf, counted, counted-length
 abbrev GivenBy : (ℕ → ℕ) → ℕ → Entry → Type 0
 GivenBy f lo e = e .class ≡ f (e .glyph) - lo
 
-given-glyphs : (f : ℕ → ℕ) (gs : List ℕ) → Each (GivenBy f 0) (map (λ g. entry g (f g)) gs)
-given-glyphs f [] = tt
-given-glyphs f (g ∷ gs) = (omega arith, given-glyphs f gs)
-
-given-within : (f : ℕ → ℕ) (lo hi : ℕ) (es : List Entry) → Each (GivenBy f 0) es → Each (GivenBy f 0) (within lo hi es)
-unfolding within
-given-within f lo hi es a = each-sift (GivenBy f 0) (GivenBy f 0) (inRange lo hi) (λ e h q. h) es a
-
-given-reduced : (f : ℕ → ℕ) (lo : ℕ) (es : List Entry) → Each (GivenBy f 0) es → Each (GivenBy f lo) (reduced lo es)
-given-reduced f lo es a = each-map (GivenBy f 0) (GivenBy f lo) (λ e. entry (e .glyph) (e .class - lo)) (λ e z. omega arith) es a
+given-reduced : (f : ℕ → ℕ) (lo : ℕ) (es : List Entry) → Agrees f es → Each (GivenBy f lo) (reduced lo es)
+given-reduced f lo es a = each-map (λ (e : Entry). f (e .glyph) ≡ e .class) (GivenBy f lo) (λ e. entry (e .glyph) (e .class - lo)) (λ e z. omega arith) es a
 
 -- and is not 0: the entries that a class definition names
 abbrev NamedBy : (ℕ → ℕ) → ℕ → Entry → Type 0
@@ -88,8 +80,7 @@ module _ (s : Store) (t : ℕ) (cs : List ℕ) (g : Ready s t cs) (octets : Octe
         let rs = reduced lo es in
         let ru : Ascends 0 rs = ascends-reduced lo es 0 up in
         let rn : Under 65536 rs = under-reduced lo es 65536 under in
-        let old : Each (GivenBy (classOf b) 0) (entriesOf s t) = subst (Each (GivenBy (classOf b) 0)) (sym (entries2 s t two)) (given-glyphs (classOf b) (glyphsOf s t)) in
-        let own : Each (GivenBy (classOf b) lo) rs = given-reduced (classOf b) lo es (given-within (classOf b) lo hi (entriesOf s t) old) in
+        let own : Each (GivenBy (classOf b) lo) rs = given-reduced (classOf b) lo es (within-agrees (classOf b) lo hi (entriesOf s t) (entries-agree s t two)) in
         let isNamed : Entry → Bool = λ e. not (eqb (e .class) 0) in
         bytes-class-def rs ru rn
         (each-then (GivenBy (classOf b) lo) (λ e. e .class < 65536) (λ e z. omega (arith, class-of-bits b bits (e .glyph))) rs own)

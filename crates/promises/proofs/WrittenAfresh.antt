@@ -1,6 +1,6 @@
 -- Each table is written afresh, from the old table alone. Assumes nothing.
 use Prim.Native.Nat.{ℕ, _+_, _-_, _<_, _≤_, min}
-use mathlib.Core.Path.{_≡_, refl, sym, ap, subst, _∙_}
+use mathlib.Core.Path.{_≡_, sym, ap, _∙_}
 use mathlib.Core.Bool.{true, false, _&&_, _||_}
 use mathlib.Core.List.{List, [], _∷_, map}
 use mathlib.Core.Option.{Option, some, Option·getD}
@@ -13,7 +13,7 @@ use Rattle.folds.specs.Lists.{isSome, among}
 use Rattle.folds.proofs.Tests.{and-intro, by-test}
 use Rattle.folds.proofs.Folds.{length-upto}
 use Rattle.folds.proofs.Joined.{three-hold}
-use Rattle.folds.proofs.Each.{each-among, each-map, each-then, each-sift, Each}
+use Rattle.folds.proofs.Each.{Each, each-among, each-then}
 use Rattle.folds.proofs.Moved.{length-map}
 use Rattle.opentype.specs.Coverage.{Entry, coverageBytes, coverReadable}
 use Rattle.opentype.specs.ClassDef.{classDefBytes, classReadable, classOf, classIn}
@@ -30,7 +30,7 @@ use Rattle.rules.specs.Cuts.{within}
 use Rattle.rules.specs.Table.{entriesOf, linkedBytes, shape, partsReadable, glyphsOf, linkedAt, cutPlaces}
 use Rattle.rules.specs.Written.{reduced, splitStore}
 use Rattle.rules.proofs.Lookups.{linked-some}
-use Rattle.rules.proofs.Entries.{under-reduced, inRange, entries1, within-upto, within-low, entries2}
+use Rattle.rules.proofs.Entries.{under-reduced, inRange, entries1, within-upto, within-low, within-agrees, entries-agree}
 use Rattle.rules.proofs.Checks.{Reads, entries-ascend, entries-under, class-read, reads-no-case}
 use Rattle.rules.proofs.NewCounts.{per-two}
 use Rattle.promises.specs.Demands.{Afresh, Octets, AllAfresh, WrittenAfresh}
@@ -108,37 +108,32 @@ module _ {s : Store} {t : ℕ} {s′ : Store} {u lo hi : ℕ} (v : View s t s′
           let c : shape s′ u .count ≡ hi - lo = ap (λ (sh : Shape). sh .count) (view-shape v) in
           rw (view-format v, e) (le-ltb (length (glyphsOf s′ u)) (shape s′ u .count) (omega arith))
 
-  -- a covered glyph's class, and what was added to reduce it
-  view-classes : eqb (shape s t .format) 1 ≡ false → (g : ℕ) → among g (glyphsOf s′ u) ≡ true → classOf (linkedBytes s′ u 8) g + lo ≡ classOf (linkedBytes s t 8) g
-  unfolding within
+  -- classes by the new class definition, and by the old one
+  abbrev newClass : ℕ → ℕ
+  newClass g = classOf (linkedBytes s′ u 8) g
+
+  abbrev oldClass : ℕ → ℕ
+  oldClass g = classOf (linkedBytes s t 8) g
+
+  -- the new one is the old one, less the range's first
+  all-reduced : (es : List Entry) → Each (λ e. lo ≤ e .class) es → Agrees newClass (reduced lo es) → Agrees oldClass es → Each (λ g. newClass g + lo ≡ oldClass g) (map (λ e. e .glyph) es)
+  all-reduced [] a b c = tt
+  all-reduced (e ∷ es) a b c =
+      let l : lo ≤ e .class = a .0 in
+      let x : newClass (e .glyph) ≡ e .class - lo = b .0 in
+      let y : oldClass (e .glyph) ≡ e .class = c .0 in
+      (omega arith, all-reduced es (a .1) (b .1) (c .1))
+
+  view-classes : eqb (shape s t .format) 1 ≡ false → (g : ℕ) → among g (glyphsOf s′ u) ≡ true → newClass g + lo ≡ oldClass g
   view-classes z g h =
-      each-among (λ g. classOf (linkedBytes s′ u 8) g + lo ≡ classOf (linkedBytes s t 8) g) (map (λ e. e .glyph) es) g
-      (each-map (λ (e : Entry). classOf (linkedBytes s′ u 8) (e .glyph) + lo ≡ classOf (linkedBytes s t 8) (e .glyph)) (λ g. classOf (linkedBytes s′ u 8) g + lo ≡ classOf (linkedBytes s t 8) g) (λ e. e .glyph) (λ e p. p) es
-      (all-own es (within-low lo hi (entriesOf s t)) own-class old-class))
+      each-among (λ g. newClass g + lo ≡ oldClass g) (map (λ e. e .glyph) es) g
+      (all-reduced es (within-low lo hi (entriesOf s t)) own-class (within-agrees oldClass lo hi (entriesOf s t) (entries-agree s t z)))
       (sym (ap (among g) (view-glyphs v up)) ∙ h)
     where
-      -- by the new class definition, reduced
-      own-class : Agrees (classOf (linkedBytes s′ u 8)) (reduced lo es)
-      own-class = each-then (λ (e : Entry). classIn (reduced lo es) (e .glyph) ≡ e .class) (λ (e : Entry). classOf (linkedBytes s′ u 8) (e .glyph) ≡ e .class) (λ e p. view-class v up z (e .glyph) ∙ p) (reduced lo es) (agrees-self (reduced lo es) 0 (renumbered-up v up))
-
-      -- by the old one
-      old-class : Agrees (classOf (linkedBytes s t 8)) es
-      old-class =
-          each-sift (λ (e : Entry). classOf (linkedBytes s t 8) (e .glyph) ≡ e .class) (λ (e : Entry). classOf (linkedBytes s t 8) (e .glyph) ≡ e .class) (inRange lo hi) (λ e p q. p) (entriesOf s t)
-          (subst (Agrees (classOf (linkedBytes s t 8))) (sym (entries2 s t z)) (given-class (glyphsOf s t)))
-        where
-          given-class : (gs : List ℕ) → Agrees (classOf (linkedBytes s t 8)) (map (λ g. entry g (classOf (linkedBytes s t 8) g)) gs)
-          given-class [] = tt
-          given-class (g ∷ gs) = (refl, given-class gs)
-
-      all-own : (es : List Entry) → Each (λ e. lo ≤ e .class) es → Agrees (classOf (linkedBytes s′ u 8)) (reduced lo es) → Agrees (classOf (linkedBytes s t 8)) es
-          → Each (λ e. classOf (linkedBytes s′ u 8) (e .glyph) + lo ≡ classOf (linkedBytes s t 8) (e .glyph)) es
-      all-own [] a b c = tt
-      all-own (e ∷ es) a b c =
-          let l : lo ≤ e .class = a .0 in
-          let x : classOf (linkedBytes s′ u 8) (e .glyph) ≡ e .class - lo = b .0 in
-          let y : classOf (linkedBytes s t 8) (e .glyph) ≡ e .class = c .0 in
-          (omega arith, all-own es (a .1) (b .1) (c .1))
+      own-class : Agrees newClass (reduced lo es)
+      own-class =
+          each-then (λ (e : Entry). classIn (reduced lo es) (e .glyph) ≡ e .class) (λ (e : Entry). newClass (e .glyph) ≡ e .class)
+          (λ e p. view-class v up z (e .glyph) ∙ p) (reduced lo es) (agrees-self (reduced lo es) 0 (renumbered-up v up))
 
   -- the number of a linked object
   linked-at : (q c : ℕ) → childAt s′ u q ≡ some c → s .objectCount ≤ c → s .objectCount ≤ linkedAt s′ u q

@@ -9,8 +9,8 @@ use lib.ListN.{length}
 use lib.Dec.{eqb, ltb}
 use borrow.Author.Tests.{not-false, leb-false, ltb-false, eqb-true, lt-leb, le-ltb, eq-eqb}
 use Rattle.folds.specs.Lists.{isSome}
-use Rattle.folds.proofs.Tests.{true-false, and-both}
-use Rattle.folds.proofs.Folds.{all-at}
+use Rattle.folds.proofs.Tests.{true-false, and-both, by-test}
+use Rattle.folds.proofs.Folds.{all-intro, all-at}
 use Rattle.folds.proofs.Joined.{and-three}
 use Rattle.opentype.specs.Coverage.{coverReadable}
 use Rattle.opentype.specs.ClassDef.{classReadable}
@@ -171,6 +171,12 @@ entries-under s t r h =
     sorted-under (entriesOf s t) 0 hi 65536 (u (bytes-u16 (linkedBytes s t 2) (object-bytes s h (linkedAt s t 2)))) (rw (entries-glyphs s t) x)
 
 -- ---- 7: the links of the table stand at slots
+pub all-at-slots : (s : Store) (t : ℕ) → ((k : ℕ) → k < s .linkCount → parentOf s k ≡ t → isSlot (shape s t) (positionOf s k) ≡ true) → allAtSlots s t ≡ true
+unfolding allAtSlots
+all-at-slots s t h =
+    all-intro (λ k. cond (ofTable t (linkAt s k)) (isSlot (shape s t) (positionOf s k)) true) (s .linkCount)
+    (λ k l. by-test (eqb (parentOf s k) t) (λ e. rw e (h k l (eqb-true (parentOf s k) t e))) (λ e. rw e))
+
 pub at-slot : (s : Store) (t : ℕ) → allAtSlots s t ≡ true → (k : ℕ) → k < s .linkCount → parentOf s k ≡ t → isSlot (shape s t) (positionOf s k) ≡ true
 unfolding allAtSlots
 at-slot s t h k l e = rw (eq-eqb (parentOf s k) t e) at (all-at (λ k. cond (ofTable t (linkAt s k)) (isSlot (shape s t) (positionOf s k)) true) (s .linkCount) h k l)

@@ -1,6 +1,6 @@
 -- The covered glyphs of a table with their items, and those of a range of items. Assumes nothing.
 use Prim.Native.Nat.{ℕ, zero, suc, _+_, _-_, _<_, _≤_, min}
-use mathlib.Core.Path.{_≡_, refl, sym, ap, ap₂, _∙_}
+use mathlib.Core.Path.{_≡_, refl, sym, ap, ap₂, subst, _∙_}
 use mathlib.Core.Bool.{Bool, true, false, cond, _&&_}
 use mathlib.Core.List.{List, [], _∷_, _++_, map, append-nil}
 use mathlib.Core.Logic.{_⊎_, inl, inr}
@@ -13,13 +13,13 @@ use Rattle.folds.specs.Lists.{sift}
 use Rattle.folds.proofs.Tests.{by-test, either, and-both}
 use Rattle.folds.proofs.FromTheFront.{upto-getD}
 use Rattle.folds.proofs.Picked.{sift-append}
-use Rattle.folds.proofs.Each.{Each, each-sift}
+use Rattle.folds.proofs.Each.{each-sift, Each}
 use Rattle.folds.proofs.Moved.{map-upto}
 use Rattle.opentype.specs.Coverage.{Entry}
 use Rattle.opentype.specs.ClassDef.{classOf}
 use Rattle.opentype.proofs.Runs.{Ascends, ascends-sift, Under, under-sift}
 use Rattle.opentype.proofs.RunStarts.{entry}
-use Rattle.opentype.proofs.Entries.{map-glyphs}
+use Rattle.opentype.proofs.Entries.{map-glyphs, Agrees, agrees-glyphs}
 use Rattle.rules.specs.Store.{Store}
 use Rattle.rules.specs.Cuts.{within}
 use Rattle.rules.specs.Table.{shape, entriesOf, glyphsOf, linkedBytes}
@@ -41,6 +41,10 @@ entries-glyphs s t =
     by-test (eqb (shape s t .format) 1)
     (λ e. rw e (map-upto (λ (e : Entry). e .glyph) (λ k. record { glyph = getD (glyphsOf s t) k 0; class = k }) (length (glyphsOf s t)) ∙ upto-getD (glyphsOf s t) 0))
     (λ e. rw e (map-glyphs (classOf (linkedBytes s t 8)) (glyphsOf s t)))
+
+-- in format 2 each entry's class is class definition 1's
+pub entries-agree : (s : Store) (t : ℕ) → eqb (shape s t .format) 1 ≡ false → Agrees (classOf (linkedBytes s t 8)) (entriesOf s t)
+entries-agree s t e = subst (Agrees (classOf (linkedBytes s t 8))) (sym (entries2 s t e)) (agrees-glyphs (classOf (linkedBytes s t 8)) (glyphsOf s t))
 
 -- ---- within a range
 
@@ -100,6 +104,10 @@ within-ascends lo hi es n a = ascends-sift (inRange lo hi) es n a
 pub within-under : (lo hi : ℕ) (es : List Entry) (n : ℕ) → Under n es → Under n (within lo hi es)
 unfolding within
 within-under lo hi es n u = under-sift (inRange lo hi) es n u
+
+pub within-agrees : (f : ℕ → ℕ) (lo hi : ℕ) (es : List Entry) → Agrees f es → Agrees f (within lo hi es)
+unfolding within
+within-agrees f lo hi es a = each-sift (λ (e : Entry). f (e .glyph) ≡ e .class) (λ (e : Entry). f (e .glyph) ≡ e .class) (inRange lo hi) (λ e h q. h) es a
 
 -- no item of a range lies before it
 pub within-low : (lo hi : ℕ) (es : List Entry) → Each (λ e. lo ≤ e .class) (within lo hi es)
