@@ -28,7 +28,7 @@ use Rattle.rules.specs.Table.{shape, linkedBytes, entriesOf}
 use Rattle.rules.specs.Pairs.{numberOf, deviceNumber, pairAt, Spot, pairOf, noPair}
 use Rattle.rules.proofs.Lookups.{linked-some}
 use Rattle.rules.proofs.PairByItem.{rowSpot, setSpot, itemSpot, lies, entryOf, spot-by-item, entry-ranged, reduce}
-use Rattle.promises.proofs.View.{View, view-shape, view-columns, view-record, view-value1, view-value2, view-test, view-entries}
+use Rattle.promises.proofs.View.{View, view-value1, view-value2, view-shape, view-columns, view-record, view-test, view-entries}
 
 -- ---- rows, shifted
 
@@ -73,6 +73,19 @@ module _ {s : Store} {t : ℕ} {s′ : Store} {u lo hi : ℕ} (v : View s t s′
   -- and its own
   abbrev new : List ℕ
   new = bytesOf s′ u
+
+  -- the pair at a spot whose sixteen numbers are those at another
+  pair-at : (o′ q′ o q : ℕ) → ((j : ℕ) → j < 8 → numberOf s′ o′ q′ (value1 old) j ≡ numberOf s o q (value1 old) j)
+      → ((j : ℕ) → j < 8 → numberOf s′ o′ (q′ + 2 * fieldCount (value1 old)) (value2 old) j ≡ numberOf s o (q + 2 * fieldCount (value1 old)) (value2 old) j)
+      → pairAt s′ u (some (record { object = o′; at = q′ })) ≡ pairAt s t (some (record { object = o; at = q }))
+  unfolding pairAt
+  pair-at o′ q′ o q firsts seconds =
+      let f : upto (numberOf s′ o′ q′ (value1 new)) 8 ≡ upto (numberOf s o q (value1 old)) 8
+      = ap (λ (vf : ℕ). upto (numberOf s′ o′ q′ vf) 8) (view-value1 v) ∙ upto-same (numberOf s′ o′ q′ (value1 old)) (numberOf s o q (value1 old)) 8 firsts in
+      let g : upto (numberOf s′ o′ (q′ + 2 * fieldCount (value1 new)) (value2 new)) 8 ≡ upto (numberOf s o (q + 2 * fieldCount (value1 old)) (value2 old)) 8
+      = ap₂ (λ (x y : ℕ). upto (numberOf s′ o′ (q′ + 2 * fieldCount x) y) 8) (view-value1 v) (view-value2 v)
+      ∙ upto-same (numberOf s′ o′ (q′ + 2 * fieldCount (value1 old)) (value2 old)) (numberOf s o (q + 2 * fieldCount (value1 old)) (value2 old)) 8 seconds in
+      λ d. record { found = true; first = f d; second = g d }
 
   -- ---- format 2: the row of an item
 
@@ -137,15 +150,9 @@ module _ {s : Store} {t : ℕ} {s′ : Store} {u lo hi : ℕ} (v : View s t s′
         let r = record-is old in
         let fits : rowAt b i + recordSize old + sh .item * lo ≤ itemAt sh hi = omega (arith, row-fits (recordSize old) (columns old) i (column b) lo hi h (c refl)) in
         let z : rowAt b i + 2 * fieldCount (value1 old) + sh .item * lo ≡ rowAt b i + sh .item * lo + 2 * fieldCount (value1 old) = omega arith in
-        let p : upto (numberOf s′ u (rowAt b i) (value1 new)) 8 ≡ upto (numberOf s t (rowAt b i + sh .item * lo) (value1 old)) 8
-        = ap (λ (vf : ℕ). upto (numberOf s′ u (rowAt b i) vf) 8) (view-value1 v)
-        ∙ upto-same (numberOf s′ u (rowAt b i) (value1 old)) (numberOf s t (rowAt b i + sh .item * lo) (value1 old)) 8 (λ j l. number-row (rowAt b i) (value1 old) j l (omega arith) (omega arith)) in
-        let q : upto (numberOf s′ u (rowAt b i + 2 * fieldCount (value1 new)) (value2 new)) 8 ≡ upto (numberOf s t (rowAt b i + sh .item * lo + 2 * fieldCount (value1 old)) (value2 old)) 8
-        = ap₂ (λ (x y : ℕ). upto (numberOf s′ u (rowAt b i + 2 * fieldCount x) y) 8) (view-value1 v) (view-value2 v)
-        ∙ upto-same (numberOf s′ u (rowAt b i + 2 * fieldCount (value1 old)) (value2 old)) (numberOf s t (rowAt b i + 2 * fieldCount (value1 old) + sh .item * lo) (value2 old)) 8
-        (λ j l. number-row (rowAt b i + 2 * fieldCount (value1 old)) (value2 old) j l (omega arith) (omega arith))
-        ∙ ap (λ (n : ℕ). upto (numberOf s t n (value2 old)) 8) z in
-        λ d. record { found = true; first = p d; second = q d }
+        pair-at u (rowAt b i) t (rowAt b i + sh .item * lo)
+        (λ j l. number-row (rowAt b i) (value1 old) j l (omega arith) (omega arith))
+        (λ j l. number-row (rowAt b i + 2 * fieldCount (value1 old)) (value2 old) j l (omega arith) (omega arith) ∙ ap (λ (n : ℕ). numberOf s t n (value2 old) j) z)
 
     row-pair : (b i : ℕ) → i + lo < hi → pairAt s′ u (rowSpot s′ u b i) ≡ pairAt s t (rowSpot s t b (i + lo))
     row-pair b i h =
@@ -174,12 +181,7 @@ module _ {s : Store} {t : ℕ} {s′ : Store} {u lo hi : ℕ} (v : View s t s′
         go x y none = refl
         go x y (some k) =
             let q = valuesAt (recordSize old) k in
-            let f : upto (numberOf s′ c q (value1 new)) 8 ≡ upto (numberOf s c q (value1 old)) 8
-            = ap (λ (vf : ℕ). upto (numberOf s′ c q vf) 8) (view-value1 v) ∙ upto-same (numberOf s′ c q (value1 old)) (numberOf s c q (value1 old)) 8 (λ j l. number-kept s s′ c q (value1 old) j x y) in
-            let g : upto (numberOf s′ c (q + 2 * fieldCount (value1 new)) (value2 new)) 8 ≡ upto (numberOf s c (q + 2 * fieldCount (value1 old)) (value2 old)) 8
-            = ap₂ (λ (m n : ℕ). upto (numberOf s′ c (q + 2 * fieldCount m) n) 8) (view-value1 v) (view-value2 v)
-            ∙ upto-same (numberOf s′ c (q + 2 * fieldCount (value1 old)) (value2 old)) (numberOf s c (q + 2 * fieldCount (value1 old)) (value2 old)) 8 (λ j l. number-kept s s′ c (q + 2 * fieldCount (value1 old)) (value2 old) j x y) in
-            λ d. record { found = true; first = f d; second = g d }
+            pair-at c q c q (λ j l. number-kept s s′ c q (value1 old) j x y) (λ j l. number-kept s s′ c (q + 2 * fieldCount (value1 old)) (value2 old) j x y)
 
     set-pair : (b i : ℕ) → i + lo < hi → pairAt s′ u (setSpot s′ u b i) ≡ pairAt s t (setSpot s t b (i + lo))
     unfolding setSpot andThen
