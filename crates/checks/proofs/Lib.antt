@@ -1,3 +1,4 @@
 pub mod Linking
 pub mod Deciding
 pub mod AtSlots
+pub mod Refusals
