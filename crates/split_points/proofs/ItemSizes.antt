@@ -7,7 +7,6 @@ use Rattle.opentype.specs.PairPos.{Shape, itemAt}
 use Rattle.opentype.proofs.Shapes.{items-rise}
 use Rattle.rules.specs.Store.{Store}
 use Rattle.rules.proofs.Sound.{Fits, sound-fits}
-use Rattle.rules.proofs.Reaches.{used}
 use Rattle.object_store.specs.Rows.{keyOf, rowKey, InOrder, FirstRow}
 use Rattle.object_store.proofs.Rows.{in-order, rows-rise}
 use Rattle.walk.specs.Marks.{Walked}
@@ -46,5 +45,5 @@ module _ {s : Store} {t : ℕ} {sh : Shape} {a i row e : ℕ} {w : List ℕ} (x 
         is-sound = x .is-sound;
         order = omega arith;
         first = x .first;
-        marks = marks-next (used s at-fits) (x .marks) (λ k h. items-none s t sh i k);
+        marks = marks-next at-fits (x .marks) (λ k h. items-none s t sh i k);
       }

@@ -9,7 +9,7 @@ use lib.Dec.{leb, ltb, eqb}
 use lib.ListN.{length}
 use borrow.Author.Tests.{le-leb, lt-leb, lt-ltb, eq-eqb, leb-true, ltb-true, eqb-true}
 use Rattle.folds.specs.Folds.{sum}
-use Rattle.folds.specs.Lists.{isSome, put}
+use Rattle.folds.specs.Lists.{isSome}
 use Rattle.folds.proofs.Tests.{and-both, and-first, and-second, by-test}
 use Rattle.folds.proofs.Folds.{sum-more, sum-none}
 use Rattle.folds.proofs.Sums.{sum-zero, sum-bound}
@@ -18,8 +18,8 @@ use Rattle.opentype.proofs.Shapes.{format-one}
 use Rattle.opentype.proofs.Slots.{slot-fits}
 use Rattle.rules.specs.Store.{Store, lent, bytesOf, sizeOf, parentOf, positionOf, childOf, childAt}
 use Rattle.rules.specs.Walk.{itemSize}
-use Rattle.rules.specs.Cuts.{Rule, Cutting, partialCover, rule1, goOn, cutHere, weigh, after}
-use Rattle.rules.specs.Table.{shape, linkedAt, allAtSlots, ruleOf, cutPlaces}
+use Rattle.rules.specs.Cuts.{Rule, partialCover, rule1, weigh, after}
+use Rattle.rules.specs.Table.{shape, linkedAt, allAtSlots, ruleOf}
 use Rattle.rules.proofs.Checks.{at-slot}
 use Rattle.rules.proofs.Lookups.{child-row}
 use Rattle.object_store.specs.Rows.{keyOf, FirstRow}
@@ -33,10 +33,10 @@ use Rattle.split_points.specs.declared.«table_info».TableInfo.{TableIn
 use Rattle.split_points.specs.declared.format1.Sets.{Sets}
 use Rattle.split_points.specs.Filling.{Fills, Weighed, Listed}
 use Rattle.split_points.specs.Measuring.{At, Measures}
-use Rattle.split_points.specs.Filled.{Filled}
+use Rattle.split_points.specs.Filled.{cuttingAt, Filled, Placed}
 use Rattle.split_points.specs.Format1.{Ready1, linked, Below1}
 use Rattle.split_points.proofs.ItemSizes.{at-fits, at-in-order}
-use Rattle.split_points.proofs.Turns.{after-looked, after-passed, item-ends, filled-start, filled-pass, on-told, filled-on, cut-told, filled-cut, filled-stop}
+use Rattle.split_points.proofs.Turns.{item-ends, filled-start, filled-stop, passed, added, cut}
 
 -- ---- the rule of a table of format 1
 
@@ -127,17 +127,17 @@ sets-start {s} {x} v a g =
     record {
       table = v .table;
       filled = filled-start (v .table .described) (ruleOf s (x .table)) (v .unseen) (a (ruleOf s (x .table)) start) (omega (arith, start)) (sym (format-one (bytesOf s (x .table)) (v .table .format) .headerIs)) g;
-      coverage = omega (arith, sum-none (λ k. cond (leb (after (ruleOf s (x .table)) 0 .first) k && linked s (x .table) k) 1 0));
+      coverage = omega (arith, sum-none (λ k. cond (leb (cuttingAt s x 0 .first) k && linked s (x .table) k) 1 0));
     }
 
 module _ {s : Store} {x : TableInfo} {d : List ℕ} {i : ℕ} {p : Sets} {w l : List ℕ} (v : Below1 s x d i p w l) (within : i < x .count) where
-  pub set-ends : (x .header + x .item * (i + 1) ≡ itemAt (shape s (x .table)) (i + 1)) × (x .header + x .item * (i + 1) < 4294967296)
+  pub set-ends : (x .header + x .item * (i + 1) ≡ itemAt (shape s (x .table)) (i + 1)) × (x .header + x .item * (i + 1) ≤ 16777216)
   set-ends = item-ends (v .table .described) i within
 
   pub partial-most : p .partial ≤ 4 + 2 * i
-  partial-most = omega (arith, v .coverage, covered-most s (x .table) (after (ruleOf s (x .table)) i .first) i)
+  partial-most = omega (arith, v .coverage, covered-most s (x .table) (cuttingAt s x i .first) i)
 
-  module _ {m : Measured} {w′ : List ℕ} (y : Measures s (x .table) (shape s (x .table)) (after (ruleOf s (x .table)) i .seen) i (p .row) (x .epoch + p .filling .cuts) w m w′) where
+  module _ {m : Measured} {w′ : List ℕ} (y : Measures s (x .table) (shape s (x .table)) (cuttingAt s x i .seen) i (p .row) (x .epoch + p .filling .cuts) w m w′) where
     short : itemAt (shape s (x .table)) (i + 1) ≤ 4294967296
     short = omega (arith, set-ends .0, set-ends .1)
 
@@ -145,58 +145,48 @@ module _ {s : Store} {x : TableInfo} {d : List ℕ} {i : ℕ} {p : Sets} {w l : 
     pub set-passed : m .next ≡ p .row → Below1 s x d (i + 1) p w′ l
     set-passed e =
         let empty = slot-empty (v .table .format) (v .table .slots) short (v .filled .at) y e in
-        let q : after (ruleOf s (x .table)) (i + 1) ≡ after (ruleOf s (x .table)) i = after-passed (ruleOf s (x .table)) i (looks-one s (x .table) (v .table .format) i ∙ empty) in
+        let (f, q) = passed (ruleOf s (x .table)) (v .filled) y (looks-one s (x .table) (v .table .format) i ∙ empty) in
         record {
           table = v .table;
-          filled = subst (λ (c : Cutting). Filled s x d (i + 1) c (p .filling) (p .row) w′ l) (sym q) (subst (λ (n : ℕ). Filled s x d (i + 1) (after (ruleOf s (x .table)) i) (p .filling) n w′ l) e (filled-pass (v .filled) y));
-          coverage = omega (arith, v .coverage, covered-same s (x .table) (after (ruleOf s (x .table)) i .first) i empty, ap (λ (c : Cutting). covered s (x .table) (c .first) (i + 1)) q);
+          filled = subst (λ (n : ℕ). Filled s x d (i + 1) (cuttingAt s x (i + 1)) (p .filling) n w′ l) e f;
+          coverage = rw q (omega (arith, v .coverage, covered-same s (x .table) (cuttingAt s x i .first) i empty));
         }
 
     module _ (ne : m .next ≡ p .row → ⊥) {beside : ℕ} {f′ : Filling} {l′ : List ℕ} (b : beside ≡ min (p .partial + 2) (x .beside)) (g : Weighed (p .filling) i (m .size + 2) beside 10 l f′ l′) where
       is-linked : linked s (x .table) i ≡ true
       is-linked = slot-linked (v .table .format) (v .table .slots) short (v .filled .at) y ne
 
-      one-more : covered s (x .table) (after (ruleOf s (x .table)) i .first) (i + 1) ≡ covered s (x .table) (after (ruleOf s (x .table)) i .first) i + 1
-      one-more = covered-more s (x .table) (after (ruleOf s (x .table)) i .first) i (v .filled .first) is-linked
+      looks : ruleOf s (x .table) .looks i ≡ true
+      looks = looks-one s (x .table) (v .table .format) i ∙ is-linked
 
-      beside-is : ruleOf s (x .table) .beside (after (ruleOf s (x .table)) i .first) i ≡ beside
+      costs : m .size + 2 ≡ ruleOf s (x .table) .cost (cuttingAt s x i .seen) i
+      costs = ap (λ (n : ℕ). n + 2) (y .size) ∙ sym (cost-one s (x .table) (v .table .format) (cuttingAt s x i .seen) i)
+
+      one-more : covered s (x .table) (cuttingAt s x i .first) (i + 1) ≡ covered s (x .table) (cuttingAt s x i .first) i + 1
+      one-more = covered-more s (x .table) (cuttingAt s x i .first) i (v .filled .first) is-linked
+
+      beside-is : ruleOf s (x .table) .beside (cuttingAt s x i .first) i ≡ beside
       unfolding partialCover
       beside-is =
-          let e : partialCover (linked s (x .table)) (after (ruleOf s (x .table)) i .first) i ≡ p .partial + 2 = omega (arith, v .coverage, one-more) in
-          beside-one s (x .table) (v .table .format) (after (ruleOf s (x .table)) i .first) i ∙ rw (e, ← v .table .coverage) (sym b)
+          let e : partialCover (linked s (x .table)) (cuttingAt s x i .first) i ≡ p .partial + 2 = omega (arith, v .coverage, one-more) in
+          beside-one s (x .table) (v .table .format) (cuttingAt s x i .first) i ∙ rw (e, ← v .table .coverage) (sym b)
 
-      listed : Listed f′ (weigh (ruleOf s (x .table)) (after (ruleOf s (x .table)) i) i (m .size + 2)) d l′
-      listed = g (ruleOf s (x .table)) (after (ruleOf s (x .table)) i) d (start-one s (x .table) (v .table .format)) beside-is (v .filled .listed)
-
-      next-is : after (ruleOf s (x .table)) (i + 1) ≡ weigh (ruleOf s (x .table)) (after (ruleOf s (x .table)) i) i (m .size + 2)
-      next-is =
-          after-looked (ruleOf s (x .table)) i (looks-one s (x .table) (v .table .format) i ∙ is-linked)
-          ∙ ap (weigh (ruleOf s (x .table)) (after (ruleOf s (x .table)) i) i) (cost-one s (x .table) (v .table .format) (after (ruleOf s (x .table)) i .seen) i ∙ ap (λ (n : ℕ). n + 2) (sym (y .size)))
+      listed : Listed f′ (weigh (ruleOf s (x .table)) (cuttingAt s x i) i (m .size + 2)) d l′
+      listed = g (ruleOf s (x .table)) (cuttingAt s x i) d (start-one s (x .table) (v .table .format)) beside-is (v .filled .listed)
 
       -- no cut
-      pub set-on : f′ .cuts ≡ p .filling .cuts → Below1 s x d (i + 1) (record { filling = f′; row = m .next; partial = p .partial + 2 }) w′ l′
-      unfolding goOn
-      set-on e =
-          let q : after (ruleOf s (x .table)) (i + 1) ≡ goOn (after (ruleOf s (x .table)) i) (m .size + 2) = next-is ∙ on-told (v .filled) y (ruleOf s (x .table)) (m .size + 2) listed e in
-          record {
-            table = v .table;
-            filled = subst (λ (c : Cutting). Filled s x d (i + 1) c f′ (m .next) w′ l′) (sym q) (filled-on (v .filled) y (ruleOf s (x .table)) (m .size + 2) listed e);
-            coverage = omega (arith, v .coverage, one-more, ap (λ (c : Cutting). covered s (x .table) (c .first) (i + 1)) q);
-          }
+      pub set-added : f′ .cuts ≡ p .filling .cuts → Below1 s x d (i + 1) (record { filling = f′; row = m .next; partial = p .partial + 2 }) w′ l′
+      set-added e =
+          let (f, q) = added (ruleOf s (x .table)) (v .filled) y (m .size + 2) looks costs listed e in
+          record { table = v .table; filled = f; coverage = rw q (omega (arith, v .coverage, one-more)) }
 
       -- a cut
       pub set-cut : (f′ .cuts ≡ p .filling .cuts → ⊥) → Below1 s x d (i + 1) (record { filling = f′; row = m .next; partial = 6 }) w′ l′
-      unfolding cutHere
       set-cut e =
-          let start = start-one s (x .table) (v .table .format) in
-          let q : after (ruleOf s (x .table)) (i + 1) ≡ cutHere (ruleOf s (x .table)) (after (ruleOf s (x .table)) i) i (m .size + 2) = next-is ∙ cut-told (v .filled) y (ruleOf s (x .table)) (m .size + 2) listed e in
-          record {
-            table = v .table;
-            filled = subst (λ (c : Cutting). Filled s x d (i + 1) c f′ (m .next) w′ l′) (sym q) (filled-cut (v .filled) y (ruleOf s (x .table)) (m .size + 2) listed e (omega (arith, y .most)));
-            coverage = omega (arith, covered-none s (x .table) i, covered-more s (x .table) i i (omega arith) is-linked, ap (λ (c : Cutting). covered s (x .table) (c .first) (i + 1)) q);
-          }
+          let (f, q) = cut (ruleOf s (x .table)) (v .filled) y (m .size + 2) looks costs listed e (omega (arith, y .most, start-one s (x .table) (v .table .format))) in
+          record { table = v .table; filled = f; coverage = rw q (omega (arith, covered-none s (x .table) i, covered-more s (x .table) i i (omega arith) is-linked)) }
 
-pub sets-stop : {s : Store} {x : TableInfo} {d : List ℕ} {i : ℕ} {p : Sets} {w l : List ℕ} → Below1 s x d i p w l → i ≡ x .count → (p .filling .cuts ≡ length (cutPlaces s (x .table))) × (l ≡ put d 0 (cutPlaces s (x .table)))
+pub sets-stop : {s : Store} {x : TableInfo} {d : List ℕ} {i : ℕ} {p : Sets} {w l : List ℕ} → Below1 s x d i p w l → i ≡ x .count → Placed s (x .table) d l (p .filling .cuts)
 sets-stop v e = filled-stop (v .table .described) (v .filled) e
 
 -- ---- the loop, whatever the bytes of the store

@@ -16,7 +16,6 @@ use Rattle.rules.specs.Store.{Store}
 use Rattle.rules.specs.Cuts.{Rule, Cutting, exceeds, cutHere, goOn, weigh, step, after, cutsOf}
 use Rattle.rules.specs.Table.{shape, ruleOf, cutPlaces}
 use Rattle.rules.proofs.Sound.{Fits, sound-fits, size-bytes}
-use Rattle.rules.proofs.Reaches.{used}
 use Rattle.rules.proofs.CutPlaces.{rule-count}
 use Rattle.object_store.specs.Rows.{keyOf, FirstRow}
 use Rattle.walk.proofs.Marks.{marks-same}
@@ -26,17 +25,17 @@ use Rattle.split_points.specs.declared.measuring.Measured.{Measured}
 use Rattle.split_points.specs.declared.«table_info».TableInfo.{TableInfo}
 use Rattle.split_points.specs.Filling.{Fills, Listed}
 use Rattle.split_points.specs.Measuring.{Measures}
-use Rattle.split_points.specs.Filled.{Described, Unseen, Filled}
+use Rattle.split_points.specs.Filled.{Described, Unseen, cuttingAt, Filled, Placed}
 use Rattle.split_points.proofs.ItemSizes.{at-cut}
 
 -- ---- document 01's step
 
 module _ (r : Rule) where
-  pub after-looked : (i : ℕ) → r .looks i ≡ true → after r (i + 1) ≡ weigh r (after r i) i (r .cost (after r i .seen) i)
+  after-looked : (i : ℕ) → r .looks i ≡ true → after r (i + 1) ≡ weigh r (after r i) i (r .cost (after r i .seen) i)
   unfolding after step
   after-looked i h = ap (after r) (add-one i) ∙ ap (λ (b : Bool). cond b (weigh r (after r i) i (r .cost (after r i .seen) i)) (after r i)) h
 
-  pub after-passed : (i : ℕ) → r .looks i ≡ false → after r (i + 1) ≡ after r i
+  after-passed : (i : ℕ) → r .looks i ≡ false → after r (i + 1) ≡ after r i
   unfolding after step
   after-passed i h = ap (after r) (add-one i) ∙ ap (λ (b : Bool). cond b (weigh r (after r i) i (r .cost (after r i .seen) i)) (after r i)) h
 
@@ -68,7 +67,7 @@ module _ {s : Store} {x : TableInfo} (u : Described s x) where
   fits = sound-fits s (u .is-sound)
 
   -- an item ends within the table
-  pub item-ends : (i : ℕ) → i < x .count → (x .header + x .item * (i + 1) ≡ itemAt (shape s (x .table)) (i + 1)) × (x .header + x .item * (i + 1) < 4294967296)
+  pub item-ends : (i : ℕ) → i < x .count → (x .header + x .item * (i + 1) ≡ itemAt (shape s (x .table)) (i + 1)) × (x .header + x .item * (i + 1) ≤ 16777216)
   item-ends i h =
       let e : x .header + x .item * (i + 1) ≡ itemAt (shape s (x .table)) (i + 1) = rw (u .header, u .item) in
       let r = items-rise (shape s (x .table)) (i + 1) (shape s (x .table) .count) (omega (arith, u .count)) in
@@ -87,7 +86,7 @@ module _ {s : Store} {x : TableInfo} (u : Described s x) where
           is-sound = u .is-sound;
           order = omega arith;
           first = subst (λ (q : ℕ). FirstRow (s .links) (s .linkCount) (keyOf (x .table) q) row) e g;
-          marks = rw y at (marks-same (used s fits) (n .marks) (λ k l. sym (items-none s (x .table) (shape s (x .table)) 0 k)));
+          marks = rw y at (marks-same fits (n .marks) (λ k l. sym (items-none s (x .table) (shape s (x .table)) 0 k)));
         };
         first = omega arith;
         few = omega arith;
@@ -102,7 +101,7 @@ module _ {s : Store} {x : TableInfo} {d : List ℕ} {i : ℕ} {c : Cutting} {f :
 
   module _ {m : Measured} {w′ : List ℕ} (y : Measures s (x .table) (shape s (x .table)) (c .seen) i row (x .epoch + f .cuts) w m w′) where
     -- an item that is not looked at
-    pub filled-pass : Filled s x d (i + 1) c f (m .next) w′ l
+    filled-pass : Filled s x d (i + 1) c f (m .next) w′ l
     filled-pass = record { listed = v .listed; at = y .after; first = omega (arith, v .first); few = omega (arith, v .few); small = v .small; room = v .room }
 
     module _ (r : Rule) (cost : ℕ) {f′ : Filling} {l′ : List ℕ} (g : Listed f′ (weigh r c i cost) d l′) where
@@ -110,30 +109,32 @@ module _ {s : Store} {x : TableInfo} {d : List ℕ} {i : ℕ} {c : Cutting} {f :
       same-cuts e = sym (g .fills .cuts) ∙ e ∙ v .listed .fills .cuts
 
       -- no cut: the item is in the table that is being filled
-      pub on-told : f′ .cuts ≡ f .cuts → weigh r c i cost ≡ goOn c cost
-      on-told e = by-test (exceeds r c i cost)
+      stays : f′ .cuts ≡ f .cuts → exceeds r c i cost ≡ false
+      stays e =
+          by-test (exceeds r c i cost)
           (λ b. absurd (omega (arith, same-cuts e, ap (λ (z : Cutting). length (z .cuts)) (weigh-cut r c i cost b), cut-longer r c i cost)))
-          (λ b. weigh-on r c i cost b)
+          (λ b. b)
 
-      pub filled-on : f′ .cuts ≡ f .cuts → Filled s x d (i + 1) (goOn c cost) f′ (m .next) w′ l′
+      on-told : f′ .cuts ≡ f .cuts → weigh r c i cost ≡ goOn c cost
+      on-told e = weigh-on r c i cost (stays e)
+
+      filled-on : f′ .cuts ≡ f .cuts → Filled s x d (i + 1) (goOn c cost) f′ (m .next) w′ l′
       unfolding goOn
       filled-on e = record {
         listed = subst (λ (z : Cutting). Listed f′ z d l′) (on-told e) g;
         at = let q : x .epoch + f .cuts ≡ x .epoch + f′ .cuts = omega arith in rw q at (y .after);
         first = omega (arith, v .first);
         few = omega (arith, v .few);
-        small = by-test (exceeds r c i cost)
-            (λ b. absurd (omega (arith, same-cuts e, ap (λ (z : Cutting). length (z .cuts)) (weigh-cut r c i cost b), cut-longer r c i cost)))
-            (λ b. omega (arith, g .fills .sum, ap (λ (z : Cutting). z .sum) (weigh-on r c i cost b), weigh-small r c i cost b));
+        small = omega (arith, g .fills .sum, ap (λ (z : Cutting). z .sum) (on-told e), weigh-small r c i cost (stays e));
         room = v .room;
       }
 
       -- a cut: the item is the first of the next table
-      pub cut-told : (f′ .cuts ≡ f .cuts → ⊥) → weigh r c i cost ≡ cutHere r c i cost
+      cut-told : (f′ .cuts ≡ f .cuts → ⊥) → weigh r c i cost ≡ cutHere r c i cost
       cut-told ne = by-test (exceeds r c i cost) (λ b. weigh-cut r c i cost b)
           (λ b. absurd (ne (g .fills .cuts ∙ ap (λ (z : Cutting). length (z .cuts)) (weigh-on r c i cost b) ∙ on-same r c i cost ∙ sym (v .listed .fills .cuts))))
 
-      pub filled-cut : (f′ .cuts ≡ f .cuts → ⊥) → r .start + cost ≤ 67108864 → Filled s x d (i + 1) (cutHere r c i cost) f′ (m .next) w′ l′
+      filled-cut : (f′ .cuts ≡ f .cuts → ⊥) → r .start + cost ≤ 67108864 → Filled s x d (i + 1) (cutHere r c i cost) f′ (m .next) w′ l′
       unfolding cutHere
       filled-cut ne few =
           let e : weigh r c i cost ≡ cutHere r c i cost = cut-told ne in
@@ -147,13 +148,41 @@ module _ {s : Store} {x : TableInfo} {d : List ℕ} {i : ℕ} {c : Cutting} {f :
             room = v .room;
           }
 
+-- ---- both
+
+module _ (r : Rule) {s : Store} {x : TableInfo} {d : List ℕ} {i : ℕ} {f : Filling} {row : ℕ} {w l : List ℕ} (v : Filled s x d i (after r i) f row w l)
+    {m : Measured} {w′ : List ℕ} (y : Measures s (x .table) (shape s (x .table)) (after r i .seen) i row (x .epoch + f .cuts) w m w′) where
+  -- an item that is not looked at
+  pub passed : r .looks i ≡ false → Filled s x d (i + 1) (after r (i + 1)) f (m .next) w′ l × (after r (i + 1) .first ≡ after r i .first)
+  passed h =
+      let e : after r (i + 1) ≡ after r i = after-passed r i h in
+      (subst (λ (c : Cutting). Filled s x d (i + 1) c f (m .next) w′ l) (sym e) (filled-pass v y), ap (λ (c : Cutting). c .first) e)
+
+  module _ (cost : ℕ) (looks : r .looks i ≡ true) (costs : cost ≡ r .cost (after r i .seen) i) {f′ : Filling} {l′ : List ℕ} (g : Listed f′ (weigh r (after r i) i cost) d l′) where
+    after-is : after r (i + 1) ≡ weigh r (after r i) i cost
+    after-is = after-looked r i looks ∙ ap (weigh r (after r i) i) (sym costs)
+
+    -- no cut: the table that is being filled stays
+    pub added : f′ .cuts ≡ f .cuts → Filled s x d (i + 1) (after r (i + 1)) f′ (m .next) w′ l′ × (after r (i + 1) .first ≡ after r i .first)
+    unfolding goOn
+    added h =
+        let e : after r (i + 1) ≡ goOn (after r i) cost = after-is ∙ on-told v y r cost g h in
+        (subst (λ (c : Cutting). Filled s x d (i + 1) c f′ (m .next) w′ l′) (sym e) (filled-on v y r cost g h), ap (λ (c : Cutting). c .first) e)
+
+    -- a cut: the next table starts with the item
+    pub cut : (f′ .cuts ≡ f .cuts → ⊥) → r .start + cost ≤ 67108864 → Filled s x d (i + 1) (after r (i + 1)) f′ (m .next) w′ l′ × (after r (i + 1) .first ≡ i)
+    unfolding cutHere
+    cut h few =
+        let e : after r (i + 1) ≡ cutHere r (after r i) i cost = after-is ∙ cut-told v y r cost g h in
+        (subst (λ (c : Cutting). Filled s x d (i + 1) c f′ (m .next) w′ l′) (sym e) (filled-cut v y r cost g h few), ap (λ (c : Cutting). c .first) e)
+
 -- all items are in tables
 all-in : (s : Store) (t i : ℕ) → i ≡ ruleOf s t .count → after (ruleOf s t) i .cuts ≡ cutPlaces s t
 unfolding cutPlaces cutsOf
 all-in s t i n = ap (λ (k : ℕ). after (ruleOf s t) k .cuts) n
 
-pub filled-stop : {s : Store} {x : TableInfo} {d : List ℕ} {i : ℕ} {f : Filling} {row : ℕ} {w l : List ℕ} → Described s x → Filled s x d i (after (ruleOf s (x .table)) i) f row w l → i ≡ x .count
-    → (f .cuts ≡ length (cutPlaces s (x .table))) × (l ≡ put d 0 (cutPlaces s (x .table)))
+pub filled-stop : {s : Store} {x : TableInfo} {d : List ℕ} {i : ℕ} {f : Filling} {row : ℕ} {w l : List ℕ} → Described s x → Filled s x d i (cuttingAt s x i) f row w l → i ≡ x .count
+    → Placed s (x .table) d l (f .cuts)
 filled-stop {s} {x} {d} {i} {f} {row} {w} {l} u v e =
     let q : after (ruleOf s (x .table)) i .cuts ≡ cutPlaces s (x .table) = all-in s (x .table) i (e ∙ u .count ∙ sym (rule-count s (x .table))) in
-    (v .listed .fills .cuts ∙ ap length q, v .listed .listed ∙ ap (put d 0) q)
+    record { count = v .listed .fills .cuts ∙ ap length q; places = v .listed .listed ∙ ap (put d 0) q }

@@ -4,10 +4,11 @@ use mathlib.Core.Path.{_≡_}
 use mathlib.Core.Bool.{true}
 use mathlib.Core.List.{List}
 use lib.ListN.{length}
+use Rattle.folds.specs.Lists.{put}
 use Rattle.opentype.specs.PairPos.{itemAt}
 use Rattle.rules.specs.Store.{Store, sound, bytesOf}
-use Rattle.rules.specs.Cuts.{Cutting}
-use Rattle.rules.specs.Table.{shape}
+use Rattle.rules.specs.Cuts.{Cutting, after}
+use Rattle.rules.specs.Table.{shape, ruleOf, cutPlaces}
 use Rattle.walk.specs.Marks.{noRow, Marks}
 use Rattle.split_points.specs.declared.filling.Filling.{Filling}
 use Rattle.split_points.specs.declared.«table_info».TableInfo.{TableInfo}
@@ -22,6 +23,7 @@ pub record Described (s : Store) (x : TableInfo) : Type 0 where
   pub header : x .header ≡ shape s (x .table) .header
   pub item : x .item ≡ shape s (x .table) .item
   pub count : x .count ≡ shape s (x .table) .count
+  -- an epoch for each table that may come
   pub epochs : x .epoch + x .count < 4294967296
 
 -- before the first item: nothing counts as seen, and there is an entry for each cut
@@ -29,11 +31,21 @@ pub record Unseen (s : Store) (x : TableInfo) (w l : List ℕ) : Type 0 where
   pub marks : Marks s noRow (x .epoch) w
   pub room : x .count ≤ length l
 
+-- where document 01 stands once the items below i have been weighed
+abbrev pub cuttingAt : Store → TableInfo → ℕ → Cutting
+cuttingAt s x i = after (ruleOf s (x .table)) i
+
 -- the items below i have been weighed, and c is where document 01 then stands
 pub record Filled (s : Store) (x : TableInfo) (d : List ℕ) (i : ℕ) (c : Cutting) (f : Filling) (row : ℕ) (w l : List ℕ) : Type 0 where
   pub listed : Listed f c d l
   pub at : At s (x .table) (shape s (x .table)) (c .seen) i row (x .epoch + f .cuts) w
   pub first : c .first ≤ i
   pub few : f .cuts ≤ i
+  -- a header and an item at most, as a sum that goes on stays within 65,535
   pub small : f .sum ≤ 67108864
   pub room : x .count ≤ length d
+
+-- the cut places stand at the front of the lent list, which came as d, and r is how many there are
+pub record Placed (s : Store) (t : ℕ) (d l : List ℕ) (r : ℕ) : Type 0 where
+  pub count : r ≡ length (cutPlaces s t)
+  pub places : l ≡ put d 0 (cutPlaces s t)

@@ -7,12 +7,11 @@ use lib.Dec.{leb, eqb}
 use Rattle.folds.specs.Folds.{sum}
 use Rattle.folds.specs.Lists.{isSome}
 use Rattle.opentype.specs.PairPos.{itemAt}
-use Rattle.rules.specs.Store.{Store, sizeOf, childAt}
-use Rattle.rules.specs.Cuts.{after}
-use Rattle.rules.specs.Table.{shape, linkedAt, allAtSlots, ruleOf}
+use Rattle.rules.specs.Store.{Store, lent, sizeOf, childAt}
+use Rattle.rules.specs.Table.{shape, linkedAt, allAtSlots}
 use Rattle.split_points.specs.declared.«table_info».TableInfo.{TableInfo}
 use Rattle.split_points.specs.declared.format1.Sets.{Sets}
-use Rattle.split_points.specs.Filled.{Described, Unseen, Filled}
+use Rattle.split_points.specs.Filled.{Described, Unseen, cuttingAt, Filled, Placed}
 
 -- the table is of format 1, and its links stand at slots
 pub record Table1 (s : Store) (x : TableInfo) : Type 0 where
@@ -33,5 +32,13 @@ linked s t k = isSome (childAt s t (itemAt (shape s t) k))
 -- the pair sets below i have been weighed, and the coverage has the glyphs of those in the table that is being filled
 pub record Below1 (s : Store) (x : TableInfo) (d : List ℕ) (i : ℕ) (p : Sets) (w l : List ℕ) : Type 0 where
   pub table : Table1 s x
-  pub filled : Filled s x d i (after (ruleOf s (x .table)) i) (p .filling) (p .row) w l
-  pub coverage : p .partial ≡ 4 + 2 * sum (λ k. cond (leb (after (ruleOf s (x .table)) i .first) k && linked s (x .table) k) 1 0) i
+  pub filled : Filled s x d i (cuttingAt s x i) (p .filling) (p .row) w l
+  pub coverage : p .partial ≡ 4 + 2 * sum (λ k. cond (leb (cuttingAt s x i .first) k && linked s (x .table) k) 1 0) i
+
+-- pair set i was weighed, whatever the bytes of the store
+abbrev pub Weighs1 : List ℕ → List ℕ → List ℕ → TableInfo → ℕ → Sets → List ℕ → List ℕ → Sets → List ℕ → List ℕ → Type 0
+Weighs1 o l c x i p w cuts p′ w′ cuts′ = (b d : List ℕ) → Below1 (lent b o l c) x d i p w cuts → Below1 (lent b o l c) x d (i + 1) p′ w′ cuts′
+
+-- all were
+abbrev pub Places1 : List ℕ → List ℕ → List ℕ → TableInfo → List ℕ → List ℕ → List ℕ → ℕ → Type 0
+Places1 o l c x w cuts cuts′ r = (b : List ℕ) → Ready1 (lent b o l c) x w cuts → Placed (lent b o l c) (x .table) cuts cuts′ r

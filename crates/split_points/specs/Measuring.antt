@@ -4,7 +4,7 @@ use mathlib.Core.Path.{_≡_}
 use mathlib.Core.Bool.{true}
 use mathlib.Core.List.{List}
 use Rattle.opentype.specs.PairPos.{Shape, itemAt}
-use Rattle.rules.specs.Store.{Store, linkAt, sound}
+use Rattle.rules.specs.Store.{Store, lent, linkAt, sound}
 use Rattle.rules.specs.Walk.{ofItems, itemSize}
 use Rattle.object_store.specs.Rows.{keyOf, FirstRow}
 use Rattle.walk.specs.Marks.{Marks}
@@ -23,3 +23,8 @@ pub record Measures (s : Store) (t : ℕ) (sh : Shape) (a i row epoch : ℕ) (w 
   pub most : m .size ≤ 16777216
   pub later : row ≤ m .next
   pub after : At s t sh a (i + 1) (m .next) epoch w′
+
+-- the item that ends before `end` was measured, whatever the bytes of the store, the item's number, and what counts as seen
+abbrev pub MeasuresItem : List ℕ → List ℕ → List ℕ → ℕ → ℕ → ℕ → ℕ → List ℕ → Measured → List ℕ → Type 0
+MeasuresItem o l c t row end epoch w m w′ =
+    (b : List ℕ) (sh : Shape) (a i : ℕ) → end ≡ itemAt sh (i + 1) → At (lent b o l c) t sh a i row epoch w → Measures (lent b o l c) t sh a i row epoch w m w′

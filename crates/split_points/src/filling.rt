@@ -1,10 +1,8 @@
 // The step that both formats share: an item is weighed, and goes into the table that is being filled or starts the next one.
 ghost use mathlib.Core.Path.{_≡_};
-ghost use mathlib.Core.List.{List};
-ghost use Prim.Native.Nat.{ℕ, _+_, _*_, _≤_, _<_};
+ghost use Prim.Native.Nat.{_≤_, _<_};
 ghost use lib.ListN.{length};
-ghost use Rattle.folds.specs.Lists.{put};
-ghost use Rattle.rules.specs.Cuts.{Rule, Cutting, after, weigh};
+ghost use Rattle.rules.specs.Cuts.{Rule, after};
 ghost use Rattle.split_points.specs.Filling.{Fills, Weighed};
 
 // The table that is being filled: its first item, the sum of its items so far, and how many cuts stand before it.

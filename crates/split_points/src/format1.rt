@@ -5,12 +5,9 @@ use crate::table_info::TableInfo;
 use object_store::first_row;
 ghost use mathlib.Core.Path.{_≡_};
 ghost use mathlib.Core.List.{List};
-ghost use Prim.Native.Nat.{ℕ, _+_, _<_, _≤_, min};
-ghost use lib.ListN.{length};
-ghost use Rattle.folds.specs.Lists.{put};
+ghost use Prim.Native.Nat.{ℕ, _<_, min};
 ghost use Rattle.rules.specs.Store.{lent};
-ghost use Rattle.rules.specs.Table.{cutPlaces};
-ghost use Rattle.split_points.specs.Format1.{Ready1, Below1};
+ghost use Rattle.split_points.specs.Format1.{Ready1, Below1, Weighs1, Places1};
 
 // The table that is being filled, the row at which the next pair set's link stands or would stand, and the length of the coverage of the
 // pair sets in the table.
@@ -30,7 +27,7 @@ pub fn compute_format1_split_points(
     cuts: &mut [u16],
 ) -> usize
     requires { ⌜ ((b : List ℕ) × Ready1 (lent b (now objects) (now links) (now counts)) info (now walk) (now cuts)) ⌝ }
-    ensures { λ r. ⌜ ((b : List ℕ) → Ready1 (lent b (now (objects .entry)) (now (links .entry)) (now (counts .entry))) info (now (walk .entry)) (now (cuts .entry)) → (r ≡ length (cutPlaces (lent b (now (objects .entry)) (now (links .entry)) (now (counts .entry))) (info .table))) × (now (cuts .exit) ≡ put (now (cuts .entry)) 0 (cutPlaces (lent b (now (objects .entry)) (now (links .entry)) (now (counts .entry))) (info .table)))) ⌝ }
+    ensures { λ r. ⌜ Places1 (now (objects .entry)) (now (links .entry)) (now (counts .entry)) info (now (walk .entry)) (now (cuts .entry)) (now (cuts .exit)) r ⌝ }
 {
     let count = counts[2] as usize;
     let mut sets = Sets {
@@ -58,23 +55,14 @@ fn weigh_set(
     cuts: &mut [u16],
 ) -> Sets
     requires { ⌜ (i < info .count) × ((b : List ℕ) × (d : List ℕ) × Below1 (lent b (now objects) (now links) (now counts)) info d i sets (now walk) (now cuts)) ⌝ }
-    ensures { λ r. ⌜ ((b d : List ℕ) → Below1 (lent b (now (objects .entry)) (now (links .entry)) (now (counts .entry))) info d i sets (now (walk .entry)) (now (cuts .entry)) → Below1 (lent b (now (objects .entry)) (now (links .entry)) (now (counts .entry))) info d (i + 1) r (now (walk .exit)) (now (cuts .exit))) ⌝ }
+    ensures { λ r. ⌜ Weighs1 (now (objects .entry)) (now (links .entry)) (now (counts .entry)) info i sets (now (walk .entry)) (now (cuts .entry)) r (now (walk .exit)) (now (cuts .exit)) ⌝ }
 {
     let filling = sets.filling;
     let row = sets.row;
     let epoch = info.epoch + (filling.cuts as u32);
-    let set = measure(
-        objects,
-        links,
-        counts,
-        info.table,
-        row,
-        info.item_end(i),
-        epoch,
-        walk,
-    );
-    let next = set.next;
-    if next == row {
+    let end = info.item_end(i);
+    let set = measure(objects, links, counts, info.table, row, end, epoch, walk);
+    if set.next == row {
         return sets;
     }
     let partial = sets.partial + 2;
@@ -83,13 +71,13 @@ fn weigh_set(
     if filled.cuts != filling.cuts {
         return Sets {
             filling: filled,
-            row: next,
+            row: set.next,
             partial: 6,
         };
     }
     Sets {
         filling: filled,
-        row: next,
+        row: set.next,
         partial,
     }
 }

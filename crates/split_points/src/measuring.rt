@@ -7,7 +7,7 @@ ghost use mathlib.Core.List.{List};
 ghost use Prim.Native.Nat.{ℕ, _+_};
 ghost use Rattle.opentype.specs.PairPos.{Shape, itemAt};
 ghost use Rattle.rules.specs.Store.{lent};
-ghost use Rattle.split_points.specs.Measuring.{At, Measures};
+ghost use Rattle.split_points.specs.Measuring.{At, MeasuresItem};
 
 // An item's size, and the row at which the next item's links start.
 pub struct Measured {
@@ -27,7 +27,7 @@ pub fn measure(
     walk: &mut [u32],
 ) -> Measured
     requires { ⌜ ((b : List ℕ) × (sh : Shape) × (a : ℕ) × (i : ℕ) × (end ≡ itemAt sh (i + 1)) × At (lent b (now objects) (now links) (now counts)) table sh a i row epoch (now walk)) ⌝ }
-    ensures { λ m. ⌜ ((b : List ℕ) (sh : Shape) (a i : ℕ) → end ≡ itemAt sh (i + 1) → At (lent b (now (objects .entry)) (now (links .entry)) (now (counts .entry))) table sh a i row epoch (now (walk .entry)) → Measures (lent b (now (objects .entry)) (now (links .entry)) (now (counts .entry))) table sh a i row epoch (now (walk .entry)) m (now (walk .exit))) ⌝ }
+    ensures { λ m. ⌜ MeasuresItem (now (objects .entry)) (now (links .entry)) (now (counts .entry)) table row end epoch (now (walk .entry)) m (now (walk .exit)) ⌝ }
 {
     let count = counts[2] as usize;
     let next = next_row(links, count, row, table, end);

@@ -1,3 +1,4 @@
+-- `split_points::format1::compute_format1_split_points` meets its contract: after each pair set the code stands where document 01 does. Assumes nothing.
 use Prim.Native.Nat.{_-_}
 use mathlib.Core.Path.{refl}
 use native.Mathlib.Omega.{arith}

@@ -1,8 +1,10 @@
+-- `split_points::format1::weigh_set` meets its contract: the slot is empty exactly if it has no row, and the cost and what stands beside the sets
+-- are document 01's. Assumes nothing.
 use mathlib.Core.Path.{_∙_}
 use native.Mathlib.Omega.{arith}
 use borrow.Author.Needs.{needs}
 use Rattle.split_points.proofs.Turns.{cuts-room}
-use Rattle.split_points.proofs.PairSets.{set-ends, partial-most, set-passed, set-on, set-cut}
+use Rattle.split_points.proofs.PairSets.{set-ends, partial-most, set-passed, set-added, set-cut}
 use Rattle.split_points.proofs.format1.weigh_set.Statement.{statement}
 use Rattle.split_points.proofs.format1.weigh_set.Tie as tie
 
@@ -15,7 +17,7 @@ add-epoch c = search needs
 item-end-requires : tie.Need-item-end-requires
 item-end-requires c κs =
     let s = c .before .before .before .before .before .before .before in
-    set-ends (s .pre .1 .2) (s .pre .0) .1
+    omega (arith, set-ends (s .pre .1 .2) (s .pre .0) .1)
 
 measure-requires : tie.Need-measure-requires
 measure-requires c κs =
@@ -28,14 +30,14 @@ same-length c = search needs
 
 returns : tie.Need-returns
 returns c =
-    let s = c .before .before .before .before .before .before .before .before .before .before .before .before .before in
-    let m = c .before .before .before in
+    let s = c .before .before .before .before .before .before .before .before .before .before .before .before .before .before in
+    let m = c .before .before .before .before in
     λ b d v.
     set-passed v (s .pre .0) (m .measure .ensures b _ _ (s .args .i) (m .before .before .item-end .ensures ∙ set-ends v (s .pre .0) .0) (v .filled .at)) (c .if1 .taken)
 
 add-partial : tie.Need-add-partial
 add-partial c =
-    let s = c .before .before .before .before .before .before .before .before .before .before .before .before .before .before in
+    let s = c .before .before .before .before .before .before .before .before .before .before .before .before .before .before .before in
     omega (arith, partial-most (s .pre .1 .2) (s .pre .0))
 
 cast-lesser : tie.Need-cast-lesser
@@ -46,15 +48,15 @@ lesser-requires c κs = search needs
 
 add-weigh : tie.Need-add-weigh
 add-weigh c =
-    let s = c .before .before .before .before .before .before .before .before .before .before .before .before .before .before .before .before .before in
-    let m = c .before .before .before .before .before .before .before in
+    let s = c .before .before .before .before .before .before .before .before .before .before .before .before .before .before .before .before .before .before in
+    let m = c .before .before .before .before .before .before .before .before in
     let v = s .pre .1 .2 in
     omega (arith, m .measure .ensures (s .pre .1 .0) _ _ (s .args .i) (m .before .before .item-end .ensures ∙ set-ends v (s .pre .0) .0) (v .filled .at) .most)
 
 weigh-requires : tie.Need-weigh-requires
 weigh-requires c κs =
-    let s = c .before .before .before .before .before .before .before .before .before .before .before .before .before .before .before .before .before .before in
-    let m = c .before .before .before .before .before .before .before .before in
+    let s = c .before .before .before .before .before .before .before .before .before .before .before .before .before .before .before .before .before .before .before in
+    let m = c .before .before .before .before .before .before .before .before .before in
     let v = s .pre .1 .2 in
     let y = m .measure .ensures (s .pre .1 .0) _ _ (s .args .i) (m .before .before .item-end .ensures ∙ set-ends v (s .pre .0) .0) (v .filled .at) in
     let f = v .filled in
@@ -70,7 +72,7 @@ returns-2 : tie.Need-returns-2
 returns-2 c =
     let g = c .before .before .before .before .before in
     let k = g .before .before .before in
-    let m = k .before .before .before .before .before .before in
+    let m = k .before .before .before .before .before .before .before in
     let s = m .before .before .before .before .before .before .before .before .before .before in
     λ b d v.
     let y = m .measure .ensures b _ _ (s .args .i) (m .before .before .item-end .ensures ∙ set-ends v (s .pre .0) .0) (v .filled .at) in
@@ -86,11 +88,11 @@ returns-3 : tie.Need-returns-3
 returns-3 c =
     let g = c .before .before .before .before .before in
     let k = g .before .before .before in
-    let m = k .before .before .before .before .before .before in
+    let m = k .before .before .before .before .before .before .before in
     let s = m .before .before .before .before .before .before .before .before .before .before in
     λ b d v.
     let y = m .measure .ensures b _ _ (s .args .i) (m .before .before .item-end .ensures ∙ set-ends v (s .pre .0) .0) (v .filled .at) in
-    set-on v (s .pre .0) y (k .before .before .before .if1 .left) (k .lesser .ensures) (g .weigh .ensures) (c .if2 .left)
+    set-added v (s .pre .0) y (k .before .before .before .if1 .left) (k .lesser .ensures) (g .weigh .ensures) (c .if2 .left)
 
 pub weigh-set-spec : {M : Type 1} → statement M
 weigh-set-spec =
