@@ -1,0 +1,155 @@
+-- `new_objects::new_length` meets its contract: the kept table's parts and the objects of the first j new tables are summed. Assumes nothing.
+use borrow.Author.Needs.{needs}
+use native.Mathlib.Omega.{arith}
+use Prim.Native.Nat.{_-_}
+use mathlib.Core.Path.{refl}
+use lib.ListN.{length}
+use Rattle.new_objects.proofs.Planning.{same-part, kept-beside}
+use Rattle.new_objects.proofs.Lengths.{Total, total-start, total-turn, total-stop, next-few, turn-ready, turn-items, rows-small, turn-small, turn-fits}
+use Rattle.new_objects.proofs.new_length.Statement.{statement}
+use Rattle.new_objects.proofs.new_length.Tie as tie
+
+abbrev Inv-loop : tie.InvT-loop
+Inv-loop glyphs classes cuts layout at₀ total₀ j₀ at total j = Total glyphs classes cuts layout at total j
+
+abbrev μ-loop : tie.MeasureT-loop
+μ-loop glyphs classes cuts layout at₀ total₀ j₀ at total j = length cuts - j
+
+shared-slice-read-part-end : tie.Need-shared-slice-read-part-end Inv-loop μ-loop
+shared-slice-read-part-end c = search needs
+
+part-end-requires : tie.Need-part-end-requires Inv-loop μ-loop
+part-end-requires c κs = search needs
+
+sub-parts-length : tie.Need-sub-parts-length Inv-loop μ-loop
+sub-parts-length c = search needs
+
+part-parts-length-start : tie.Need-part-parts-length-start Inv-loop μ-loop
+part-parts-length-start c = search needs
+
+part-parts-length-end : tie.Need-part-parts-length-end Inv-loop μ-loop
+part-parts-length-end c = search needs
+
+sub-parts-length-2 : tie.Need-sub-parts-length-2 Inv-loop μ-loop
+sub-parts-length-2 c = search needs
+
+part-parts-length-start-2 : tie.Need-part-parts-length-start-2 Inv-loop μ-loop
+part-parts-length-start-2 c = search needs
+
+part-parts-length-end-2 : tie.Need-part-parts-length-end-2 Inv-loop μ-loop
+part-parts-length-end-2 c = search needs
+
+parts-length-requires : tie.Need-parts-length-requires Inv-loop μ-loop
+parts-length-requires c κs = (same-part _ _ _ _ (c .before .before .before .before .before .before .before .pre) 0 _ (omega arith) (c .before .before .part-end .ensures .inside), kept-beside _ _ _ _ (c .before .before .before .before .before .before .before .pre) _ (c .before .before .part-end .ensures))
+
+loop-holds : tie.Need-loop-holds Inv-loop μ-loop
+loop-holds c = total-start _ _ _ _ (c .before .before .before .before .before .before .before .before .pre) _ _ (c .before .before .before .part-end .ensures) (c .parts-length .ensures)
+
+mul-lo : tie.Need-mul-lo Inv-loop μ-loop
+mul-lo c = search needs
+
+shared-slice-read-lo : tie.Need-shared-slice-read-lo Inv-loop μ-loop
+shared-slice-read-lo c = search needs
+
+cut-after-requires : tie.Need-cut-after-requires Inv-loop μ-loop
+cut-after-requires c κs = search needs
+
+part-end-requires-2 : tie.Need-part-end-requires-2 Inv-loop μ-loop
+part-end-requires-2 c κs = c .before .before .before .loop .inv .halved .inside
+
+mul-parts-length : tie.Need-mul-parts-length Inv-loop μ-loop
+mul-parts-length c = search needs
+
+sub-parts-length-3 : tie.Need-sub-parts-length-3 Inv-loop μ-loop
+sub-parts-length-3 c = search needs
+
+part-parts-length-start-3 : tie.Need-part-parts-length-start-3 Inv-loop μ-loop
+part-parts-length-start-3 c = search needs
+
+part-parts-length-end-3 : tie.Need-part-parts-length-end-3 Inv-loop μ-loop
+part-parts-length-end-3 c = search needs
+
+mul-parts-length-2 : tie.Need-mul-parts-length-2 Inv-loop μ-loop
+mul-parts-length-2 c = search needs
+
+sub-parts-length-4 : tie.Need-sub-parts-length-4 Inv-loop μ-loop
+sub-parts-length-4 c = search needs
+
+part-parts-length-start-4 : tie.Need-part-parts-length-start-4 Inv-loop μ-loop
+part-parts-length-start-4 c = search needs
+
+part-parts-length-end-4 : tie.Need-part-parts-length-end-4 Inv-loop μ-loop
+part-parts-length-end-4 c = search needs
+
+parts-length-requires-2 : tie.Need-parts-length-requires-2 Inv-loop μ-loop
+parts-length-requires-2 c κs = turn-ready _ _ _ _ _ _ _ (c .before .before .before .before .before .before .loop .inv) (c .before .before .before .before .before .loop-test .taken) _ _ _ refl (c .before .before .before .cut-after .ensures) (c .before .before .part-end2 .ensures)
+
+sub-total : tie.Need-sub-total Inv-loop μ-loop
+sub-total c = omega (arith, turn-items _ _ _ _ _ _ _ (c .before .before .before .before .before .before .before .loop .inv) (c .before .before .before .before .before .before .loop-test .taken) _ _ _ _ refl (c .before .before .before .before .cut-after .ensures) (c .before .before .before .part-end2 .ensures) (c .parts-length2 .ensures))
+
+cast-total : tie.Need-cast-total Inv-loop μ-loop
+cast-total c = search needs
+
+mul-total : tie.Need-mul-total Inv-loop μ-loop
+mul-total c = omega (arith, rows-small _ _ _ _ _ _ _ (c .before .before .before .before .before .before .before .before .loop .inv) (c .before .before .before .before .before .before .before .loop-test .taken) _ _ _ _ refl (c .before .before .before .before .before .cut-after .ensures) (c .before .before .before .before .part-end2 .ensures) (c .before .parts-length2 .ensures))
+
+add-total : tie.Need-add-total Inv-loop μ-loop
+add-total c = omega (arith, turn-small _ _ _ _ _ _ _ (c .before .before .before .before .before .before .before .before .before .loop .inv) (c .before .before .before .before .before .before .before .before .loop-test .taken) _ _ _ _ refl (c .before .before .before .before .before .before .cut-after .ensures) (c .before .before .before .before .before .part-end2 .ensures) (c .before .before .parts-length2 .ensures))
+
+add-total-2 : tie.Need-add-total-2 Inv-loop μ-loop
+add-total-2 c = omega (arith, turn-small _ _ _ _ _ _ _ (c .before .before .before .before .before .before .before .before .before .loop .inv) (c .before .before .before .before .before .before .before .before .loop-test .taken) _ _ _ _ refl (c .before .before .before .before .before .before .cut-after .ensures) (c .before .before .before .before .before .part-end2 .ensures) (c .before .before .parts-length2 .ensures))
+
+add-total-3 : tie.Need-add-total-3 Inv-loop μ-loop
+add-total-3 c = omega (arith, turn-fits _ _ _ _ _ _ _ (c .before .before .before .before .before .before .before .before .before .loop .inv) (c .before .before .before .before .before .before .before .before .loop-test .taken) _ _ _ _ refl (c .before .before .before .before .before .before .cut-after .ensures) (c .before .before .before .before .before .part-end2 .ensures) (c .before .before .parts-length2 .ensures))
+
+add-j : tie.Need-add-j Inv-loop μ-loop
+add-j c = omega (arith, next-few _ _ _ _ _ _ _ (c .before .before .before .before .before .before .before .before .before .loop .inv) (c .before .before .before .before .before .before .before .before .loop-test .taken))
+
+loop-less : tie.Need-loop-less Inv-loop μ-loop
+loop-less c = search needs
+
+loop-again : tie.Need-loop-again Inv-loop μ-loop
+loop-again c = total-turn _ _ _ _ _ _ _ (c .before .before .before .before .before .before .before .before .before .loop .inv) (c .before .before .before .before .before .before .before .before .loop-test .taken) _ _ _ _ refl (c .before .before .before .before .before .before .cut-after .ensures) (c .before .before .before .before .before .part-end2 .ensures) (c .before .before .parts-length2 .ensures)
+
+returns : tie.Need-returns Inv-loop μ-loop
+returns c = total-stop _ _ _ _ _ _ _ (c .before .loop .inv) (c .loop-test .left)
+
+pub new-length-spec : {M : Type 1} → statement M
+new-length-spec =
+    tie.close
+    (tie.spec
+    Inv-loop
+    μ-loop
+    shared-slice-read-part-end
+    part-end-requires
+    sub-parts-length
+    part-parts-length-start
+    part-parts-length-end
+    sub-parts-length-2
+    part-parts-length-start-2
+    part-parts-length-end-2
+    parts-length-requires
+    loop-holds
+    mul-lo
+    shared-slice-read-lo
+    cut-after-requires
+    part-end-requires-2
+    mul-parts-length
+    sub-parts-length-3
+    part-parts-length-start-3
+    part-parts-length-end-3
+    mul-parts-length-2
+    sub-parts-length-4
+    part-parts-length-start-4
+    part-parts-length-end-4
+    parts-length-requires-2
+    sub-total
+    cast-total
+    mul-total
+    add-total
+    add-total-2
+    add-total-3
+    add-j
+    loop-less
+    loop-again
+    returns)
