@@ -16,9 +16,9 @@ use Rattle.rules.specs.Written.{from, to, newTable, newParts, newObjects}
 use Rattle.rules.proofs.CutPlaces.{range-high}
 use Rattle.pair_pos.specs.declared.Layout.{Layout}
 use Rattle.pair_pos.specs.Layout.{layoutOf}
-use Rattle.new_objects.specs.Tables.{paired, highAt, PartEnd, Beside, Planned}
+use Rattle.new_objects.specs.Tables.{paired, highAt, PartEnd, Halved, Beside, Planned}
 use Rattle.new_objects.specs.Objects.{partsOf, Length}
-use Rattle.new_objects.proofs.Parting.{Halved, length-paired}
+use Rattle.new_objects.proofs.Parting.{length-paired}
 use Rattle.new_objects.proofs.Beside.{parts-same, parts-short}
 use Rattle.new_objects.proofs.Planning.{cuts-of, cuts-few, kept-half, kept-entries, new-rises, new-inside, new-half, new-entries, new-same, new-beside, new-small, same-part}
 use Rattle.new_objects.proofs.Writing.{join-long}

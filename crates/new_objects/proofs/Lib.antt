@@ -6,3 +6,4 @@ mod Lengths
 mod Tables
 mod Parts
 mod Looping
+pub mod Ordering

@@ -16,9 +16,8 @@ use Rattle.opentype.specs.PairPos.{shapeOf}
 use Rattle.rules.specs.Cuts.{within}
 use Rattle.rules.specs.Written.{from, to, newTable, newParts, newObjects}
 use Rattle.pair_pos.specs.declared.Layout.{Layout}
-use Rattle.new_objects.specs.Tables.{paired, highAt, PartEnd, Beside, Planned}
+use Rattle.new_objects.specs.Tables.{paired, highAt, PartEnd, Halved, Beside, Planned}
 use Rattle.new_objects.specs.Objects.{partsOf, Room, Written, oldTable, Old, tableOf, tableObjects, tablesOf, objectsOf}
-use Rattle.new_objects.proofs.Parting.{Halved}
 use Rattle.new_objects.proofs.Beside.{parts-same}
 use Rattle.new_objects.proofs.Planning.{cuts-few, same-part, kept-half, kept-entries, kept-beside, new-rises, new-inside, new-half, new-entries, new-same, new-beside}
 use Rattle.new_objects.proofs.Writing.{written-none, data-long, rows-long, room-first, room-rest, written-more, old-kept, old-after}

@@ -17,15 +17,9 @@ use Rattle.folds.proofs.Each.{Each}
 use Rattle.opentype.specs.Coverage.{Entry}
 use Rattle.rules.specs.Cuts.{within}
 use Rattle.rules.proofs.Entries.{inRange}
-use Rattle.new_objects.specs.Tables.{paired, PartEnd}
+use Rattle.new_objects.specs.Tables.{paired, PartEnd, Halved}
 
 -- ---- where items are parted
-
--- those before a lie below h, and the others do not
-pub record Halved (ks : List ℕ) (h a : ℕ) : Type 0 where
-  pub inside : a ≤ length ks
-  pub low : (i : ℕ) → i < a → getD ks i 0 < h
-  pub high : (i : ℕ) → a ≤ i → i < length ks → h ≤ getD ks i 0
 
 pub halved-none : (ks : List ℕ) → Halved ks 0 0
 halved-none ks = record { inside = omega arith; low = λ i l. absurd (omega arith); high = λ i l m. omega arith }

@@ -13,8 +13,8 @@ use Rattle.rules.specs.Cuts.{within}
 use Rattle.rules.specs.Written.{from}
 use Rattle.rules.proofs.CutPlaces.{Places, range-high}
 use Rattle.pair_pos.specs.declared.Layout.{Layout}
-use Rattle.new_objects.specs.Tables.{paired, highAt, PartEnd, Beside, Planned}
-use Rattle.new_objects.proofs.Parting.{Halved, halved-none, halved-next, within-part}
+use Rattle.new_objects.specs.Tables.{paired, highAt, PartEnd, Halved, Beside, Planned}
+use Rattle.new_objects.proofs.Parting.{halved-none, halved-next, within-part}
 
 module _ (gs ks cs : List ℕ) (l : Layout) (p : Planned gs ks cs l) where
   pub cuts-of : Places (l .count) cs

@@ -38,6 +38,12 @@ pub record PartEnd (ks : List ℕ) (from hi r : ℕ) : Type 0 where
   pub below : (i : ℕ) → from ≤ i → i < r → getD ks i 0 < hi
   pub above : r < length ks → hi ≤ getD ks r 0
 
+-- those before a lie below h, and the others do not
+pub record Halved (ks : List ℕ) (h a : ℕ) : Type 0 where
+  pub inside : a ≤ length ks
+  pub low : (i : ℕ) → i < a → getD ks i 0 < h
+  pub high : (i : ℕ) → a ≤ i → i < length ks → h ≤ getD ks i 0
+
 -- the covered glyphs of one table of format f and first item lo, in ascending order: a class definition can count its ranges
 pub record Beside (f lo : ℕ) (es : List Entry) : Type 0 where
   pub ascending : Ascending (map (λ e. e .glyph) es)

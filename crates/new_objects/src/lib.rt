@@ -1,6 +1,7 @@
 // The new objects of a split, in document 01's order: how many bytes they take, and their bytes and rows.
 use class_def::class_def_length;
 use class_def::write_class_def;
+use class_order::sort_pairs;
 use coverage_graph::coverage_length;
 use coverage_graph::write_coverage;
 use new_table::write_format1;
@@ -13,10 +14,11 @@ ghost use mathlib.Core.List.{_∷_};
 ghost use Prim.Native.Nat.{ℕ, _+_, _-_, _*_, _≤_, _<_};
 ghost use lib.ListN.{length, getD};
 ghost use lib.Dec.{eqb};
-ghost use Rattle.folds.specs.Lists.{join};
+ghost use Rattle.folds.specs.Lists.{put, join};
 ghost use Rattle.opentype.specs.PairPos.{shapeOf};
 ghost use Rattle.new_table.specs.Cloned.{Cloned};
 ghost use Rattle.new_objects.specs.Tables.{paired, PartEnd, Beside, Planned};
+ghost use Rattle.new_objects.specs.Order.{glyphOrder, itemOrder, Sorted, Ordered};
 ghost use Rattle.new_objects.specs.Objects.{partsOf, Room, Written, oldTable, Old, tableOf, tablesOf, objectsOf, Length};
 
 // Where the part of the classes from `from` on that lie below `hi` ends.
@@ -43,6 +45,32 @@ fn cut_after(cuts: &[u16], j: usize, count: u16) -> u16
         return cuts[j + 1];
     }
     count
+}
+
+// Puts the pairs from `a` up to `b` in order by glyph.
+fn order_part(glyphs: &mut [u16], classes: &mut [u16], a: usize, b: usize)
+    requires { ⌜ (a ≤ b) × (b ≤ length (now glyphs)) × (length (now classes) ≡ length (now glyphs)) ⌝ }
+    ensures { λ _. ⌜ now (glyphs .exit) ≡ put (now (glyphs .entry)) a (glyphOrder (now (glyphs .entry)) (now (classes .entry)) a b) ⌝ }
+    ensures { λ _. ⌜ now (classes .exit) ≡ put (now (classes .entry)) a (itemOrder (now (glyphs .entry)) (now (classes .entry)) a b) ⌝ }
+{
+    sort_pairs(&mut glyphs[a..b], &mut classes[a..b]);
+}
+
+// Puts the part of each table back in order by glyph, where glyphs and classes are in order by class.
+pub fn order_parts(glyphs: &mut [u16], classes: &mut [u16], cuts: &[u16], count: u16)
+    requires { ⌜ Sorted (now glyphs) (now classes) (now cuts) count ⌝ }
+    ensures { λ _. ⌜ Ordered (now (glyphs .entry)) (now (classes .entry)) (now (cuts .entry)) count (now (glyphs .exit)) (now (classes .exit)) ⌝ }
+{
+    let mut at = 0;
+    let mut k = 0;
+    while k < cuts.len() {
+        let end = part_end(classes, at, cuts[k]);
+        order_part(glyphs, classes, at, end);
+        at = end;
+        k += 1;
+    }
+    let end = part_end(classes, at, count);
+    order_part(glyphs, classes, at, end);
 }
 
 // How many bytes the coverage of a table takes, and in format 2 its class definition 1.
