@@ -20,11 +20,11 @@ use Rattle.rules.proofs.Lookups.{child-used}
 use Rattle.checks.specs.Checked.{linkedBy, linkedOf}
 use Rattle.checks.specs.declared.Linked.the-variants.{To, Nothing}
 
-is-none : (o : Option ℕ) → Nowhere ≡ asChild o → o ≡ none
+pub is-none : (o : Option ℕ) → Nowhere ≡ asChild o → o ≡ none
 is-none none e = refl
 is-none (some c) e = let z : _≡_ {A = ℕ} 0 1 = cc in cc
 
-is-some : (o : Option ℕ) (c : ℕ) → Of c ≡ asChild o → o ≡ some c
+pub is-some : (o : Option ℕ) (c : ℕ) → Of c ≡ asChild o → o ≡ some c
 is-some none c e = let z : _≡_ {A = ℕ} 0 1 = cc in cc
 is-some (some d) c e = cc
 

@@ -72,7 +72,7 @@ fn open_format1(table: &[u8]) -> Opened
 }
 
 // The bytes of a pair's two value records.
-fn record_size(value1: u16, value2: u16) -> usize
+pub fn record_size(value1: u16, value2: u16) -> usize
     ensures { λ r. ⌜ (r ≡ 2 * (fieldCount value1 + fieldCount value2)) × (r ≤ 32) ⌝ }
 {
     2 * (field_count(value1) + field_count(value2))

@@ -1,0 +1,86 @@
+-- What a call answers, from the checks and from the pair. Assumes nothing.
+use Prim.Native.Nat.{ℕ, _+_, _*_}
+use mathlib.Core.Path.{_≡_, refl, sym, ap, _∙_}
+use mathlib.Core.Bool.{true, false, cond}
+use mathlib.Core.List.{List, _++_}
+use mathlib.Core.Option.{Option, some, none}
+use native.Mathlib.Omega.{arith}
+use lib.IntN.{ℤ}
+use Rattle.opentype.specs.Values.{fieldCount}
+use Rattle.opentype.specs.PairPos.{value1, value2, recordSize}
+use Rattle.pair_pos.specs.Layout.{layoutOf}
+use Rattle.pair_pos.specs.declared.Layout.{Layout}
+use Rattle.rules.specs.declared.Answer.{Answer}
+use Rattle.rules.specs.Store.{Store, bytesOf}
+use Rattle.rules.specs.Pairs as Pairs
+use Rattle.rules.specs.Pairs.{spotOf, noPair, pairAt, pairOf}
+use Rattle.rules.specs.Answers.{PairOutcome, number, firstCase, readCases, reported, settlePair, pairCall}
+use Rattle.checks.specs.Checked.{checkedOf, refusal}
+use Rattle.checks.specs.declared.PairTable.{PairTable}
+use Rattle.checks.specs.declared.Checked.{Checked}
+use Rattle.checks.specs.declared.Checked.the-variants.{Open, Refused}
+use Rattle.checks.proofs.Refusals.{refusals, Opens}
+use Rattle.pair_reading.specs.Reading.{asSpot, asPair, pairOutcome, ValueRecord, valuePair}
+use Rattle.pair_reading.specs.declared.PairAnswer.{PairAnswer}
+use Rattle.pair_reading.specs.declared.Spot.{Spot}
+use Rattle.pair_reading.specs.declared.Spot.the-variants as Spot
+use Rattle.pair_reading.proofs.Spots.{Whole, same-size, spot-whole}
+
+-- ---- the pair at a spot
+
+spot-some : (o : Option Pairs.Spot) (c q : ℕ) → Spot.At c q ≡ asSpot o → o ≡ some (record { object = c; at = q })
+spot-some none c q e = let z : _≡_ {A = ℕ} 0 1 = cc in cc
+spot-some (some p) c q e =
+    let a : c ≡ p .object = cc in
+    let b : q ≡ p .at = cc in
+    λ i. some (record { object = sym a i; at = sym b i })
+
+spot-none : (o : Option Pairs.Spot) → Spot.Nowhere ≡ asSpot o → o ≡ none
+spot-none none e = refl
+spot-none (some p) e = let z : _≡_ {A = ℕ} 0 1 = cc in cc
+
+module _ {s : Store} {t : ℕ} {p : PairTable} (o : Opens s t p) (a b : ℕ) {x : Spot} (e : x ≡ asSpot (spotOf s t a b)) where
+  pub no-spot : {v : Pairs.Pair} → x ≡ Spot.Nowhere → v ≡ noPair → v ≡ pairOf s t a b
+  unfolding pairOf pairAt
+  no-spot y i = i ∙ sym (ap (pairAt s t) (spot-none (spotOf s t a b) (sym y ∙ e)))
+
+  module _ {c q : ℕ} (y : x ≡ Spot.At c q) where
+    stands : spotOf s t a b ≡ some (record { object = c; at = q })
+    stands = spot-some (spotOf s t a b) c q (sym y ∙ e)
+
+    whole : Whole s t (record { object = c; at = q })
+    whole = spot-whole o a b (record { object = c; at = q }) stands
+
+    pub first-record : ValueRecord s c q (p .layout .value1)
+    first-record = record { sounds = o .reads .sounds; used = whole .used; within = omega (arith, whole .within, same-size o) }
+
+    pub second-record : ValueRecord s c (q + 2 * fieldCount (p .layout .value1)) (p .layout .value2)
+    second-record = record { sounds = o .reads .sounds; used = whole .used; within = omega (arith, whole .within, same-size o) }
+
+    pub at-spot : {v : Pairs.Pair} → v ≡ valuePair s (p .layout .value1) (p .layout .value2) c q → v ≡ pairOf s t a b
+    unfolding pairOf pairAt layoutOf
+    at-spot i =
+        i
+        ∙ ap (λ (l : Layout). valuePair s (l .value1) (l .value2) c q) (o .layout)
+        ∙ sym (ap (pairAt s t) stands)
+
+-- ---- the call
+
+pub found-reported : (n : ℕ) (p : PairAnswer) {v : List ℤ} → p .found ≡ true → v ≡ p .first ++ p .second → pairOutcome n 1 v ≡ reported n (asPair p)
+found-reported n p e f = λ i. record { answer = n; found = cond (sym e i) 1 0; values = f i }
+
+pub none-reported : (n : ℕ) (p : PairAnswer) {v : List ℤ} → p .found ≡ false → v ≡ p .first ++ p .second → pairOutcome n 0 v ≡ reported n (asPair p)
+none-reported n p e f = λ i. record { answer = n; found = cond (sym e i) 1 0; values = f i }
+
+module _ (s : Store) (t a b : ℕ) {x : Checked} (e : x ≡ checkedOf s t) where
+  called : pairCall s t a b ≡ settlePair (refusal x) (pairOf s t a b)
+  unfolding pairCall
+  called = ap (λ (o : Option ℕ). settlePair o (pairOf s t a b)) (refusals s t ∙ ap refusal (sym e))
+
+  pub refused-call : {out : PairOutcome} {v : Pairs.Pair} {n : ℕ} {w : Answer} → x ≡ Refused w → n ≡ number w → v ≡ noPair → out ≡ reported n v → out ≡ pairCall s t a b
+  unfolding settlePair
+  refused-call y i j r = r ∙ (λ k. reported (i k) (j k)) ∙ sym (called ∙ ap (λ (c : Checked). settlePair (refusal c) (pairOf s t a b)) y)
+
+  pub open-call : {out : PairOutcome} {v : Pairs.Pair} {p : PairTable} → x ≡ Open p → v ≡ pairOf s t a b → out ≡ reported 0 v → out ≡ pairCall s t a b
+  unfolding settlePair
+  open-call y j r = r ∙ ap (reported 0) j ∙ sym (called ∙ ap (λ (c : Checked). settlePair (refusal c) (pairOf s t a b)) y)

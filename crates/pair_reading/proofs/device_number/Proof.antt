@@ -1,0 +1,51 @@
+-- `pair_reading::device_number` meets its contract: by the link, whose child has a number of sixteen bits. Assumes nothing.
+use mathlib.Core.Path.{sym, _∙_}
+use mathlib.Core.List.{[]}
+use native.Mathlib.Omega.{arith}
+use Rattle.rules.specs.Store.{lent}
+use Rattle.pair_reading.proofs.Values.{child-small, device-linked, device-none}
+use borrow.Author.Needs.{needs}
+use Rattle.pair_reading.proofs.device_number.Statement.{statement}
+use Rattle.pair_reading.proofs.device_number.Tie as tie
+
+child-at-requires : tie.Need-child-at-requires
+child-at-requires c κs = search needs
+
+enum-known-child : tie.Need-enum-known-child
+enum-known-child c = search needs
+
+add-result : tie.Need-add-result
+add-result c =
+    let start = c .before .before .before .before .before in
+    let a = start .args in
+    omega (arith, child-small (lent [] [] (a .links .now) (a .counts .now)) (a .object) (a .position) _ (start .pre .1) (sym (c .before .child .given .1) ∙ c .before .before .before .child-at .ensures [] []))
+
+cast-result : tie.Need-cast-result
+cast-result c =
+    let start = c .before .before .before .before .before in
+    let a = start .args in
+    record { sfits = omega (arith, child-small (lent [] [] (a .links .now) (a .counts .now)) (a .object) (a .position) _ (start .pre .1) (sym (c .before .child .given .1) ∙ c .before .before .before .child-at .ensures [] [])) }
+
+enum-told : tie.Need-enum-told
+enum-told c = search needs
+
+returns : tie.Need-returns
+returns c b o =
+    let start = c .before .before .before .before .before in
+    let a = start .args in
+    device-linked (lent b o (a .links .now) (a .counts .now)) (a .object) (a .position) _ (sym (c .before .child .given .1) ∙ c .before .before .before .child-at .ensures b o) (child-small (lent [] [] (a .links .now) (a .counts .now)) (a .object) (a .position) _ (start .pre .1) (sym (c .before .child .given .1) ∙ c .before .before .before .child-at .ensures [] []))
+
+returns-2 : tie.Need-returns-2
+returns-2 c b o = let a = c .before .before .before .before .args in device-none (lent b o (a .links .now) (a .counts .now)) (a .object) (a .position) (sym (c .enum-told .given .1) ∙ c .before .before .child-at .ensures b o)
+
+pub device-number-spec : {M : Type 1} → statement M
+device-number-spec =
+    tie.close
+    (tie.spec
+    child-at-requires
+    enum-known-child
+    add-result
+    cast-result
+    enum-told
+    returns
+    returns-2)

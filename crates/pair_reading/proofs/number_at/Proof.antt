@@ -1,0 +1,92 @@
+-- `pair_reading::number_at` meets its contract: absent, device or plain. Assumes nothing.
+use mathlib.Core.Path.{ap, _∙_}
+use mir.Syntax.{w32}
+use mir.ValLaws.{toZ-ofZ}
+use native.Mathlib.Omega.{arith}
+use Prim.Native.Nat.{ℕ}
+use lib.ListN.{length}
+use mathlib.Core.List.{List}
+use Rattle.pair_reading.proofs.Values.{object-inside, links-in-order, children-small, object-small, absent, field-within, device, plain}
+use borrow.Author.Needs.{needs}
+use Rattle.pair_reading.proofs.number_at.Statement.{statement}
+use Rattle.pair_reading.proofs.number_at.Tie as tie
+
+has-field-requires : tie.Need-has-field-requires
+has-field-requires c κs = search needs
+
+returns : tie.Need-returns
+returns c =
+    let start = c .before .before .before .before .before in
+    let a = start .args in
+    absent (start .pre .0) (a .j) (start .pre .1) (c .before .has-field .ensures) (c .if1 .taken)
+
+position-requires : tie.Need-position-requires
+position-requires c κs = search needs
+
+mul-place : tie.Need-mul-place
+mul-place c =
+    let start = c .before .before .before .before .before .before in
+    let a = start .args in
+    omega (arith, field-within (start .pre .0) (a .j) (start .pre .1) (c .before .before .has-field .ensures) (c .before .if1 .left), object-small (start .pre .0), c .position .ensures)
+
+add-place : tie.Need-add-place
+add-place c =
+    let start = c .before .before .before .before .before .before in
+    let a = start .args in
+    omega (arith, field-within (start .pre .0) (a .j) (start .pre .1) (c .before .before .has-field .ensures) (c .before .if1 .left), object-small (start .pre .0), c .position .ensures)
+
+field-at-requires : tie.Need-field-at-requires
+field-at-requires c κs = search needs
+
+cast-device-number : tie.Need-cast-device-number
+cast-device-number c =
+    let start = c .before .before .before .before .before .before .before .before in
+    let a = start .args in
+    omega (arith, field-within (start .pre .0) (a .j) (start .pre .1) (c .before .before .before .before .has-field .ensures) (c .before .before .before .if1 .left), object-small (start .pre .0), c .before .before .position .ensures)
+
+device-number-requires : tie.Need-device-number-requires
+device-number-requires c κs = let start = c .before .before .before .before .before .before .before .before in (links-in-order (start .pre .0), children-small (start .pre .0))
+
+returns-2 : tie.Need-returns-2
+returns-2 c =
+    let start = c .before .before .before .before .before .before .before .before .before in
+    let a = start .args in
+    toZ-ofZ w32 (c .device-number .result) (search needs)
+    ∙ device (start .pre .0) (a .j) (start .pre .1) (c .before .before .before .before .before .has-field .ensures) (c .before .before .before .before .if1 .left) (c .before .before .before .position .ensures) (c .before .before .field-at .ensures) (c .before .if2 .taken) (c .device-number .ensures (a .«data» .now) (a .objects .now))
+
+bytes-of-requires : tie.Need-bytes-of-requires
+bytes-of-requires c κs = object-inside (c .before .before .before .before .before .before .before .before .pre .0)
+
+u16-at-requires : tie.Need-u16-at-requires
+u16-at-requires c κs =
+    let start = c .before .before .before .before .before .before .before .before .before in
+    let a = start .args in
+    omega (arith, ap (λ (b : List ℕ). length b) (c .bytes-of .ensures (a .links .now) (a .counts .now)), field-within (start .pre .0) (a .j) (start .pre .1) (c .before .before .before .before .before .has-field .ensures) (c .before .before .before .before .if1 .left), c .before .before .before .position .ensures)
+
+signed-requires : tie.Need-signed-requires
+signed-requires c κs = search needs
+
+returns-3 : tie.Need-returns-3
+returns-3 c =
+    let start = c .before .before .before .before .before .before .before .before .before .before .before in
+    let a = start .args in
+    toZ-ofZ w32 (c .signed .result) (search needs)
+    ∙ plain (start .pre .0) (a .j) (start .pre .1) (c .before .before .before .before .before .before .before .has-field .ensures) (c .before .before .before .before .before .before .if1 .left) (c .before .before .before .before .before .position .ensures) (c .before .before .before .before .field-at .ensures) (c .before .before .before .if2 .left) (c .before .before .bytes-of .ensures (a .links .now) (a .counts .now)) (c .before .u16-at .ensures) (c .signed .ensures)
+
+pub number-at-spec : {M : Type 1} → statement M
+number-at-spec =
+    tie.close
+    (tie.spec
+    has-field-requires
+    returns
+    position-requires
+    mul-place
+    add-place
+    field-at-requires
+    cast-device-number
+    device-number-requires
+    returns-2
+    bytes-of-requires
+    u16-at-requires
+    signed-requires
+    returns-3)

@@ -1,0 +1,50 @@
+-- `pair_reading::pair_of` meets its contract: no pair, or the one that stands at the spot. Assumes nothing.
+use Rattle.rules.specs.Store.{lent}
+use Rattle.checks.proofs.Refusals.{opens}
+use Rattle.pair_reading.proofs.Answering.{no-spot, first-record, second-record, at-spot}
+use borrow.Author.Needs.{needs}
+use Rattle.pair_reading.proofs.pair_of.Statement.{statement}
+use Rattle.pair_reading.proofs.pair_of.Tie as tie
+
+spot-of-requires : tie.Need-spot-of-requires
+spot-of-requires c κs = search needs
+
+enum-known-spot : tie.Need-enum-known-spot
+enum-known-spot c = search needs
+
+enum-told : tie.Need-enum-told
+enum-told c = search needs
+
+no-pair-requires : tie.Need-no-pair-requires
+no-pair-requires c κs = search needs
+
+returns : tie.Need-returns
+returns c =
+    let start = c .before .before .before .before .before .before .before in
+    let a = start .args in
+    no-spot (opens (lent (a .«data» .now) (a .objects .now) (a .links .now) (a .counts .now)) (a .table) (a .opened) (start .pre)) (a .first) (a .second) (c .before .before .before .spot-of .ensures) (c .before .enum-told .given .1) (c .no-pair .ensures)
+
+pair-at-requires : tie.Need-pair-at-requires
+pair-at-requires c κs =
+    let start = c .before .before .before .before .before .before .before .before in
+    let a = start .args in
+    let o = opens (lent (a .«data» .now) (a .objects .now) (a .links .now) (a .counts .now)) (a .table) (a .opened) (start .pre) in
+    (first-record o (a .first) (a .second) (c .before .before .before .before .spot-of .ensures) (c .before .before .spot .given .1), second-record o (a .first) (a .second) (c .before .before .before .before .spot-of .ensures) (c .before .before .spot .given .1))
+
+returns-2 : tie.Need-returns-2
+returns-2 c =
+    let start = c .before .before .before .before .before .before .before .before .before in
+    let a = start .args in
+    at-spot (opens (lent (a .«data» .now) (a .objects .now) (a .links .now) (a .counts .now)) (a .table) (a .opened) (start .pre)) (a .first) (a .second) (c .before .before .before .before .before .spot-of .ensures) (c .before .before .before .spot .given .1) (c .pair-at .ensures)
+
+pub pair-of-spec : {M : Type 1} → statement M
+pair-of-spec =
+    tie.close
+    (tie.spec
+    spot-of-requires
+    enum-known-spot
+    enum-told
+    no-pair-requires
+    returns
+    pair-at-requires
+    returns-2)

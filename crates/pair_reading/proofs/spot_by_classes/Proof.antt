@@ -1,0 +1,60 @@
+-- `pair_reading::spot_by_classes` meets its contract: by the row, then by the column. Assumes nothing.
+use native.Mathlib.Omega.{arith}
+use Rattle.rules.specs.Store.{lent}
+use Rattle.pair_reading.proofs.Finding.{place-fits, no-row, no-column, in-column}
+use borrow.Author.Needs.{needs}
+use Rattle.pair_reading.proofs.spot_by_classes.Statement.{statement}
+use Rattle.pair_reading.proofs.spot_by_classes.Tie as tie
+
+class-in-requires : tie.Need-class-in-requires
+class-in-requires c κs = search needs
+
+returns : tie.Need-returns
+returns c l k = let a = c .before .before .before .before .before .before .before .args in no-row (lent (a .«data» .now) (a .objects .now) l k) (a .table) (a .opened) (a .first) (a .second) (c .before .before .class-in .ensures l k) (c .if1 .taken)
+
+class-in-requires-2 : tie.Need-class-in-requires-2
+class-in-requires-2 c κs = search needs
+
+returns-2 : tie.Need-returns-2
+returns-2 c l k = let a = c .before .before .before .before .before .before .before .before .before .before .before .args in no-column (lent (a .«data» .now) (a .objects .now) l k) (a .table) (a .opened) (a .first) (a .second) (c .before .before .before .before .before .before .class-in .ensures l k) (c .before .before .before .before .if1 .left) (c .before .before .class-in2 .ensures l k) (c .if2 .taken)
+
+cast-record : tie.Need-cast-record
+cast-record c = search needs
+
+cast-record-2 : tie.Need-cast-record-2
+cast-record-2 c = search needs
+
+mul-record : tie.Need-mul-record
+mul-record c = let a = c .before .before .before .before .before .before .before .before .before .before .before .before .args in omega (arith, place-fits (a .opened .layout .unit) (c .before .before .before .before .before .before .before .class-in .result) (a .opened .layout .columns) (c .before .before .before .class-in2 .result) (c .before .before .before .before .before .before .before .before .before .before .before .before .pre .0) (omega arith) (omega arith) (omega arith))
+
+cast-record-3 : tie.Need-cast-record-3
+cast-record-3 c = search needs
+
+add-record : tie.Need-add-record
+add-record c = let a = c .before .before .before .before .before .before .before .before .before .before .before .before .args in omega (arith, place-fits (a .opened .layout .unit) (c .before .before .before .before .before .before .before .class-in .result) (a .opened .layout .columns) (c .before .before .before .class-in2 .result) (c .before .before .before .before .before .before .before .before .before .before .before .before .pre .0) (omega arith) (omega arith) (omega arith))
+
+mul-t14 : tie.Need-mul-t14
+mul-t14 c = let a = c .before .before .before .before .before .before .before .before .before .before .before .before .before .args in omega (arith, place-fits (a .opened .layout .unit) (c .before .before .before .before .before .before .before .before .class-in .result) (a .opened .layout .columns) (c .before .before .before .before .class-in2 .result) (c .before .before .before .before .before .before .before .before .before .before .before .before .before .pre .0) (omega arith) (omega arith) (omega arith))
+
+add-t17 : tie.Need-add-t17
+add-t17 c = let a = c .before .before .before .before .before .before .before .before .before .before .before .before .before .args in omega (arith, place-fits (a .opened .layout .unit) (c .before .before .before .before .before .before .before .before .class-in .result) (a .opened .layout .columns) (c .before .before .before .before .class-in2 .result) (c .before .before .before .before .before .before .before .before .before .before .before .before .before .pre .0) (omega arith) (omega arith) (omega arith))
+
+returns-3 : tie.Need-returns-3
+returns-3 c l k = let a = c .before .before .before .before .before .before .before .before .before .before .before .before .before .args in in-column (lent (a .«data» .now) (a .objects .now) l k) (a .table) (a .opened) (a .first) (a .second) (c .before .before .before .before .before .before .before .before .class-in .ensures l k) (c .before .before .before .before .before .before .if1 .left) (c .before .before .before .before .class-in2 .ensures l k) (c .before .before .if2 .left)
+
+pub spot-by-classes-spec : {M : Type 1} → statement M
+spot-by-classes-spec =
+    tie.close
+    (tie.spec
+    class-in-requires
+    returns
+    class-in-requires-2
+    returns-2
+    cast-record
+    cast-record-2
+    mul-record
+    cast-record-3
+    add-record
+    mul-t14
+    add-t17
+    returns-3)

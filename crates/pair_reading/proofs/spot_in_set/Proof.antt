@@ -1,0 +1,48 @@
+-- `pair_reading::spot_in_set` meets its contract: by what the search finds. Assumes nothing.
+use native.Mathlib.Omega.{arith}
+use Rattle.rules.specs.Store.{lent}
+use Rattle.pair_reading.proofs.Finding.{record-in, no-record-in, record-place}
+use borrow.Author.Needs.{needs}
+use Rattle.pair_reading.proofs.spot_in_set.Statement.{statement}
+use Rattle.pair_reading.proofs.spot_in_set.Tie as tie
+
+bytes-of-requires : tie.Need-bytes-of-requires
+bytes-of-requires c κs = search needs
+
+record-in-set-requires : tie.Need-record-in-set-requires
+record-in-set-requires c κs = search needs
+
+enum-known-found : tie.Need-enum-known-found
+enum-known-found c = search needs
+
+add-t11 : tie.Need-add-t11
+add-t11 c = search needs
+
+mul-t12 : tie.Need-mul-t12
+mul-t12 c = let a = c .before .before .before .before .before .before .before .args in omega (arith, record-place (c .before .before .before .before .bytes-of .result .now) (a .size) (a .second) _ (c .before .before .before .record-in-set .ensures) (c .before .found .given .1))
+
+add-t13 : tie.Need-add-t13
+add-t13 c = let a = c .before .before .before .before .before .before .before .args in omega (arith, record-place (c .before .before .before .before .bytes-of .result .now) (a .size) (a .second) _ (c .before .before .before .record-in-set .ensures) (c .before .found .given .1))
+
+enum-told : tie.Need-enum-told
+enum-told c = search needs
+
+returns : tie.Need-returns
+returns c l k = let a = c .before .before .before .before .before .before .before .args in record-in (lent (a .«data» .now) (a .objects .now) l k) (a .size) (a .second) (a .object) (c .before .before .before .before .bytes-of .ensures l k) (c .before .before .before .record-in-set .ensures) (c .before .found .given .1)
+
+returns-2 : tie.Need-returns-2
+returns-2 c l k = let a = c .before .before .before .before .before .before .args in no-record-in (lent (a .«data» .now) (a .objects .now) l k) (a .size) (a .second) (a .object) (c .before .before .before .bytes-of .ensures l k) (c .before .before .record-in-set .ensures) (c .enum-told .given .1)
+
+pub spot-in-set-spec : {M : Type 1} → statement M
+spot-in-set-spec =
+    tie.close
+    (tie.spec
+    bytes-of-requires
+    record-in-set-requires
+    enum-known-found
+    add-t11
+    mul-t12
+    add-t13
+    enum-told
+    returns
+    returns-2)

@@ -1,0 +1,63 @@
+-- `pair_reading::spot_of` meets its contract: the first glyph is covered, and then by the format. Assumes nothing.
+use Rattle.rules.specs.Store.{lent}
+use Rattle.checks.proofs.Refusals.{opens}
+use Rattle.pair_reading.proofs.Finding.{coverage-part, class1-part, class2-part, unit-small, not-covered, by-its-set, by-its-classes}
+use borrow.Author.Needs.{needs}
+use Rattle.pair_reading.proofs.spot_of.Statement.{statement}
+use Rattle.pair_reading.proofs.spot_of.Tie as tie
+
+place-in-requires : tie.Need-place-in-requires
+place-in-requires c κs =
+    let start = c .before .before .before .before in
+    let a = start .args in
+    coverage-part (opens (lent (a .«data» .now) (a .objects .now) (a .links .now) (a .counts .now)) (a .table) (a .opened) (start .pre))
+
+enum-known-place : tie.Need-enum-known-place
+enum-known-place c = search needs
+
+enum-told : tie.Need-enum-told
+enum-told c = search needs
+
+returns : tie.Need-returns
+returns c =
+    let start = c .before .before .before .before .before .before .before in
+    let a = start .args in
+    not-covered (opens (lent (a .«data» .now) (a .objects .now) (a .links .now) (a .counts .now)) (a .table) (a .opened) (start .pre)) (a .first) (a .second) (c .before .before .place-in .ensures (a .links .now) (a .counts .now)) (c .enum-told .given .1)
+
+spot-by-set-requires : tie.Need-spot-by-set-requires
+spot-by-set-requires c κs =
+    let start = c .before .before .before .before .before .before .before .before .before .before .before in
+    let a = start .args in
+    opens (lent (a .«data» .now) (a .objects .now) (a .links .now) (a .counts .now)) (a .table) (a .opened) (start .pre) .reads .sounds
+
+returns-2 : tie.Need-returns-2
+returns-2 c =
+    let start = c .before .before .before .before .before .before .before .before .before .before .before .before in
+    let a = start .args in
+    by-its-set (opens (lent (a .«data» .now) (a .objects .now) (a .links .now) (a .counts .now)) (a .table) (a .opened) (start .pre)) (a .first) (a .second) (c .before .before .before .before .before .before .before .place-in .ensures (a .links .now) (a .counts .now)) (c .before .before .before .before .before .place .given .1) (c .before .if1 .taken) (c .spot-by-set .ensures)
+
+spot-by-classes-requires : tie.Need-spot-by-classes-requires
+spot-by-classes-requires c κs =
+    let start = c .before .before .before .before .before .before .before .before .before .before .before in
+    let a = start .args in
+    let o = opens (lent (a .«data» .now) (a .objects .now) (a .links .now) (a .counts .now)) (a .table) (a .opened) (start .pre) in
+    (unit-small o (c .if1 .left), (class1-part o (c .if1 .left), class2-part o (c .if1 .left)))
+
+returns-3 : tie.Need-returns-3
+returns-3 c =
+    let start = c .before .before .before .before .before .before .before .before .before .before .before .before in
+    let a = start .args in
+    by-its-classes (opens (lent (a .«data» .now) (a .objects .now) (a .links .now) (a .counts .now)) (a .table) (a .opened) (start .pre)) (a .first) (a .second) (c .before .before .before .before .before .before .before .place-in .ensures (a .links .now) (a .counts .now)) (c .before .before .before .before .before .place .given .1) (c .before .if1 .left) (c .spot-by-classes .ensures (a .links .now) (a .counts .now))
+
+pub spot-of-spec : {M : Type 1} → statement M
+spot-of-spec =
+    tie.close
+    (tie.spec
+    place-in-requires
+    enum-known-place
+    enum-told
+    returns
+    spot-by-set-requires
+    returns-2
+    spot-by-classes-requires
+    returns-3)

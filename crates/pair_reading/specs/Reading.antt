@@ -1,0 +1,90 @@
+-- What the functions of a pair reading take and answer, beside what document 01 says of one. Assumes nothing.
+use Prim.Native.Nat.{ℕ, _+_, _*_, _≤_, _<_}
+use mathlib.Core.Path.{_≡_}
+use mathlib.Core.Bool.{true, _&&_}
+use mathlib.Core.List.{List}
+use mathlib.Core.Option.{Option, some, none}
+use lib.ListN.{length}
+use lib.IntN.{ℤ}
+use lib.Dec.{ltb}
+use Rattle.folds.specs.Folds.{upto}
+use Rattle.folds.specs.Lists.{given, andThen}
+use Rattle.opentype.specs.Values.{fieldCount}
+use Rattle.opentype.specs.ClassDef.{classOf}
+use Rattle.opentype.specs.PairPos.{firstRecord, valuesAt}
+use Rattle.opentype.specs.declared.Reading.{Reading}
+use Rattle.opentype.specs.declared.Reading.the-variants.{Readable}
+use Rattle.object_store.specs.Rows.{Inside}
+use Rattle.pair_pos.specs.declared.Layout.{Layout}
+use Rattle.rules.specs.Store.{Store, lent, sound, bytesOf, childAt}
+use Rattle.rules.specs.Pairs as Pairs
+use Rattle.rules.specs.Answers.{PairOutcome}
+use Rattle.checks.specs.declared.Part.{Part}
+use Rattle.checks.specs.declared.PairTable.{PairTable}
+use Rattle.pair_reading.specs.declared.Found.{Found}
+use Rattle.pair_reading.specs.declared.Found.the-variants as Found
+use Rattle.pair_reading.specs.declared.Spot.{Spot}
+use Rattle.pair_reading.specs.declared.Spot.the-variants as Spot
+use Rattle.pair_reading.specs.declared.PairAnswer.{PairAnswer}
+
+-- ---- answers
+
+-- a record that was found, or none
+abbrev pub asFound : Option ℕ → Found
+asFound (some r) = Found.At r
+asFound none = Found.Nothing
+
+-- where a pair's values stand, or nowhere
+abbrev pub asSpot : Option Pairs.Spot → Spot
+asSpot (some p) = Spot.At (p .object) (p .at)
+asSpot none = Spot.Nowhere
+
+-- "a struct of a flag and two arrays of eight numbers"
+abbrev pub asPair : PairAnswer → Pairs.Pair
+asPair a = record { found = a .found; first = a .first; second = a .second }
+
+-- for contracts: what a pair reading leaves at exit
+abbrev pub pairOutcome : ℕ → ℕ → List ℤ → PairOutcome
+pairOutcome n f v = record { answer = n; found = f; values = v }
+
+-- ---- where the values stand, by what the code holds of a table
+
+-- the part lies within the data, and is what it was read into
+pub record ReadPart (read : List ℕ → Reading) (d o : List ℕ) (p : Part) : Type 0 where
+  pub inside : Inside (length d) o (p .object)
+  pub header : (l c : List ℕ) → read (bytesOf (lent d o l c) (p .object)) ≡ Readable (p .header)
+
+-- the bytes of a pair's two value records
+abbrev pub sizeOf : Layout → ℕ
+sizeOf l = 2 * (fieldCount (l .value1) + fieldCount (l .value2))
+
+-- "the first record in that set with the second glyph"
+unfoldable pub inSet : Store → ℕ → ℕ → ℕ → Option Pairs.Spot
+inSet s size b c = andThen (firstRecord (bytesOf s c) size b) λ r. some (record { object = c; at = valuesAt size r })
+
+-- "if k is below the set count and slot 10+2k has a link"
+unfoldable pub bySet : Store → ℕ → Layout → ℕ → ℕ → Option Pairs.Spot
+bySet s t l b k =
+    andThen (given (ltb k (l .count)) (10 + 2 * k)) λ q.
+    andThen (childAt s t q) (inSet s (sizeOf l) b)
+
+-- "both classes below their counts, then the record at row·class2Count + column"
+unfoldable pub byClasses : Store → ℕ → PairTable → ℕ → ℕ → Option Pairs.Spot
+byClasses s t p a b =
+    let c1 = classOf (bytesOf s (p .class1 .object)) a in
+    let c2 = classOf (bytesOf s (p .class2 .object)) b in
+    given (ltb c1 (p .layout .count) && ltb c2 (p .layout .columns))
+    (record { object = t; at = 16 + p .layout .unit * (c1 * p .layout .columns + c2) })
+
+-- ---- the numbers there
+
+-- a value record of format vf stands at q of object o, whole
+pub record ValueRecord (s : Store) (o q vf : ℕ) : Type 0 where
+  pub sounds : sound s ≡ true
+  pub used : o < s .objectCount
+  pub within : q + 2 * fieldCount vf ≤ length (bytesOf s o)
+
+-- two value records, the second behind the first
+abbrev pub valuePair : Store → ℕ → ℕ → ℕ → ℕ → Pairs.Pair
+valuePair s v w o q =
+    record { found = true; first = upto (Pairs.numberOf s o q v) 8; second = upto (Pairs.numberOf s o (q + 2 * fieldCount v) w) 8 }
