@@ -7,14 +7,14 @@ use mathlib.Core.Option.{Option, some, none}
 use native.Mathlib.Omega.{arith}
 use lib.IntN.{ℤ}
 use Rattle.opentype.specs.Values.{fieldCount}
-use Rattle.opentype.specs.PairPos.{value1, value2, recordSize}
+use Rattle.opentype.specs.PairPos.{value1, value2}
 use Rattle.pair_pos.specs.Layout.{layoutOf}
 use Rattle.pair_pos.specs.declared.Layout.{Layout}
 use Rattle.rules.specs.declared.Answer.{Answer}
-use Rattle.rules.specs.Store.{Store, bytesOf}
+use Rattle.rules.specs.Store.{Store}
 use Rattle.rules.specs.Pairs as Pairs
 use Rattle.rules.specs.Pairs.{spotOf, noPair, pairAt, pairOf}
-use Rattle.rules.specs.Answers.{PairOutcome, number, firstCase, readCases, reported, settlePair, pairCall}
+use Rattle.rules.specs.Answers.{PairOutcome, number, reported, settlePair, pairCall}
 use Rattle.checks.specs.Checked.{checkedOf, refusal}
 use Rattle.checks.specs.declared.PairTable.{PairTable}
 use Rattle.checks.specs.declared.Checked.{Checked}

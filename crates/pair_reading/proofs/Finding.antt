@@ -1,17 +1,16 @@
 -- Where a pair's values stand, step by step. Assumes nothing.
 use Prim.Native.Nat.{ℕ, _+_, _*_, _≤_, _<_}
-use mathlib.Core.Path.{_≡_, refl, sym, ap, ap₂, _∙_}
-use mathlib.Core.Bool.{true, false}
+use mathlib.Core.Path.{_≡_, refl, sym, ap, _∙_}
+use mathlib.Core.Bool.{true}
 use mathlib.Core.List.{List}
 use mathlib.Core.Option.{Option, some, none}
 use native.Mathlib.Nat.{mul-le-mul-left}
 use native.Mathlib.Omega.{arith}
 use lib.ListN.{length}
-use lib.Dec.{eqb, ltb}
+use lib.Dec.{eqb}
 use borrow.Author.Tests.{lt-ltb, le-ltb}
 use Rattle.folds.specs.Lists.{andThen}
-use Rattle.folds.proofs.Tests.{by-test, and-first, and-second}
-use Rattle.opentype.specs.Values.{fieldCount}
+use Rattle.folds.proofs.Tests.{by-test}
 use Rattle.opentype.specs.Coverage.{coverageOf, coverPlace}
 use Rattle.opentype.specs.ClassDef.{classDefOf, classOf}
 use Rattle.opentype.specs.PairPos.{value1, value2, recordSize, firstRecord, valuesAt}

@@ -2,6 +2,6 @@ pub mod Widths
 pub mod Sets
 pub mod Spots
 pub mod Filled
-pub mod Values
+pub mod Fields
 pub mod Finding
 pub mod Answering

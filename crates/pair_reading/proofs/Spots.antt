@@ -2,7 +2,6 @@
 use Prim.Native.Nat.{ℕ, _+_, _*_, _≤_, _<_}
 use mathlib.Core.Path.{_≡_, refl, sym, ap, subst, _∙_}
 use mathlib.Core.Bool.{Bool, true, false, cond, _&&_}
-use mathlib.Core.List.{List}
 use mathlib.Core.Option.{Option, some, none}
 use native.Mathlib.Nat.{mul-comm, mul-assoc}
 use native.Mathlib.Omega.{arith}
@@ -13,7 +12,7 @@ use Rattle.folds.specs.Lists.{given, andThen}
 use Rattle.folds.proofs.Tests.{and-both, by-test, true-false}
 use Rattle.opentype.specs.Coverage.{coverPlace}
 use Rattle.opentype.specs.ClassDef.{classOf}
-use Rattle.opentype.specs.PairPos.{formatOf, columns, recordSize, shape1, shape2, shapeOf, itemAt, firstRecord, valuesAt}
+use Rattle.opentype.specs.PairPos.{columns, recordSize, shape1, shape2, firstRecord, valuesAt}
 use Rattle.opentype.proofs.Shapes as Shapes
 use Rattle.opentype.proofs.Shapes.{Format1, Format2, by-format, format-test}
 use Rattle.pair_pos.specs.Layout.{layoutOf}

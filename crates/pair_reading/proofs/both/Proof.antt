@@ -1,5 +1,5 @@
 -- `pair_reading::both` meets its contract: the numbers before `j` are those of the first list, and then of the second. Assumes nothing.
-use Prim.Native.Nat.{ℕ, _-_}
+use Prim.Native.Nat.{_-_}
 use mathlib.Core.Path.{_≡_, refl, _∙_}
 use mathlib.Core.List.{_++_}
 use lib.IntN.{pos}

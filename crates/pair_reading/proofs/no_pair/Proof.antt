@@ -1,7 +1,6 @@
 -- `pair_reading::no_pair` meets its contract: sixteen zeros. Assumes nothing.
 use mathlib.Core.Path.{refl}
 use Rattle.rules.specs.Pairs.{noPair}
-use borrow.Author.Needs.{needs}
 use Rattle.pair_reading.proofs.no_pair.Statement.{statement}
 use Rattle.pair_reading.proofs.no_pair.Tie as tie
 

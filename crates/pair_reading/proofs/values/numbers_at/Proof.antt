@@ -1,4 +1,4 @@
--- `pair_reading::numbers_at` meets its contract: the fields before `j` are read. Assumes nothing.
+-- `values::numbers_at` meets its contract: the fields before `j` are read. Assumes nothing.
 use Prim.Native.Nat.{_-_}
 use mathlib.Core.Path.{refl, _∙_}
 use lib.IntN.{pos}
@@ -8,8 +8,8 @@ use Rattle.rules.specs.Store.{lent}
 use Rattle.rules.specs.Pairs.{numberOf}
 use Rattle.pair_reading.proofs.Filled.{Filled, unfilled, fill, full}
 use borrow.Author.Needs.{needs}
-use Rattle.pair_reading.proofs.numbers_at.Statement.{statement}
-use Rattle.pair_reading.proofs.numbers_at.Tie as tie
+use Rattle.pair_reading.proofs.values.numbers_at.Statement.{statement}
+use Rattle.pair_reading.proofs.values.numbers_at.Tie as tie
 
 abbrev Inv-loop : tie.InvT-loop
 Inv-loop «data» objects links counts object at format numbers₀ j₀ numbers j = Filled (pos 0) (numberOf (lent «data» objects links counts) object at format) 8 numbers j

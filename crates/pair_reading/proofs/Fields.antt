@@ -1,9 +1,8 @@
 -- The numbers of a value record: a field's bytes stand within the object, and what each kind of field answers. Assumes nothing.
 use Prim.Native.Nat.{ℕ, suc, _+_, _-_, _*_, _≤_, _<_}
 use mathlib.Core.Path.{_≡_, sym, ap, ap₂, _∙_}
-use mathlib.Core.Bool.{Bool, true, false, cond, not}
+use mathlib.Core.Bool.{Bool, true, false, not}
 use mathlib.Core.List.{List}
-use mathlib.Core.Option.{Option, some, none}
 use native.Mathlib.Omega.{arith}
 use lib.ListN.{length}
 use lib.IntN.{ℤ, pos, negsuc, _-ℤ_}
@@ -13,7 +12,7 @@ use mir.Val.{SFits, toZ, ofZ}
 use mir.ValLaws.{toZ-pos, toZ-ofZ}
 use borrow.Author.Tests.{eqb-true, eqb-false, eq-eqb, ne-eqb, lt-ltb, le-ltb, not-true, not-false}
 use Rattle.opentype.specs.Numbers.{u16At, signed16}
-use Rattle.opentype.specs.Values.{bit, fieldAt, fieldCount, position}
+use Rattle.opentype.specs.Values.{bit, fieldAt, position}
 use Rattle.opentype.specs.declared.Field.{Field}
 use Rattle.opentype.proofs.Values.{bit-below, position-more, position-le, position-all}
 use Rattle.object_store.specs.Rows.{Inside, InOrder}
@@ -21,7 +20,7 @@ use Rattle.object_store.specs.Children.{asChild}
 use Rattle.object_store.specs.declared.Child.the-variants.{Of, Nowhere}
 use Rattle.object_store.proofs.Bytes.{inside}
 use Rattle.object_store.proofs.Rows.{in-order}
-use Rattle.rules.specs.Store.{Store, bytesOf, childAt, childOf, sizeOf}
+use Rattle.rules.specs.Store.{Store, bytesOf, childAt, childOf}
 use Rattle.rules.specs.Pairs.{deviceNumber, numberOf}
 use Rattle.rules.proofs.Sound.{Fits, sound-fits, size-bytes}
 use Rattle.rules.proofs.Lookups.{child-row}

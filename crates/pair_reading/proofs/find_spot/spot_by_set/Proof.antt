@@ -1,9 +1,9 @@
--- `pair_reading::spot_by_set` meets its contract: by the count of sets, and by the link at the slot. Assumes nothing.
+-- `find_spot::spot_by_set` meets its contract: by the count of sets, and by the link at the slot. Assumes nothing.
 use Rattle.rules.specs.Store.{lent}
 use Rattle.pair_reading.proofs.Finding.{links-ordered, no-set, no-link, set-inside, in-linked-set}
 use borrow.Author.Needs.{needs}
-use Rattle.pair_reading.proofs.spot_by_set.Statement.{statement}
-use Rattle.pair_reading.proofs.spot_by_set.Tie as tie
+use Rattle.pair_reading.proofs.find_spot.spot_by_set.Statement.{statement}
+use Rattle.pair_reading.proofs.find_spot.spot_by_set.Tie as tie
 
 cast-if1 : tie.Need-cast-if1
 cast-if1 c = search needs

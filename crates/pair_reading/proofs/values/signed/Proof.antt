@@ -1,9 +1,9 @@
--- `pair_reading::signed` meets its contract: from 32,768 on, 65,536 is taken off. Assumes nothing.
+-- `values::signed` meets its contract: from 32,768 on, 65,536 is taken off. Assumes nothing.
 use native.Mathlib.Omega.{arith}
-use Rattle.pair_reading.proofs.Values.{small-signed, difference-fits, large-signed}
+use Rattle.pair_reading.proofs.Fields.{small-signed, difference-fits, large-signed}
 use borrow.Author.Needs.{needs}
-use Rattle.pair_reading.proofs.signed.Statement.{statement}
-use Rattle.pair_reading.proofs.signed.Tie as tie
+use Rattle.pair_reading.proofs.values.signed.Statement.{statement}
+use Rattle.pair_reading.proofs.values.signed.Tie as tie
 
 cast-result : tie.Need-cast-result
 cast-result c = search needs

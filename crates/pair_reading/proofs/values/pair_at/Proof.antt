@@ -1,4 +1,4 @@
--- `pair_reading::pair_at` meets its contract: two value records, the second behind the first. Assumes nothing.
+-- `values::pair_at` meets its contract: two value records, the second behind the first. Assumes nothing.
 use mathlib.Core.Path.{sym, subst, ap, _∙_}
 use mathlib.Core.Bool.{true}
 use Prim.Native.Nat.{ℕ, _+_, _*_}
@@ -7,10 +7,10 @@ use Rattle.folds.specs.Folds.{upto}
 use Rattle.rules.specs.Store.{lent}
 use Rattle.rules.specs.Pairs.{numberOf}
 use Rattle.pair_reading.specs.Reading.{ValueRecord}
-use Rattle.pair_reading.proofs.Values.{object-small}
+use Rattle.pair_reading.proofs.Fields.{object-small}
 use borrow.Author.Needs.{needs}
-use Rattle.pair_reading.proofs.pair_at.Statement.{statement}
-use Rattle.pair_reading.proofs.pair_at.Tie as tie
+use Rattle.pair_reading.proofs.values.pair_at.Statement.{statement}
+use Rattle.pair_reading.proofs.values.pair_at.Tie as tie
 
 numbers-at-requires : tie.Need-numbers-at-requires
 numbers-at-requires c κs = search needs

@@ -1,11 +1,11 @@
--- `pair_reading::class_in` meets its contract: the part was read. Assumes nothing.
+-- `find_spot::class_in` meets its contract: the part was read. Assumes nothing.
 use mathlib.Core.Path.{_∙_, ap}
 use mathlib.Core.List.{List, []}
 use Prim.Native.Nat.{ℕ}
 use Rattle.opentype.specs.ClassDef.{classDefOf, classOf}
 use borrow.Author.Needs.{needs}
-use Rattle.pair_reading.proofs.class_in.Statement.{statement}
-use Rattle.pair_reading.proofs.class_in.Tie as tie
+use Rattle.pair_reading.proofs.find_spot.class_in.Statement.{statement}
+use Rattle.pair_reading.proofs.find_spot.class_in.Tie as tie
 
 cast-bytes-of : tie.Need-cast-bytes-of
 cast-bytes-of c = search needs

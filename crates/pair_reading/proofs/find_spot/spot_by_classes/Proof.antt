@@ -1,10 +1,10 @@
--- `pair_reading::spot_by_classes` meets its contract: by the row, then by the column. Assumes nothing.
+-- `find_spot::spot_by_classes` meets its contract: by the row, then by the column. Assumes nothing.
 use native.Mathlib.Omega.{arith}
 use Rattle.rules.specs.Store.{lent}
 use Rattle.pair_reading.proofs.Finding.{place-fits, no-row, no-column, in-column}
 use borrow.Author.Needs.{needs}
-use Rattle.pair_reading.proofs.spot_by_classes.Statement.{statement}
-use Rattle.pair_reading.proofs.spot_by_classes.Tie as tie
+use Rattle.pair_reading.proofs.find_spot.spot_by_classes.Statement.{statement}
+use Rattle.pair_reading.proofs.find_spot.spot_by_classes.Tie as tie
 
 class-in-requires : tie.Need-class-in-requires
 class-in-requires c κs = search needs
@@ -33,11 +33,11 @@ cast-record-3 c = search needs
 add-record : tie.Need-add-record
 add-record c = let a = c .before .before .before .before .before .before .before .before .before .before .before .before .args in omega (arith, place-fits (a .opened .layout .unit) (c .before .before .before .before .before .before .before .class-in .result) (a .opened .layout .columns) (c .before .before .before .class-in2 .result) (c .before .before .before .before .before .before .before .before .before .before .before .before .pre .0) (omega arith) (omega arith) (omega arith))
 
-mul-t14 : tie.Need-mul-t14
-mul-t14 c = let a = c .before .before .before .before .before .before .before .before .before .before .before .before .before .args in omega (arith, place-fits (a .opened .layout .unit) (c .before .before .before .before .before .before .before .before .class-in .result) (a .opened .layout .columns) (c .before .before .before .before .class-in2 .result) (c .before .before .before .before .before .before .before .before .before .before .before .before .before .pre .0) (omega arith) (omega arith) (omega arith))
+mul-at : tie.Need-mul-at
+mul-at c = let a = c .before .before .before .before .before .before .before .before .before .before .before .before .before .args in omega (arith, place-fits (a .opened .layout .unit) (c .before .before .before .before .before .before .before .before .class-in .result) (a .opened .layout .columns) (c .before .before .before .before .class-in2 .result) (c .before .before .before .before .before .before .before .before .before .before .before .before .before .pre .0) (omega arith) (omega arith) (omega arith))
 
-add-t17 : tie.Need-add-t17
-add-t17 c = let a = c .before .before .before .before .before .before .before .before .before .before .before .before .before .args in omega (arith, place-fits (a .opened .layout .unit) (c .before .before .before .before .before .before .before .before .class-in .result) (a .opened .layout .columns) (c .before .before .before .before .class-in2 .result) (c .before .before .before .before .before .before .before .before .before .before .before .before .before .pre .0) (omega arith) (omega arith) (omega arith))
+add-at : tie.Need-add-at
+add-at c = let a = c .before .before .before .before .before .before .before .before .before .before .before .before .before .args in omega (arith, place-fits (a .opened .layout .unit) (c .before .before .before .before .before .before .before .before .class-in .result) (a .opened .layout .columns) (c .before .before .before .before .class-in2 .result) (c .before .before .before .before .before .before .before .before .before .before .before .before .before .pre .0) (omega arith) (omega arith) (omega arith))
 
 returns-3 : tie.Need-returns-3
 returns-3 c l k = let a = c .before .before .before .before .before .before .before .before .before .before .before .before .before .args in in-column (lent (a .«data» .now) (a .objects .now) l k) (a .table) (a .opened) (a .first) (a .second) (c .before .before .before .before .before .before .before .before .class-in .ensures l k) (c .before .before .before .before .before .before .if1 .left) (c .before .before .before .before .class-in2 .ensures l k) (c .before .before .if2 .left)
@@ -55,6 +55,6 @@ spot-by-classes-spec =
     mul-record
     cast-record-3
     add-record
-    mul-t14
-    add-t17
+    mul-at
+    add-at
     returns-3)

@@ -1,4 +1,4 @@
--- `pair_reading::number_at` meets its contract: absent, device or plain. Assumes nothing.
+-- `values::number_at` meets its contract: absent, device or plain. Assumes nothing.
 use mathlib.Core.Path.{ap, _∙_}
 use mir.Syntax.{w32}
 use mir.ValLaws.{toZ-ofZ}
@@ -6,10 +6,10 @@ use native.Mathlib.Omega.{arith}
 use Prim.Native.Nat.{ℕ}
 use lib.ListN.{length}
 use mathlib.Core.List.{List}
-use Rattle.pair_reading.proofs.Values.{object-inside, links-in-order, children-small, object-small, absent, field-within, device, plain}
+use Rattle.pair_reading.proofs.Fields.{object-inside, links-in-order, children-small, object-small, absent, field-within, device, plain}
 use borrow.Author.Needs.{needs}
-use Rattle.pair_reading.proofs.number_at.Statement.{statement}
-use Rattle.pair_reading.proofs.number_at.Tie as tie
+use Rattle.pair_reading.proofs.values.number_at.Statement.{statement}
+use Rattle.pair_reading.proofs.values.number_at.Tie as tie
 
 has-field-requires : tie.Need-has-field-requires
 has-field-requires c κs = search needs

@@ -1,12 +1,12 @@
--- `pair_reading::device_number` meets its contract: by the link, whose child has a number of sixteen bits. Assumes nothing.
+-- `values::device_number` meets its contract: by the link, whose child has a number of sixteen bits. Assumes nothing.
 use mathlib.Core.Path.{sym, _∙_}
 use mathlib.Core.List.{[]}
 use native.Mathlib.Omega.{arith}
 use Rattle.rules.specs.Store.{lent}
-use Rattle.pair_reading.proofs.Values.{child-small, device-linked, device-none}
+use Rattle.pair_reading.proofs.Fields.{child-small, device-linked, device-none}
 use borrow.Author.Needs.{needs}
-use Rattle.pair_reading.proofs.device_number.Statement.{statement}
-use Rattle.pair_reading.proofs.device_number.Tie as tie
+use Rattle.pair_reading.proofs.values.device_number.Statement.{statement}
+use Rattle.pair_reading.proofs.values.device_number.Tie as tie
 
 child-at-requires : tie.Need-child-at-requires
 child-at-requires c κs = search needs

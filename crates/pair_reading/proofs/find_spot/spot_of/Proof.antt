@@ -1,10 +1,10 @@
--- `pair_reading::spot_of` meets its contract: the first glyph is covered, and then by the format. Assumes nothing.
+-- `find_spot::spot_of` meets its contract: the first glyph is covered, and then by the format. Assumes nothing.
 use Rattle.rules.specs.Store.{lent}
 use Rattle.checks.proofs.Refusals.{opens}
 use Rattle.pair_reading.proofs.Finding.{coverage-part, class1-part, class2-part, unit-small, not-covered, by-its-set, by-its-classes}
 use borrow.Author.Needs.{needs}
-use Rattle.pair_reading.proofs.spot_of.Statement.{statement}
-use Rattle.pair_reading.proofs.spot_of.Tie as tie
+use Rattle.pair_reading.proofs.find_spot.spot_of.Statement.{statement}
+use Rattle.pair_reading.proofs.find_spot.spot_of.Tie as tie
 
 place-in-requires : tie.Need-place-in-requires
 place-in-requires c κs =

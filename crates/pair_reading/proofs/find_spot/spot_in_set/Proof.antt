@@ -1,10 +1,10 @@
--- `pair_reading::spot_in_set` meets its contract: by what the search finds. Assumes nothing.
+-- `find_spot::spot_in_set` meets its contract: by what the search finds. Assumes nothing.
 use native.Mathlib.Omega.{arith}
 use Rattle.rules.specs.Store.{lent}
 use Rattle.pair_reading.proofs.Finding.{record-in, no-record-in, record-place}
 use borrow.Author.Needs.{needs}
-use Rattle.pair_reading.proofs.spot_in_set.Statement.{statement}
-use Rattle.pair_reading.proofs.spot_in_set.Tie as tie
+use Rattle.pair_reading.proofs.find_spot.spot_in_set.Statement.{statement}
+use Rattle.pair_reading.proofs.find_spot.spot_in_set.Tie as tie
 
 bytes-of-requires : tie.Need-bytes-of-requires
 bytes-of-requires c κs = search needs
@@ -15,14 +15,14 @@ record-in-set-requires c κs = search needs
 enum-known-found : tie.Need-enum-known-found
 enum-known-found c = search needs
 
-add-t11 : tie.Need-add-t11
-add-t11 c = search needs
+add-at : tie.Need-add-at
+add-at c = search needs
 
-mul-t12 : tie.Need-mul-t12
-mul-t12 c = let a = c .before .before .before .before .before .before .before .args in omega (arith, record-place (c .before .before .before .before .bytes-of .result .now) (a .size) (a .second) _ (c .before .before .before .record-in-set .ensures) (c .before .found .given .1))
+mul-at : tie.Need-mul-at
+mul-at c = let a = c .before .before .before .before .before .before .before .args in omega (arith, record-place (c .before .before .before .before .bytes-of .result .now) (a .size) (a .second) _ (c .before .before .before .record-in-set .ensures) (c .before .found .given .1))
 
-add-t13 : tie.Need-add-t13
-add-t13 c = let a = c .before .before .before .before .before .before .before .args in omega (arith, record-place (c .before .before .before .before .bytes-of .result .now) (a .size) (a .second) _ (c .before .before .before .record-in-set .ensures) (c .before .found .given .1))
+add-at-2 : tie.Need-add-at-2
+add-at-2 c = let a = c .before .before .before .before .before .before .before .args in omega (arith, record-place (c .before .before .before .before .bytes-of .result .now) (a .size) (a .second) _ (c .before .before .before .record-in-set .ensures) (c .before .found .given .1))
 
 enum-told : tie.Need-enum-told
 enum-told c = search needs
@@ -40,9 +40,9 @@ spot-in-set-spec =
     bytes-of-requires
     record-in-set-requires
     enum-known-found
-    add-t11
-    mul-t12
-    add-t13
+    add-at
+    mul-at
+    add-at-2
     enum-told
     returns
     returns-2)

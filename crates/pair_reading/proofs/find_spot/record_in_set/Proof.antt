@@ -1,10 +1,10 @@
--- `pair_reading::record_in_set` meets its contract: the records before `r` are of other glyphs. Assumes nothing.
+-- `find_spot::record_in_set` meets its contract: the records before `r` are of other glyphs. Assumes nothing.
 use Prim.Native.Nat.{_-_}
 use native.Mathlib.Omega.{arith}
 use Rattle.pair_reading.proofs.Sets.{Searched, no-count, too-short, records-fit, start, glyph-within, next, hit, miss}
 use borrow.Author.Needs.{needs}
-use Rattle.pair_reading.proofs.record_in_set.Statement.{statement}
-use Rattle.pair_reading.proofs.record_in_set.Tie as tie
+use Rattle.pair_reading.proofs.find_spot.record_in_set.Statement.{statement}
+use Rattle.pair_reading.proofs.find_spot.record_in_set.Tie as tie
 
 abbrev Inv-loop : tie.InvT-loop
 Inv-loop set size glyph count r₀ r = Searched set size glyph count r

@@ -1,12 +1,12 @@
--- `pair_reading::place_in` meets its contract: the part was read. Assumes nothing.
+-- `find_spot::place_in` meets its contract: the part was read. Assumes nothing.
 use mathlib.Core.Path.{_∙_, ap}
 use mathlib.Core.List.{List, []}
 use Prim.Native.Nat.{ℕ}
 use Rattle.opentype.specs.Coverage.{coverageOf, coverPlace}
 use Rattle.coverage_graph.specs.Coverage.{placeOf}
 use borrow.Author.Needs.{needs}
-use Rattle.pair_reading.proofs.place_in.Statement.{statement}
-use Rattle.pair_reading.proofs.place_in.Tie as tie
+use Rattle.pair_reading.proofs.find_spot.place_in.Statement.{statement}
+use Rattle.pair_reading.proofs.find_spot.place_in.Tie as tie
 
 cast-bytes-of : tie.Need-cast-bytes-of
 cast-bytes-of c = search needs

@@ -1,0 +1,174 @@
+// Where a pair's values stand: in format 1 by the set of the first glyph's place, in format 2 by the classes of both glyphs.
+use crate::Found;
+use crate::Spot;
+use checks::Checked;
+use checks::PairTable;
+use checks::Part;
+use class_def::class_of;
+use coverage_graph::Place;
+use coverage_graph::place_of;
+use object_store::Child;
+use object_store::bytes_of;
+use object_store::child_at;
+use pair_pos::Layout;
+use pair_pos::record_size;
+use wire::u16_at;
+ghost use mathlib.Core.Path.{_≡_};
+ghost use mathlib.Core.Bool.{true};
+ghost use mathlib.Core.List.{List};
+ghost use Prim.Native.Nat.{ℕ, _≤_};
+ghost use lib.ListN.{length};
+ghost use Rattle.object_store.specs.Rows.{Inside};
+ghost use Rattle.opentype.specs.Coverage.{coverageOf, coverPlace};
+ghost use Rattle.opentype.specs.ClassDef.{classDefOf, classOf};
+ghost use Rattle.opentype.specs.PairPos.{firstRecord};
+ghost use Rattle.coverage_graph.specs.Coverage.{placeOf};
+ghost use Rattle.rules.specs.Store.{lent, sound, bytesOf};
+ghost use Rattle.rules.specs.Pairs.{spotOf};
+ghost use Rattle.checks.specs.Checked.{checkedOf};
+ghost use Rattle.pair_reading.specs.Reading.{asFound, asSpot, ReadPart, inSet, bySet, byClasses};
+
+// The first record of a pair set with the second glyph, where a record has `size` bytes behind its glyph.
+// A set under two bytes or too short for its count has no pairs.
+fn record_in_set(set: &[u8], size: usize, glyph: u16) -> Found
+    requires { ⌜ size ≤ 32 ⌝ }
+    ensures { λ r. ⌜ r ≡ asFound (firstRecord (now (set .entry)) size glyph) ⌝ }
+{
+    if set.len() < 2 {
+        return Found::Nothing;
+    }
+    let count = u16_at(set, 0) as usize;
+    if set.len() < 2 + (2 + size) * count {
+        return Found::Nothing;
+    }
+    let mut r: usize = 0;
+    while r < count {
+        if u16_at(set, 2 + (2 + size) * r) == glyph {
+            return Found::At(r);
+        }
+        r += 1;
+    }
+    Found::Nothing
+}
+
+// The values of the second glyph in the pair set `object`.
+fn spot_in_set(data: &[u8], objects: &[u32], object: u32, size: usize, second: u16) -> Spot
+    requires { ⌜ Inside (length (now «data»)) (now objects) object ⌝ }
+    requires { ⌜ size ≤ 32 ⌝ }
+    ensures { λ r. ⌜ ((l c : List ℕ) → r ≡ asSpot (inSet (lent (now («data» .entry)) (now (objects .entry)) l c) size second object)) ⌝ }
+{
+    let set = bytes_of(data, objects, object as usize);
+    let found = record_in_set(set, size, second);
+    match found {
+        Found::At(r) => {
+            let at = 4 + (2 + size) * r;
+            Spot::At { object, at }
+        }
+        Found::Nothing => Spot::Nowhere,
+    }
+}
+
+// Format 1: in the set that is linked at slot `k`.
+fn spot_by_set(
+    data: &[u8],
+    objects: &[u32],
+    links: &[u32],
+    counts: &[u32; 3],
+    table: u32,
+    layout: Layout,
+    k: usize,
+    second: u16,
+) -> Spot
+    requires { ⌜ sound (lent (now «data») (now objects) (now links) (now counts)) ≡ true ⌝ }
+    ensures { λ r. ⌜ r ≡ asSpot (bySet (lent (now («data» .entry)) (now (objects .entry)) (now (links .entry)) (now (counts .entry))) table layout second k) ⌝ }
+{
+    if (layout.count as usize) <= k {
+        return Spot::Nowhere;
+    }
+    let child = child_at(links, counts, table, (10 + 2 * k) as u32);
+    let Child::Of(object) = child else {
+        return Spot::Nowhere;
+    };
+    let size = record_size(layout.value1, layout.value2);
+    spot_in_set(data, objects, object, size, second)
+}
+
+// The glyph's class by a class definition that was read.
+fn class_in(data: &[u8], objects: &[u32], part: Part, glyph: u16) -> u16
+    requires { ⌜ ReadPart classDefOf (now «data») (now objects) part ⌝ }
+    ensures { λ r. ⌜ ((l c : List ℕ) → r ≡ classOf (bytesOf (lent (now («data» .entry)) (now (objects .entry)) l c) (part .object)) glyph) ⌝ }
+{
+    class_of(
+        bytes_of(data, objects, part.object as usize),
+        part.header,
+        glyph,
+    )
+}
+
+// Format 2: in the row of the first glyph's class and the column of the second's.
+fn spot_by_classes(
+    data: &[u8],
+    objects: &[u32],
+    table: u32,
+    opened: PairTable,
+    first: u16,
+    second: u16,
+) -> Spot
+    requires { ⌜ opened .layout .unit ≤ 32 ⌝ }
+    requires { ⌜ ReadPart classDefOf (now «data») (now objects) (opened .class1) ⌝ }
+    requires { ⌜ ReadPart classDefOf (now «data») (now objects) (opened .class2) ⌝ }
+    ensures { λ r. ⌜ ((l c : List ℕ) → r ≡ asSpot (byClasses (lent (now («data» .entry)) (now (objects .entry)) l c) table opened first second)) ⌝ }
+{
+    let layout = opened.layout;
+    let class1 = opened.class1;
+    let row = class_in(data, objects, class1, first);
+    if layout.count <= row {
+        return Spot::Nowhere;
+    }
+    let class2 = opened.class2;
+    let column = class_in(data, objects, class2, second);
+    if layout.columns <= column {
+        return Spot::Nowhere;
+    }
+    let record = (row as usize) * (layout.columns as usize) + (column as usize);
+    let at = 16 + layout.unit * record;
+    Spot::At { object: table, at }
+}
+
+// The glyph's place in a coverage that was read.
+fn place_in(data: &[u8], objects: &[u32], part: Part, glyph: u16) -> Place
+    requires { ⌜ ReadPart coverageOf (now «data») (now objects) part ⌝ }
+    ensures { λ r. ⌜ ((l c : List ℕ) → r ≡ placeOf (coverPlace (bytesOf (lent (now («data» .entry)) (now (objects .entry)) l c) (part .object)) glyph)) ⌝ }
+{
+    place_of(
+        bytes_of(data, objects, part.object as usize),
+        part.header,
+        glyph,
+    )
+}
+
+// In either format: the first glyph is covered, and then by its set or by both classes.
+pub fn spot_of(
+    data: &[u8],
+    objects: &[u32],
+    links: &[u32],
+    counts: &[u32; 3],
+    table: u32,
+    opened: PairTable,
+    first: u16,
+    second: u16,
+) -> Spot
+    requires { ⌜ checkedOf (lent (now «data») (now objects) (now links) (now counts)) table ≡ Checked.Open opened ⌝ }
+    ensures { λ r. ⌜ r ≡ asSpot (spotOf (lent (now («data» .entry)) (now (objects .entry)) (now (links .entry)) (now (counts .entry))) table first second) ⌝ }
+{
+    let coverage = opened.coverage;
+    let place = place_in(data, objects, coverage, first);
+    let Place::At(k) = place else {
+        return Spot::Nowhere;
+    };
+    let layout = opened.layout;
+    if layout.format == 1 {
+        return spot_by_set(data, objects, links, counts, table, layout, k, second);
+    }
+    spot_by_classes(data, objects, table, opened, first, second)
+}
