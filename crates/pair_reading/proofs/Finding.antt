@@ -97,14 +97,6 @@ module _ (s : Store) (t : ℕ) (l : Layout) (b k : ℕ) where
 
 -- ---- format 2
 
--- a record's place among rows and columns is counted without wrapping
-pub place-fits : (u x m y : ℕ) → u ≤ 32 → x < 65536 → m < 65536 → y < 65536 → (x * m ≤ 65536 * 65536) × (u * (x * m + y) ≤ 32 * (65536 * 65536 + 65536))
-place-fits u x m y h i j k =
-    let a : x * m ≤ x * 65536 = mul-le-mul-left x (omega arith) in
-    let b : x * m ≤ 65536 * 65536 = omega arith in
-    let c : u * (x * m + y) ≤ u * (65536 * 65536 + 65536) = mul-le-mul-left u (omega arith) in
-    (b, omega arith)
-
 module _ (s : Store) (t : ℕ) (p : PairTable) (a b : ℕ) {x : ℕ} (e : x ≡ classOf (bytesOf s (p .class1 .object)) a) where
   pub no-row : p .layout .count ≤ x → Spot.Nowhere ≡ asSpot (byClasses s t p a b)
   unfolding byClasses
@@ -115,9 +107,9 @@ module _ (s : Store) (t : ℕ) (p : PairTable) (a b : ℕ) {x : ℕ} (e : x ≡ 
     unfolding byClasses
     no-column k = rw (← e, ← f, lt-ltb x (p .layout .count) h, le-ltb y (p .layout .columns) k)
 
-    pub in-column : y < p .layout .columns → Spot.At t (16 + p .layout .unit * (x * p .layout .columns + y)) ≡ asSpot (byClasses s t p a b)
+    pub in-column : {r : Spot} → y < p .layout .columns → r ≡ Spot.At t (16 + p .layout .unit * (x * p .layout .columns + y)) → r ≡ asSpot (byClasses s t p a b)
     unfolding byClasses
-    in-column k = rw (← e, ← f, lt-ltb x (p .layout .count) h, lt-ltb y (p .layout .columns) k)
+    in-column k q = q ∙ rw (← e, ← f, lt-ltb x (p .layout .count) h, lt-ltb y (p .layout .columns) k)
 
 -- ---- in either format
 

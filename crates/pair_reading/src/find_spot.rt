@@ -16,7 +16,7 @@ use wire::u16_at;
 ghost use mathlib.Core.Path.{_≡_};
 ghost use mathlib.Core.Bool.{true};
 ghost use mathlib.Core.List.{List};
-ghost use Prim.Native.Nat.{ℕ, _≤_};
+ghost use Prim.Native.Nat.{ℕ, _+_, _*_, _≤_};
 ghost use lib.ListN.{length};
 ghost use Rattle.object_store.specs.Rows.{Inside};
 ghost use Rattle.opentype.specs.Coverage.{coverageOf, coverPlace};
@@ -105,6 +105,16 @@ fn class_in(data: &[u8], objects: &[u32], part: Part, glyph: u16) -> u16
     )
 }
 
+// The record of a row and a column.
+fn spot_in_row(table: u32, layout: Layout, row: u16, column: u16) -> Spot
+    requires { ⌜ layout .unit ≤ 32 ⌝ }
+    ensures { λ r. ⌜ r ≡ Spot.At table (16 + layout .unit * (row * layout .columns + column)) ⌝ }
+{
+    let record = (row as usize) * (layout.columns as usize) + (column as usize);
+    let at = 16 + layout.unit * record;
+    Spot::At { object: table, at }
+}
+
 // Format 2: in the row of the first glyph's class and the column of the second's.
 fn spot_by_classes(
     data: &[u8],
@@ -130,9 +140,7 @@ fn spot_by_classes(
     if layout.columns <= column {
         return Spot::Nowhere;
     }
-    let record = (row as usize) * (layout.columns as usize) + (column as usize);
-    let at = 16 + layout.unit * record;
-    Spot::At { object: table, at }
+    spot_in_row(table, layout, row, column)
 }
 
 // The glyph's place in a coverage that was read.

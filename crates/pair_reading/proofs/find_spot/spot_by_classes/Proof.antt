@@ -1,46 +1,33 @@
 -- `find_spot::spot_by_classes` meets its contract: by the row, then by the column. Assumes nothing.
-use native.Mathlib.Omega.{arith}
 use Rattle.rules.specs.Store.{lent}
-use Rattle.pair_reading.proofs.Finding.{place-fits, no-row, no-column, in-column}
+use Rattle.pair_reading.proofs.Finding.{no-row, no-column, in-column}
 use borrow.Author.Needs.{needs}
 use Rattle.pair_reading.proofs.find_spot.spot_by_classes.Statement.{statement}
 use Rattle.pair_reading.proofs.find_spot.spot_by_classes.Tie as tie
 
+-- src/find_spot.rt:134:9
 class-in-requires : tie.Need-class-in-requires
 class-in-requires c κs = search needs
 
+-- src/find_spot.rt:136:9
 returns : tie.Need-returns
 returns c l k = let a = c .before .before .before .before .before .before .before .args in no-row (lent (a .«data» .now) (a .objects .now) l k) (a .table) (a .opened) (a .first) (a .second) (c .before .before .class-in .ensures l k) (c .if1 .taken)
 
+-- src/find_spot.rt:139:9
 class-in-requires-2 : tie.Need-class-in-requires-2
 class-in-requires-2 c κs = search needs
 
+-- src/find_spot.rt:141:9
 returns-2 : tie.Need-returns-2
 returns-2 c l k = let a = c .before .before .before .before .before .before .before .before .before .before .before .args in no-column (lent (a .«data» .now) (a .objects .now) l k) (a .table) (a .opened) (a .first) (a .second) (c .before .before .before .before .before .before .class-in .ensures l k) (c .before .before .before .before .if1 .left) (c .before .before .class-in2 .ensures l k) (c .if2 .taken)
 
-cast-record : tie.Need-cast-record
-cast-record c = search needs
+-- src/find_spot.rt:143:5
+spot-in-row-requires : tie.Need-spot-in-row-requires
+spot-in-row-requires c κs = search needs
 
-cast-record-2 : tie.Need-cast-record-2
-cast-record-2 c = search needs
-
-mul-record : tie.Need-mul-record
-mul-record c = let a = c .before .before .before .before .before .before .before .before .before .before .before .before .args in omega (arith, place-fits (a .opened .layout .unit) (c .before .before .before .before .before .before .before .class-in .result) (a .opened .layout .columns) (c .before .before .before .class-in2 .result) (c .before .before .before .before .before .before .before .before .before .before .before .before .pre .0) (omega arith) (omega arith) (omega arith))
-
-cast-record-3 : tie.Need-cast-record-3
-cast-record-3 c = search needs
-
-add-record : tie.Need-add-record
-add-record c = let a = c .before .before .before .before .before .before .before .before .before .before .before .before .args in omega (arith, place-fits (a .opened .layout .unit) (c .before .before .before .before .before .before .before .class-in .result) (a .opened .layout .columns) (c .before .before .before .class-in2 .result) (c .before .before .before .before .before .before .before .before .before .before .before .before .pre .0) (omega arith) (omega arith) (omega arith))
-
-mul-at : tie.Need-mul-at
-mul-at c = let a = c .before .before .before .before .before .before .before .before .before .before .before .before .before .args in omega (arith, place-fits (a .opened .layout .unit) (c .before .before .before .before .before .before .before .before .class-in .result) (a .opened .layout .columns) (c .before .before .before .before .class-in2 .result) (c .before .before .before .before .before .before .before .before .before .before .before .before .before .pre .0) (omega arith) (omega arith) (omega arith))
-
-add-at : tie.Need-add-at
-add-at c = let a = c .before .before .before .before .before .before .before .before .before .before .before .before .before .args in omega (arith, place-fits (a .opened .layout .unit) (c .before .before .before .before .before .before .before .before .class-in .result) (a .opened .layout .columns) (c .before .before .before .before .class-in2 .result) (c .before .before .before .before .before .before .before .before .before .before .before .before .before .pre .0) (omega arith) (omega arith) (omega arith))
-
+-- src/find_spot.rt:119:1
 returns-3 : tie.Need-returns-3
-returns-3 c l k = let a = c .before .before .before .before .before .before .before .before .before .before .before .before .before .args in in-column (lent (a .«data» .now) (a .objects .now) l k) (a .table) (a .opened) (a .first) (a .second) (c .before .before .before .before .before .before .before .before .class-in .ensures l k) (c .before .before .before .before .before .before .if1 .left) (c .before .before .before .before .class-in2 .ensures l k) (c .before .before .if2 .left)
+returns-3 c l k = let a = c .before .before .before .before .before .before .before .before .before .before .before .before .args in in-column (lent (a .«data» .now) (a .objects .now) l k) (a .table) (a .opened) (a .first) (a .second) (c .before .before .before .before .before .before .before .class-in .ensures l k) (c .before .before .before .before .before .if1 .left) (c .before .before .before .class-in2 .ensures l k) (c .before .if2 .left) (c .spot-in-row .ensures)
 
 pub spot-by-classes-spec : {M : Type 1} → statement M
 spot-by-classes-spec =
@@ -50,11 +37,5 @@ spot-by-classes-spec =
     returns
     class-in-requires-2
     returns-2
-    cast-record
-    cast-record-2
-    mul-record
-    cast-record-3
-    add-record
-    mul-at
-    add-at
+    spot-in-row-requires
     returns-3)

@@ -1,0 +1,33 @@
+-- `find_spot::spot_in_row` meets its contract: nothing wraps. Assumes nothing.
+use native.Mathlib.Omega.{arith}
+use Rattle.pair_reading.proofs.Widths.{row-fits, place-fits, behind-fits}
+use borrow.Author.Needs.{needs}
+use Rattle.pair_reading.proofs.find_spot.spot_in_row.Statement.{statement}
+use Rattle.pair_reading.proofs.find_spot.spot_in_row.Tie as tie
+
+-- src/find_spot.rt:113:36
+cast-record : tie.Need-cast-record
+cast-record c = search needs
+
+-- src/find_spot.rt:113:18
+mul-record : tie.Need-mul-record
+mul-record c = let a = c .before .args in omega (arith, row-fits (a .row) (a .layout .columns) (omega arith) (omega arith))
+
+-- src/find_spot.rt:113:18
+add-record : tie.Need-add-record
+add-record c = let a = c .before .args in omega (arith, row-fits (a .row) (a .layout .columns) (omega arith) (omega arith))
+
+-- src/find_spot.rt:114:19
+mul-at : tie.Need-mul-at
+mul-at c = let a = c .before .before .args in record { fits = place-fits _ _ (c .before .before .pre) (omega (arith, row-fits (a .row) (a .layout .columns) (omega arith) (omega arith))) }
+
+-- src/find_spot.rt:114:14
+add-at : tie.Need-add-at
+add-at c = let a = c .before .before .args in record { fits = behind-fits _ _ (c .before .before .pre) (omega (arith, row-fits (a .row) (a .layout .columns) (omega arith) (omega arith))) }
+
+-- src/find_spot.rt:109:1
+returns : tie.Need-returns
+returns c = search needs
+
+pub spot-in-row-spec : {M : Type 1} → statement M
+spot-in-row-spec = tie.close (tie.spec cast-record mul-record add-record mul-at add-at returns)
