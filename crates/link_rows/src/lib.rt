@@ -1,9 +1,9 @@
 // Link rows, four numbers each, rewritten in place when a table is split: the rows of the items that are cut off become rows of the new tables.
 ghost use mathlib.Core.Path.{_≡_};
 ghost use mathlib.Core.Bool.{cond};
-ghost use mathlib.Core.List.{List, [], _∷_, _++_};
+ghost use mathlib.Core.List.{List, [], _++_};
 ghost use Prim.Native.Nat.{ℕ, _+_, _-_, _*_, _≤_, _<_};
-ghost use lib.ListN.{length, getD};
+ghost use lib.ListN.{length};
 ghost use lib.Dec.{eqb};
 ghost use Rattle.folds.specs.Lists.{put};
 ghost use Rattle.rules.specs.Store.{lent, perLink};

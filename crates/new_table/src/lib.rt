@@ -4,7 +4,7 @@ use buffers::zero_bytes;
 use wire::put_u16;
 ghost use mathlib.Core.Path.{_≡_};
 ghost use mathlib.Core.List.{_++_};
-ghost use Prim.Native.Nat.{ℕ, _+_, _-_, _*_, _≤_};
+ghost use Prim.Native.Nat.{_+_, _-_, _*_, _≤_};
 ghost use lib.ListN.{length};
 ghost use Rattle.folds.specs.Lists.{put, part};
 ghost use Rattle.opentype.specs.Numbers.{be16};
