@@ -1,9 +1,13 @@
+mod Sifting
 pub mod Parting
-pub mod Beside
-pub mod Planning
+mod Beside
+mod Planning
 mod Writing
 mod Lengths
 mod Tables
 mod Parts
 mod Looping
-pub mod Ordering
+mod Ordering
+pub mod Keys
+pub mod Arranging
+pub mod Stored

@@ -43,7 +43,7 @@ put-back xs ys zs a b h e l =
 
 -- ---- bounds
 
-halved-only : (ks : List ℕ) (h a b : ℕ) → Halved ks h a → Halved ks h b → a ≡ b
+pub halved-only : (ks : List ℕ) (h a b : ℕ) → Halved ks h a → Halved ks h b → a ≡ b
 halved-only ks h a b v w =
     let i1 = v .inside in
     let i2 = w .inside in
@@ -53,7 +53,7 @@ halved-only ks h a b v w =
     (either a b)
 
 -- a lower bound is reached no later
-halved-rise : (ks : List ℕ) (g h a b : ℕ) → g ≤ h → Halved ks g a → Halved ks h b → a ≤ b
+pub halved-rise : (ks : List ℕ) (g h a b : ℕ) → g ≤ h → Halved ks g a → Halved ks h b → a ≤ b
 halved-rise ks g h a b l v w =
     let i1 = v .inside in
     ⊎-elim (λ lt. let no : ⊥ = omega (arith, v .low b lt, w .high b (omega arith) (omega arith)) in absurd no) (λ le. le) (either b a)
@@ -76,7 +76,7 @@ module _ (gs ks cs : List ℕ) (n : ℕ) (p : Sorted gs ks cs n) where
       (either (suc k) (length cs))
 
   -- an earlier table ends no later than a later one starts
-  high-low : (k m : ℕ) → k < m → m ≤ length cs → highAt n cs k ≤ lowAt cs m
+  pub high-low : (k m : ℕ) → k < m → m ≤ length cs → highAt n cs k ≤ lowAt cs m
   unfolding before
   high-low k zero h l = absurd (not-suc-le-zero h)
   high-low k (suc m) h l = omega (arith, p .rising k m (omega arith) (omega arith), getD-default cs k n 0 (omega arith))

@@ -1,12 +1,13 @@
 -- Covered glyphs with their items put in order: by item for all tables, then by glyph for each. Assumes nothing.
 use Prim.Native.Nat.{ℕ, _≤_, _<_}
 use mathlib.Core.Path.{_≡_}
-use mathlib.Core.List.{List}
+use mathlib.Core.List.{List, map}
 use lib.ListN.{length, getD}
 use Rattle.folds.specs.Lists.{part}
+use Rattle.opentype.specs.Coverage.{Entry}
 use Rattle.rules.specs.Written.{from}
 use Rattle.class_order.specs.Pairs.{pairs, keysOf, besideOf, inOrder}
-use Rattle.new_objects.specs.Tables.{lowAt, highAt, Halved}
+use Rattle.new_objects.specs.Tables.{paired, lowAt, highAt, entriesAt, Halved}
 
 -- the pairs from index a up to b by glyph: their glyphs
 abbrev pub glyphOrder : List ℕ → List ℕ → ℕ → ℕ → List ℕ
@@ -29,3 +30,15 @@ pub record Ordered (gs ks cs : List ℕ) (n : ℕ) (gs′ ks′ : List ℕ) : Ty
   pub same-items : length ks′ ≡ length ks
   pub tables : (k a b : ℕ) → k ≤ length cs → Halved ks (lowAt cs k) a → Halved ks (highAt n cs k) b → (part gs′ a b ≡ glyphOrder gs ks a b) × (part ks′ a b ≡ itemOrder gs ks a b)
   pub others : (a i : ℕ) → Halved ks n a → a ≤ i → (getD gs′ i 0 ≡ getD gs i 0) × (getD ks′ i 0 ≡ getD ks i 0)
+
+-- glyphs with their items, in order by item: what `class_order` makes of these entries
+pub record ByItem (gs ks : List ℕ) (es : List Entry) : Type 0 where
+  pub glyphs : gs ≡ besideOf (inOrder (pairs (map (λ e. e .class) es) (map (λ e. e .glyph) es)))
+  pub items : ks ≡ keysOf (inOrder (pairs (map (λ e. e .class) es) (map (λ e. e .glyph) es)))
+
+-- the items of one table stand behind those of the table before, and each table has the entries that it has among es
+pub record Arranged (gs ks cs : List ℕ) (n : ℕ) (es : List Entry) : Type 0 where
+  pub same : length ks ≡ length gs
+  pub long : length gs ≡ length es
+  pub parted : (k i j : ℕ) → k ≤ length cs → i ≤ j → j < length ks → getD ks j 0 < highAt n cs k → getD ks i 0 < highAt n cs k
+  pub entries : (k : ℕ) → k ≤ length cs → entriesAt n cs (paired gs ks) k ≡ entriesAt n cs es k
