@@ -1,6 +1,6 @@
 // The pair reading: what a table says of two glyphs, or the first of the checks 1 to 5 that refuses it.
-pub mod find_spot;
-pub mod values;
+mod find_spot;
+mod values;
 
 use checks::Checked;
 use checks::PairTable;

@@ -31,7 +31,7 @@ add-if2-2 : tie.Need-add-if2-2 Inv-loop μ-loop
 add-if2-2 c = omega (arith, records-fit (c .before .before .before .args .size) (c .u16-at .result) (omega arith) (omega arith))
 
 returns-2 : tie.Need-returns-2 Inv-loop μ-loop
-returns-2 c = too-short _ _ _ (c .before .u16-at .ensures) (c .before .before .if1 .left) (c .if2 .taken)
+returns-2 c = too-short _ _ _ (c .before .u16-at .ensures) (c .before .before .if1 .left) (omega arith)
 
 loop-holds : tie.Need-loop-holds Inv-loop μ-loop
 loop-holds c = start _ _ _ (c .before .u16-at .ensures) (c .before .before .if1 .left) (omega arith) (omega arith) (c .if2 .left)

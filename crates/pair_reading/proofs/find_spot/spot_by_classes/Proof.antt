@@ -5,27 +5,21 @@ use borrow.Author.Needs.{needs}
 use Rattle.pair_reading.proofs.find_spot.spot_by_classes.Statement.{statement}
 use Rattle.pair_reading.proofs.find_spot.spot_by_classes.Tie as tie
 
--- src/find_spot.rt:134:9
 class-in-requires : tie.Need-class-in-requires
 class-in-requires c κs = search needs
 
--- src/find_spot.rt:136:9
 returns : tie.Need-returns
 returns c l k = let a = c .before .before .before .before .before .before .before .args in no-row (lent (a .«data» .now) (a .objects .now) l k) (a .table) (a .opened) (a .first) (a .second) (c .before .before .class-in .ensures l k) (c .if1 .taken)
 
--- src/find_spot.rt:139:9
 class-in-requires-2 : tie.Need-class-in-requires-2
 class-in-requires-2 c κs = search needs
 
--- src/find_spot.rt:141:9
 returns-2 : tie.Need-returns-2
 returns-2 c l k = let a = c .before .before .before .before .before .before .before .before .before .before .before .args in no-column (lent (a .«data» .now) (a .objects .now) l k) (a .table) (a .opened) (a .first) (a .second) (c .before .before .before .before .before .before .class-in .ensures l k) (c .before .before .before .before .if1 .left) (c .before .before .class-in2 .ensures l k) (c .if2 .taken)
 
--- src/find_spot.rt:143:5
 spot-in-row-requires : tie.Need-spot-in-row-requires
 spot-in-row-requires c κs = search needs
 
--- src/find_spot.rt:119:1
 returns-3 : tie.Need-returns-3
 returns-3 c l k = let a = c .before .before .before .before .before .before .before .before .before .before .before .before .args in in-column (lent (a .«data» .now) (a .objects .now) l k) (a .table) (a .opened) (a .first) (a .second) (c .before .before .before .before .before .before .before .class-in .ensures l k) (c .before .before .before .before .before .if1 .left) (c .before .before .before .class-in2 .ensures l k) (c .before .if2 .left) (c .spot-in-row .ensures)
 
