@@ -6,13 +6,13 @@ use checks::Checked;
 use checks::PairTable;
 use checks::check_table;
 use find_spot::spot_of;
-use rules::Answer;
+use rules::number_of;
 use values::pair_at;
 ghost use mathlib.Core.Path.{_≡_};
 ghost use mathlib.Core.List.{_++_};
 ghost use Rattle.rules.specs.Store.{lent};
 ghost use Rattle.rules.specs.Pairs.{noPair, pairOf};
-ghost use Rattle.rules.specs.Answers.{number, reported, pairCall};
+ghost use Rattle.rules.specs.Answers.{reported, pairCall};
 ghost use Rattle.checks.specs.Checked.{checkedOf};
 ghost use Rattle.pair_reading.specs.Reading.{asPair, pairOutcome};
 
@@ -66,23 +66,6 @@ fn pair_of(
     };
     let layout = opened.layout;
     pair_at(data, objects, links, counts, layout, object, at)
-}
-
-// Document 01's number of an answer.
-pub fn number_of(answer: Answer) -> u32
-    ensures { λ r. ⌜ r ≡ number answer ⌝ }
-{
-    match answer {
-        Answer::Done => 0,
-        Answer::Unsound => 1,
-        Answer::NoTable => 2,
-        Answer::BadTable => 3,
-        Answer::BadParts => 4,
-        Answer::FewGlyphs => 5,
-        Answer::ShortScratch => 6,
-        Answer::BadLinks => 7,
-        Answer::NoRoom => 8,
-    }
 }
 
 // Eight numbers, and eight more behind them.
