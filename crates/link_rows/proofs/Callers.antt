@@ -8,17 +8,14 @@ use lib.ListN.{length}
 use lib.Dec.{eqb}
 use Rattle.opentype.specs.PairPos.{Shape, shape1, shape2, shapeOf, itemAt}
 use Rattle.opentype.proofs.Shapes.{by-format}
-use Rattle.rules.specs.Store.{Store, lent, perLink, linksOf, childAt, sizeOf}
-use Rattle.rules.specs.Table.{linkedAt}
+use Rattle.rules.specs.Store.{Store, lent, perLink, linksOf, bytesOf, childAt, sizeOf}
+use Rattle.rules.specs.Table.{shape, linkedAt}
 use Rattle.rules.specs.Written.{from, perTable, headLinks, moved, tableLinks, newLinks}
 use Rattle.rules.proofs.Sound.{Fits}
 use Rattle.object_store.proofs.Rows.{in-order}
-use Rattle.link_rows.specs.Parting.{layoutOf, shapeWith, perHeader, Parting}
-
--- a layout says all of a shape that the links ask
-pub layout-enough : (s : Store) (t : ℕ) (sh : Shape) (cs : List ℕ) → newLinks s t (shapeWith (layoutOf sh)) cs ≡ newLinks s t sh cs
-unfolding newLinks tableLinks headLinks moved
-layout-enough s t sh cs = refl
+use Rattle.pair_pos.specs.declared.Layout.{Layout}
+use Rattle.pair_pos.specs.Layout.{layoutOf}
+use Rattle.link_rows.specs.Parting.{shapeWith, perHeader, Parting, Parted}
 
 -- "K links; .. 3K links": one for each link slot of a header
 pub header-links : (b : List ℕ) → perHeader (shapeOf b) ≡ length (shapeOf b .heads)
@@ -37,32 +34,28 @@ pub record Decided (s : Store) (t : ℕ) (sh : Shape) (cs : List ℕ) (class2 : 
   pub linkRoom : perLink * (s .linkCount + perHeader sh * length cs) ≤ length (s .links)
   pub objectRoom : s .objectCount + perTable sh * length cs + 1 < 4294967296
 
-pub parting : (s : Store) (t : ℕ) (sh : Shape) (cs : List ℕ) (class2 : ℕ) → Decided s t sh cs class2 → Parting s t sh cs class2
-parting s t sh cs class2 d =
-    let o = d .fits .object t (d .used) in
-    record {
-      some = d .some;
-      rising = d .rising;
-      within = d .within;
-      size = omega (arith, d .exactly, d .fits .bytesMost);
-      order = in-order s (d .fits);
-      shared = d .shared;
-      linkRoom = d .linkRoom;
-      objectRoom = d .objectRoom;
-    }
+module _ (b o links counts : List ℕ) (t : ℕ) (layout : Layout) (is : layout ≡ layoutOf (bytesOf (lent b o links counts) t)) where
+  abbrev s : Store
+  s = lent b o links counts
 
--- the bytes and the object rows of a store have no part in it, nor what its shape has besides a layout
-pub parting-alone : (x y ls cts : List ℕ) (t : ℕ) (sh : Shape) (cs : List ℕ) (class2 : ℕ)
-    → Parting (lent x y ls cts) t sh cs class2 → Parting (lent [] [] ls cts) t (shapeWith (layoutOf sh)) cs class2
-unfolding linksOf childAt
-parting-alone x y ls cts t sh cs class2 g =
-    record {
-      some = g .some;
-      rising = g .rising;
-      within = g .within;
-      size = g .size;
-      order = g .order;
-      shared = g .shared;
-      linkRoom = g .linkRoom;
-      objectRoom = g .objectRoom;
-    }
+  -- the bytes and the object rows of a store have no part in what is asked
+  pub part-asked : (cs : List ℕ) (class2 : ℕ) → Decided s t (shape s t) cs class2 → Parting (lent [] [] links counts) t (shapeWith layout) cs class2
+  unfolding layoutOf linksOf childAt
+  part-asked cs class2 d =
+      let size = d .fits .object t (d .used) in
+      rw is
+      (record {
+        some = d .some;
+        rising = d .rising;
+        within = d .within;
+        size = omega (arith, d .exactly, d .fits .bytesMost);
+        order = in-order s (d .fits);
+        shared = d .shared;
+        linkRoom = d .linkRoom;
+        objectRoom = d .objectRoom;
+      })
+
+  -- a layout says all of a shape that the links ask
+  pub part-answered : (cs out : List ℕ) (r : ℕ) → ((x y : List ℕ) → Parted (lent x y links counts) t (shapeWith layout) cs out r) → Parted s t (shape s t) cs out r
+  unfolding layoutOf newLinks tableLinks headLinks moved
+  part-answered cs out r told = let p = rw is at (told b o) in record { count-is = p .count-is; rows-are = p .rows-are }

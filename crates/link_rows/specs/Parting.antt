@@ -12,13 +12,9 @@ use Rattle.rules.specs.Walk.{ofItems}
 use Rattle.rules.specs.Table.{linkedAt}
 use Rattle.rules.specs.Written.{from, perTable, newLinks, rowNumbers}
 use Rattle.object_store.specs.Rows.{InOrder}
-use Rattle.link_rows.specs.declared.Layout.{Layout}
+use Rattle.pair_pos.specs.declared.Layout.{Layout}
 
--- what of a shape the links ask
-abbrev pub layoutOf : Shape → Layout
-layoutOf sh = record { format = sh .format; header = sh .header; item = sh .item; count = sh .count }
-
--- a shape of this layout
+-- a shape of this layout, as far as the links ask
 abbrev pub shapeWith : Layout → Shape
 shapeWith a = record { format = a .format; header = a .header; heads = []; countAt = 0; count = a .count; item = a .item; unit = 0; slots = [] }
 

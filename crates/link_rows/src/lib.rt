@@ -12,14 +12,7 @@ ghost use Rattle.link_rows.specs.Rows.{span, positionIn, four, row, rows
 ghost use Rattle.link_rows.specs.Blocks.{plan, edge, heads, headCount, grown, keptRow, Fit, Moved, Spread, PartedRows};
 ghost use Rattle.link_rows.specs.Parting.{shapeWith, Parting, Between, Parted};
 use object_store::first_row;
-
-// What the two formats share of a table, as far as its links go: header bytes, item bytes, and how many items it has.
-pub struct Layout {
-    pub format: u16,
-    pub header: usize,
-    pub item: usize,
-    pub count: usize,
-}
+use pair_pos::Layout;
 
 // The numbers of a link row.
 const PER_LINK: usize = 4;
@@ -293,7 +286,7 @@ pub fn part_links(
 {
     let count = counts[2] as usize;
     let start = layout.header + layout.item * (cuts[0] as usize);
-    let end = layout.header + layout.item * layout.count;
+    let end = layout.header + layout.item * (layout.count as usize);
     let first = first_row(links, count, table, start as u32);
     let after = first_row(links, count, table, end as u32);
     part_between(links, counts, table, layout, cuts, first, after, class2)

@@ -23,6 +23,9 @@ mul-start c = omega (arith, start-short _ _ _ _ _ (c .before .before .before .be
 add-start : tie.Need-add-start
 add-start c = omega (arith, start-short _ _ _ _ _ (c .before .before .before .before .before .before .pre))
 
+cast-end : tie.Need-cast-end
+cast-end c = search needs
+
 mul-end : tie.Need-mul-end
 mul-end c = search needs
 
@@ -30,7 +33,7 @@ add-end : tie.Need-add-end
 add-end c = search needs
 
 cast-first-row : tie.Need-cast-first-row
-cast-first-row c = omega (arith, start-short _ _ _ _ _ (c .before .before .before .before .before .before .before .before .before .pre))
+cast-first-row c = omega (arith, start-short _ _ _ _ _ (c .before .before .before .before .before .before .before .before .before .before .pre))
 
 first-row-requires : tie.Need-first-row-requires
 first-row-requires c κs = search needs
@@ -43,7 +46,7 @@ first-row-requires-2 c κs = search needs
 
 part-between-requires : tie.Need-part-between-requires
 part-between-requires c κs =
-    between _ _ _ _ _ (c .before .before .before .before .before .before .before .before .before .before .before .before .before .pre) _ _ (λ i. c .before .before .before .before .before .before .before .before .before .before .before .before .slice-known .given i .fits) (c .before .before .before .first-row .ensures) (c .before .first-row2 .ensures)
+    between _ _ _ _ _ (c .before .before .before .before .before .before .before .before .before .before .before .before .before .before .pre) _ _ (λ i. c .before .before .before .before .before .before .before .before .before .before .before .before .before .slice-known .given i .fits) (c .before .before .before .first-row .ensures) (c .before .first-row2 .ensures)
 
 same-length : tie.Need-same-length
 same-length c = search needs
@@ -61,6 +64,7 @@ part-links-spec =
     cast-start
     mul-start
     add-start
+    cast-end
     mul-end
     add-end
     cast-first-row
