@@ -1,10 +1,8 @@
 // Link rows, four numbers each, rewritten in place when a table is split: the rows of the items that are cut off become rows of the new tables.
 ghost use mathlib.Core.Path.{_≡_};
-ghost use mathlib.Core.Bool.{cond};
 ghost use mathlib.Core.List.{List, [], _++_};
 ghost use Prim.Native.Nat.{ℕ, _+_, _-_, _*_, _≤_, _<_};
 ghost use lib.ListN.{length};
-ghost use lib.Dec.{eqb};
 ghost use Rattle.folds.specs.Lists.{put};
 ghost use Rattle.rules.specs.Store.{lent, perLink};
 ghost use Rattle.rules.specs.Written.{keptChild};
@@ -13,6 +11,7 @@ ghost use Rattle.link_rows.specs.Blocks.{plan, edge, heads, headCount, g
 ghost use Rattle.link_rows.specs.Parting.{shapeWith, Parting, Between, Parted};
 use object_store::first_row;
 use pair_pos::Layout;
+use pair_pos::objects_per_table;
 
 // The numbers of a link row.
 const PER_LINK: usize = 4;
@@ -222,13 +221,6 @@ fn keep_rows(links: &mut [u32], count: usize, table: u32, first: u32)
         keep_row(links, k, table, first);
         k += 1;
     }
-}
-
-// Objects of a new table: itself, its coverage, in format 2 its class definition 1.
-fn objects_per_table(format: u16) -> usize
-    ensures { λ r. ⌜ r ≡ cond (eqb format 1) 2 3 ⌝ }
-{
-    if format == 1 { 2 } else { 3 }
 }
 
 // Rewrites the link rows for a split of `table` at `cuts`, where the rows from `first` up to `after` are those of the items that are cut off. Returns how

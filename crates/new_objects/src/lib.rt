@@ -8,12 +8,11 @@ use new_table::write_format1;
 use new_table::write_format2;
 use object_rows::put_object;
 use pair_pos::Layout;
+use pair_pos::objects_per_table;
 ghost use mathlib.Core.Path.{_≡_};
-ghost use mathlib.Core.Bool.{cond};
 ghost use mathlib.Core.List.{_∷_};
 ghost use Prim.Native.Nat.{_+_, _-_, _*_, _≤_, _<_};
 ghost use lib.ListN.{length, getD};
-ghost use lib.Dec.{eqb};
 ghost use Rattle.folds.specs.Lists.{put, join};
 ghost use Rattle.opentype.specs.PairPos.{shapeOf};
 ghost use Rattle.new_table.specs.Cloned.{Cloned};
@@ -177,13 +176,6 @@ fn write_table_objects(
         end,
         row + 1,
     )
-}
-
-// Objects of a new table: itself, its coverage, in format 2 its class definition 1.
-fn objects_per_table(format: u16) -> usize
-    ensures { λ r. ⌜ r ≡ cond (eqb format 1) 2 3 ⌝ }
-{
-    if format == 1 { 2 } else { 3 }
 }
 
 // Writes the new tables of a split of the one at `head`, each with what stands beside it, from byte `at` and row `row` on; the glyphs of the first one start

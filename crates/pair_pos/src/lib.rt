@@ -3,9 +3,11 @@ use value_format::field_count;
 use value_format::is_device;
 use wire::u16_at;
 ghost use mathlib.Core.Path.{_≡_};
+ghost use mathlib.Core.Bool.{cond};
 ghost use mathlib.Core.List.{List, [], _∷_};
 ghost use Prim.Native.Nat.{ℕ, _+_, _*_, _≤_};
 ghost use lib.ListN.{length};
+ghost use lib.Dec.{eqb};
 ghost use Rattle.folds.specs.Lists.{among};
 ghost use Rattle.opentype.specs.Numbers.{u16At};
 ghost use Rattle.opentype.specs.Values.{fieldCount};
@@ -104,6 +106,13 @@ fn open_format2(table: &[u8]) -> Opened
         value2,
         columns,
     })
+}
+
+// Objects that a split makes for a new table: itself, its coverage, in format 2 its class definition 1.
+pub fn objects_per_table(format: u16) -> usize
+    ensures { λ r. ⌜ r ≡ cond (eqb format 1) 2 3 ⌝ }
+{
+    if format == 1 { 2 } else { 3 }
 }
 
 // Whether a link may stand at `position` of a table.

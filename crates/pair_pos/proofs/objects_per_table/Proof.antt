@@ -1,7 +1,7 @@
--- `new_objects::objects_per_table` meets its contract: each answer by the test that led to it. Assumes nothing.
+-- `pair_pos::objects_per_table` meets its contract: each answer by the test that led to it. Assumes nothing.
 use borrow.Author.Tests.{eq-eqb, ne-eqb}
-use Rattle.new_objects.proofs.objects_per_table.Statement.{statement}
-use Rattle.new_objects.proofs.objects_per_table.Tie as tie
+use Rattle.pair_pos.proofs.objects_per_table.Statement.{statement}
+use Rattle.pair_pos.proofs.objects_per_table.Tie as tie
 
 returns : tie.Need-returns
 returns c = simp (eq-eqb _ _ (c .if1 .taken))
