@@ -9,7 +9,6 @@ use Rattle.folds.proofs.Put.{put-nil, put-then, length-put}
 use Rattle.folds.proofs.Behind.{behind-one, behind-part}
 use Rattle.rules.specs.Written.{rowsFrom}
 use Rattle.rules.proofs.ObjectRows.{rows-length}
-use Rattle.object_rows.proofs.Packing.{rows-append}
 use Rattle.pair_pos.specs.declared.Layout.{Layout}
 use Rattle.pair_pos.specs.Layout.{layoutOf}
 use Rattle.new_objects.specs.Objects.{Room, Written, oldTable, Old}
@@ -21,6 +20,13 @@ join-append (x ∷ xs) ys = ap (λ (l : List ℕ). x ++ l) (join-append xs ys) �
 
 pub join-long : (xs ys : List (List ℕ)) → length (join (xs ++ ys)) ≡ length (join xs) + length (join ys)
 join-long xs ys = ap length (join-append xs ys) ∙ length-append (join xs) (join ys)
+
+rows-append : (xs ys : List (List ℕ)) (at : ℕ) → rowsFrom at (xs ++ ys) ≡ rowsFrom at xs ++ rowsFrom (at + length (join xs)) ys
+unfolding rowsFrom join
+rows-append [] ys at = let e : at ≡ at + 0 = omega arith in ap (λ (n : ℕ). rowsFrom n ys) e
+rows-append (x ∷ xs) ys at =
+    let e : at + length x + length (join xs) ≡ at + length (x ++ join xs) = omega (arith, length-append x (join xs)) in
+    ap (λ (r : List ℕ). at ∷ (at + length x) ∷ r) (rows-append xs ys (at + length x) ∙ ap (λ (n : ℕ). rowsFrom (at + length x) xs ++ rowsFrom n ys) e)
 
 pub written-none : (d o : List ℕ) (at row : ℕ) → Written d o at row [] d o at
 unfolding join rowsFrom
