@@ -23,14 +23,15 @@ use Rattle.rules.specs.Cuts.{within}
 use Rattle.rules.specs.Written.{from}
 use Rattle.rules.proofs.Entries.{inRange}
 use Rattle.rules.proofs.CutPlaces.{Places, cuts-rise}
+use Rattle.class_order.specs.ByClass.{ByClass}
 use Rattle.new_objects.specs.Tables.{paired, lowAt, highAt, entriesAt, PartEnd, Halved}
-use Rattle.new_objects.specs.Order.{Sorted, Ordered, ByItem, Arranged}
+use Rattle.new_objects.specs.Order.{Sorted, Ordered, Arranged}
 use Rattle.new_objects.proofs.Parting.{halved-none, halved-next, paired-maps, within-part}
 use Rattle.new_objects.proofs.Ordering.{halved-only, halved-rise, low-high, high-low}
 use Rattle.new_objects.proofs.Keys.{Small, items-many, glyphs-many, items-ascend, range-glyphs, range-items}
 
 -- entries in order by item, and the cuts of a table
-pub sorted-by-item : (gs ks cs : List ℕ) (n : ℕ) (es : List Entry) → ByItem gs ks es → Ascends 0 es → Small es → Places n cs → Sorted gs ks cs n
+pub sorted-by-item : (gs ks cs : List ℕ) (n : ℕ) (es : List Entry) → ByClass es gs ks → Ascends 0 es → Small es → Places n cs → Sorted gs ks cs n
 sorted-by-item gs ks cs n es o up small p =
     record {
       same = items-many gs ks es o up small ∙ sym (glyphs-many gs ks es o up small);
@@ -54,7 +55,7 @@ first-end (k ∷ ks) h = ⊎-elim (λ lt. more lt (first-end ks h)) (λ ge. (0, 
 
 -- ---- order by glyph
 
-module _ (gs ks cs : List ℕ) (n : ℕ) (es : List Entry) (gs′ ks′ : List ℕ) (o : ByItem gs ks es) (up : Ascends 0 es) (small : Small es) (s : Sorted gs ks cs n) (r : Ordered gs ks cs n gs′ ks′) where
+module _ (gs ks cs : List ℕ) (n : ℕ) (es : List Entry) (gs′ ks′ : List ℕ) (o : ByClass es gs ks) (up : Ascends 0 es) (small : Small es) (s : Sorted gs ks cs n) (r : Ordered gs ks cs n gs′ ks′) where
   -- how many items lie below h
   end : ℕ → ℕ
   end h = first-end ks h .0

@@ -18,9 +18,10 @@ use Rattle.opentype.proofs.Runs.{Ascends}
 use Rattle.rules.specs.Cuts.{within}
 use Rattle.rules.proofs.Entries.{inRange, within-ascends}
 use Rattle.class_order.specs.Pairs.{pairAt, pairs, keysOf, besideOf, inOrder}
+use Rattle.class_order.specs.ByClass.{classPairs, ByClass}
 use Rattle.class_order.proofs.Order.{Rises, Alike, inOrder-only, inOrder-alike, inOrder-rises, length-inOrder, rises-at, sift-inOrder}
 use Rattle.new_objects.specs.Tables.{Halved}
-use Rattle.new_objects.specs.Order.{glyphOrder, itemOrder, ByItem}
+use Rattle.new_objects.specs.Order.{glyphOrder, itemOrder}
 use Rattle.new_objects.proofs.Sifting.{sift-part, sift-agrees, sift-map, sift-many, part-map}
 
 -- an entry as a number: by item
@@ -85,18 +86,18 @@ items-back (e ∷ es) s = let c : e .class < 65536 = s .0 .1 in let q : glyphKey
 
 -- ---- a range of items
 
-module _ (gs ks : List ℕ) (es : List Entry) (o : ByItem gs ks es) (up : Ascends 0 es) (small : Small es) where
+module _ (gs ks : List ℕ) (es : List Entry) (o : ByClass es gs ks) (up : Ascends 0 es) (small : Small es) where
   -- all in order by item
   abbrev zs : List ℕ
   zs = inOrder (map itemKey es)
 
   glyphs-are : gs ≡ map (λ z. z % 65536) zs
-  unfolding besideOf
+  unfolding besideOf classPairs
   glyphs-are = o .glyphs ∙ ap (λ (x : List ℕ). besideOf (inOrder x)) (pairs-maps (λ e. e .class) (λ e. e .glyph) es)
 
   items-are : ks ≡ map (λ z. z / 65536) zs
-  unfolding keysOf
-  items-are = o .items ∙ ap (λ (x : List ℕ). keysOf (inOrder x)) (pairs-maps (λ e. e .class) (λ e. e .glyph) es)
+  unfolding keysOf classPairs
+  items-are = o .classes ∙ ap (λ (x : List ℕ). keysOf (inOrder x)) (pairs-maps (λ e. e .class) (λ e. e .glyph) es)
 
   items-long : length ks ≡ length zs
   items-long = ap length items-are ∙ length-map (λ z. z / 65536) zs

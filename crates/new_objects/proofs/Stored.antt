@@ -36,8 +36,9 @@ use Rattle.rules.proofs.Entries.{entries1, entries-agree, within-agrees, within
 use Rattle.rules.proofs.Checks.{Reads, class-read, entries-ascend, entries-under, object-bytes}
 use Rattle.pair_pos.specs.declared.Layout.{Layout}
 use Rattle.pair_pos.specs.Layout.{layoutOf}
+use Rattle.class_order.specs.ByClass.{ByClass}
 use Rattle.new_objects.specs.Tables.{paired, lowAt, highAt, Beside, Planned}
-use Rattle.new_objects.specs.Order.{Sorted, Ordered, ByItem, Arranged}
+use Rattle.new_objects.specs.Order.{Sorted, Ordered, Arranged}
 use Rattle.new_objects.specs.Objects.{partsOf, Room, Written, oldTable, Old, objectsOf, Length}
 use Rattle.new_objects.proofs.Beside.{parts-same}
 use Rattle.new_objects.proofs.Keys.{Small}
@@ -204,7 +205,7 @@ module _ (s : Store) (t : ℕ) (reads : Reads s t) (octets : Bytes (s .bytes)) w
       (subst (λ (x : List ℕ). Arranged (map (λ (e : Entry). e .glyph) placed) x cs (sh .count) placed) (map-upto (λ (e : Entry). e .class) (λ k. entry (h k) k) (length gs))
       (places-arranged h (length gs) cs (sh .count))))
 
-  module _ (two : eqb (sh .format) 1 ≡ false) (gs ks cs : List ℕ) (o : ByItem gs ks es) (p : Places (sh .count) cs) where
+  module _ (two : eqb (sh .format) 1 ≡ false) (gs ks cs : List ℕ) (o : ByClass es gs ks) (p : Places (sh .count) cs) where
     small : Small es
     small = small-entries es (classOf (linkedBytes s t 8)) (class-of-bits (linkedBytes s t 8) class-bits) under (entries-agree s t two)
 

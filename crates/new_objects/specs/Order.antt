@@ -1,7 +1,7 @@
--- Covered glyphs with their items put in order: by item for all tables, then by glyph for each. Assumes nothing.
+-- Covered glyphs with their items, in order by item, of which each table's part is put in order by glyph. Assumes nothing.
 use Prim.Native.Nat.{ℕ, _≤_, _<_}
 use mathlib.Core.Path.{_≡_}
-use mathlib.Core.List.{List, map}
+use mathlib.Core.List.{List}
 use lib.ListN.{length, getD}
 use Rattle.folds.specs.Lists.{part}
 use Rattle.opentype.specs.Coverage.{Entry}
@@ -30,11 +30,6 @@ pub record Ordered (gs ks cs : List ℕ) (n : ℕ) (gs′ ks′ : List ℕ) : Ty
   pub same-items : length ks′ ≡ length ks
   pub tables : (k a b : ℕ) → k ≤ length cs → Halved ks (lowAt cs k) a → Halved ks (highAt n cs k) b → (part gs′ a b ≡ glyphOrder gs ks a b) × (part ks′ a b ≡ itemOrder gs ks a b)
   pub others : (a i : ℕ) → Halved ks n a → a ≤ i → (getD gs′ i 0 ≡ getD gs i 0) × (getD ks′ i 0 ≡ getD ks i 0)
-
--- glyphs with their items, in order by item: what `class_order` makes of these entries
-pub record ByItem (gs ks : List ℕ) (es : List Entry) : Type 0 where
-  pub glyphs : gs ≡ besideOf (inOrder (pairs (map (λ e. e .class) es) (map (λ e. e .glyph) es)))
-  pub items : ks ≡ keysOf (inOrder (pairs (map (λ e. e .class) es) (map (λ e. e .glyph) es)))
 
 -- the items of one table stand behind those of the table before, and each table has the entries that it has among es
 pub record Arranged (gs ks cs : List ℕ) (n : ℕ) (es : List Entry) : Type 0 where

@@ -10,12 +10,12 @@ use Rattle.rules.specs.Table.{shape, entriesOf}
 use Rattle.rules.proofs.Sound.{Fits}
 use Rattle.rules.proofs.Checks.{Reads, entries-ascend, entries-under}
 use Rattle.class_order.specs.Pairs.{pairs, inOrder, keysOf, besideOf}
+use Rattle.class_order.specs.ByClass.{classPairs}
 use Rattle.walk.specs.Marks.{noRow, Marks, Looked}
 use Rattle.walk.proofs.Marks.{marks-next}
 use Rattle.walk.proofs.Cycles.{marks-looked}
 use Rattle.split_points.specs.declared.«table_info».TableInfo.{TableInfo}
 use Rattle.split_points.specs.Filled.{Described, Unseen}
-use Rattle.split_points.specs.ByClass.{classPairs}
 use Rattle.split_points.specs.Classes.{Ordered}
 
 -- the checks up to 5

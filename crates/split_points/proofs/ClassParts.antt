@@ -19,9 +19,10 @@ use Rattle.opentype.proofs.Runs.{Ascends, Under, ascends-sift, under-sift}
 use Rattle.rules.specs.Cuts.{within}
 use Rattle.estimator.proofs.Counting.{length-sift}
 use Rattle.class_order.specs.Pairs.{pairAt, pairs, inOrder, keysOf, besideOf}
+use Rattle.class_order.specs.ByClass.{classPairs, ByClass}
 use Rattle.class_order.proofs.Order.{Rises, inOrder-rises, inOrder-alike, inOrder-again, length-inOrder}
 use Rattle.class_order.proofs.Between.{parted, key-part}
-use Rattle.split_points.specs.ByClass.{classPairs, ByClass, startOf, ClassEnd}
+use Rattle.split_points.specs.ClassParts.{startOf, ClassEnd}
 
 -- ---- lists
 

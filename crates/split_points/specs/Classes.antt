@@ -10,8 +10,9 @@ use Rattle.rules.specs.Cuts.{within}
 use Rattle.glyph_set.specs.GlyphSet.{markAll}
 use Rattle.glyph_set.proofs.Emptied.{Empty}
 use Rattle.estimator.proofs.Estimates.{Estimates}
+use Rattle.class_order.specs.ByClass.{ByClass}
 use Rattle.split_points.specs.declared.classes.Classes.{Classes}
-use Rattle.split_points.specs.ByClass.{ByClass, startOf}
+use Rattle.split_points.specs.ClassParts.{startOf}
 
 -- the glyphs are those of the entries, each once, in the order of their classes
 pub record Ordered (es : List Entry) (gs cs : List ℕ) : Type 0 where

@@ -2,6 +2,6 @@ pub mod Filling
 pub mod Measuring
 pub mod Filled
 pub mod Format1
-pub mod ByClass
+pub mod ClassParts
 pub mod Classes
 pub mod Format2
