@@ -1,24 +1,19 @@
 -- What is written is readable, and gives each glyph its class, reduced. Assumes nothing.
-use Prim.Native.Nat.{ℕ, suc, _-_, _<_}
+use Prim.Native.Nat.{ℕ, _-_, _<_}
 use mathlib.Core.Path.{_≡_, sym, ap, _∙_}
 use mathlib.Core.Bool.{true}
-use mathlib.Core.List.{List, [], _∷_}
+use mathlib.Core.List.{List}
 use native.Mathlib.Omega.{arith}
 use lib.ListN.{length, getD}
 use Rattle.folds.proofs.Each.{each-at}
-use Rattle.opentype.specs.Coverage.{Entry, plain}
+use Rattle.opentype.specs.Coverage.{Entry}
 use Rattle.opentype.specs.ClassDef.{classReadable, classOf, classIn, classDefBytes}
-use Rattle.opentype.proofs.Runs.{Under}
 use Rattle.opentype.proofs.ClassDefRoundTrip.{class-back, class-readable}
 use Rattle.opentype.proofs.Entries.{agrees-self}
 use Rattle.ranges.specs.Ascending.{Ascending}
-use Rattle.ranges.proofs.Ascending.{ascends}
+use Rattle.ranges.proofs.Ascending.{ascends, under}
 use Rattle.class_def.specs.Entries.{reducedEntries}
 use Rattle.class_def.proofs.Entries.{entryAt, noEntry, length-entries, entries-at, ascends-entries, under-entries}
-
-under-bits : (gs : List ℕ) → ((k : ℕ) → getD gs k 0 < 65536) → Under 65536 (plain gs)
-under-bits [] b = tt
-under-bits (g ∷ gs) b = (b 0, under-bits gs (λ k. b (suc k)))
 
 module _ (gs cs : List ℕ) (first : ℕ) (a : Ascending gs) where
   pub reads-back : (g : ℕ) → classOf (classDefBytes (reducedEntries gs cs first)) g ≡ classIn (reducedEntries gs cs first) g
@@ -36,4 +31,4 @@ module _ (gs cs : List ℕ) (first : ℕ) (a : Ascending gs) where
 
   pub readable : ((k : ℕ) → getD gs k 0 < 65536) → classReadable (classDefBytes (reducedEntries gs cs first)) ≡ true
   readable b =
-      class-readable (reducedEntries gs cs first) (ascends-entries gs cs first 0 (ascends gs a)) (under-entries gs cs first 65536 (under-bits gs b))
+      class-readable (reducedEntries gs cs first) (ascends-entries gs cs first 0 (ascends gs a)) (under-entries gs cs first 65536 (under gs 65536 b))

@@ -1,18 +1,12 @@
 -- How many glyphs in ascending order there can be, and how many of them in a list. Assumes nothing.
-use Prim.Native.Nat.{ℕ, suc, _+_, _*_, _≤_, _<_}
+use Prim.Native.Nat.{ℕ, _+_, _*_, _≤_, _<_}
 use mathlib.Core.List.{List, [], _∷_}
 use native.Mathlib.Omega.{arith}
 use lib.ListN.{length, getD}
 use Rattle.opentype.specs.Coverage.{plain}
-use Rattle.opentype.proofs.Runs.{Under}
 use Rattle.opentype.proofs.RunCount.{many, alone, some-run, few}
 use Rattle.ranges.specs.Ascending.{Ascending}
-use Rattle.ranges.proofs.Ascending.{ascends}
-
--- glyphs are below what their numbers are
-under : (gs : List ℕ) (n : ℕ) → ((k : ℕ) → getD gs k 0 < n) → Under n (plain gs)
-under [] n h = tt
-under (g ∷ gs) n h = (h 0, under gs n (λ k. h (suc k)))
+use Rattle.ranges.proofs.Ascending.{ascends, under}
 
 module _ (gs : List ℕ) (a : Ascending gs) (bits : (k : ℕ) → getD gs k 0 < 65536) where
   together : many (plain gs) + length gs ≤ 65537

@@ -1,11 +1,11 @@
--- Glyphs in ascending order, by index and from one to the next. Assumes nothing.
+-- Glyphs in ascending order and below a bound, by index and from one to the next. Assumes nothing.
 use Prim.Native.Nat.{ℕ, suc, _+_, _≤_, _<_}
 use mathlib.Core.List.{List, [], _∷_}
 use native.Mathlib.Numerals.{add-one}
 use native.Mathlib.Omega.{arith}
 use lib.ListN.{length, getD}
 use Rattle.opentype.specs.Coverage.{plain}
-use Rattle.opentype.proofs.Runs.{Ascends}
+use Rattle.opentype.proofs.Runs.{Ascends, Under}
 use Rattle.opentype.proofs.CoverageRoundTrip.{ascends-at}
 use Rattle.ranges.specs.Ascending.{Ascending}
 
@@ -19,3 +19,8 @@ ascends gs a = from-index gs 0 (λ l. omega arith) (λ k l. rw add-one at (a k (
 
 pub ascending : (gs : List ℕ) → Ascends 0 (plain gs) → Ascending gs
 ascending gs a k l = rw add-one (let z = ascends-at gs 0 k a (omega arith) in omega arith)
+
+-- glyphs are below what their numbers are
+pub under : (gs : List ℕ) (n : ℕ) → ((k : ℕ) → getD gs k 0 < n) → Under n (plain gs)
+under [] n h = tt
+under (g ∷ gs) n h = (h 0, under gs n (λ k. h (suc k)))

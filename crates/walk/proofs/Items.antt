@@ -4,12 +4,12 @@ use mathlib.Core.Bool.{Bool, true, false, _&&_, _||_}
 use mathlib.Core.List.{List}
 use mathlib.Core.Logic.{⊎-elim}
 use mathlib.Core.Path.{_≡_, refl, sym, ap, _∙_}
-use native.Mathlib.Nat.{mul-le-mul-left}
 use native.Mathlib.Omega.{arith}
 use lib.Dec.{leb, ltb, eqb}
 use borrow.Author.Tests.{le-leb, lt-leb, le-ltb, lt-ltb}
 use Rattle.folds.proofs.Tests.{either, and-second}
 use Rattle.opentype.specs.PairPos.{Shape, itemAt}
+use Rattle.opentype.proofs.Shapes.{items-rise}
 use Rattle.rules.specs.Store.{Store, linkAt, parentOf, positionOf}
 use Rattle.rules.specs.Walk.{ofItems, itemSize}
 use Rattle.rules.proofs.Sound.{Fits}
@@ -22,9 +22,6 @@ use Rattle.walk.proofs.Marks.{marks-same, marks-next, marks-after}
 -- row k is of the items lo up to hi of table t
 abbrev pub items : Store → ℕ → Shape → ℕ → ℕ → ℕ → Bool
 items s t sh lo hi k = ofItems t sh lo hi (linkAt s k)
-
-pub items-rise : (sh : Shape) (a b : ℕ) → a ≤ b → itemAt sh a ≤ itemAt sh b
-items-rise sh a b h = omega (arith, mul-le-mul-left (sh .item) h)
 
 -- two parts that stand side by side
 beside : (p : Bool) (q a b c : ℕ) → a ≤ b → b ≤ c → ((p && leb a q && ltb q b) || (p && leb b q && ltb q c)) ≡ (p && leb a q && ltb q c)
