@@ -1,0 +1,38 @@
+//! Refusals have the numbers of the exported functions, and say what to do.
+
+use splitter::Refusal;
+use std::{collections::HashSet, error::Error};
+
+#[test]
+fn numbers_and_names() {
+    let names = [
+        "Unsound",
+        "NoTable",
+        "BadTable",
+        "BadParts",
+        "FewGlyphs",
+        "ShortScratch",
+        "BadLinks",
+        "NoRoom",
+    ];
+    for ((refusal, name), number) in Refusal::ALL.into_iter().zip(names).zip(1..) {
+        assert_eq!(refusal.number(), number);
+        assert_eq!(Refusal::from_number(number), Some(refusal));
+        assert_eq!(format!("{refusal:?}"), name);
+    }
+    assert_eq!([0, 9, u32::MAX].map(Refusal::from_number), [None; 3]);
+}
+
+/// What is wrong, and then what to do.
+#[test]
+fn sentences() {
+    let sentences = Refusal::ALL.map(|refusal| refusal.to_string());
+    for sentence in &sentences {
+        assert_eq!(sentence.split(": ").count(), 2, "{sentence}");
+        assert!(!sentence.ends_with('.') && !sentence.contains(['\n', '\t']));
+        assert!(!sentence.contains("  "));
+    }
+    assert_eq!(HashSet::from(sentences).len(), 8);
+    let error: Box<dyn Error> = Refusal::NoRoom.into();
+    assert!(error.source().is_none());
+}
