@@ -8,7 +8,7 @@ mod pairs;
 pub use agree::{pair_agrees, plan_agrees, split_agrees};
 pub use frame::{again, frame};
 pub use oracle::as_the_oracle;
-pub use pairs::pairs_stay;
+pub use pairs::{pairs_agree, pairs_stay};
 
 use crate::{
     model::{answers, table::PairPos},

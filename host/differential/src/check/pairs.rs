@@ -3,8 +3,9 @@
 use super::{ensure, opened, Outcome, Split};
 use crate::{
     model::{pairs::read, table::PairPos},
-    Pair, Random, Tally,
+    Pair, Random, Subject, Tally,
 };
+use oracle::Store;
 
 /// The kept and then the new tables give the pairs that the old table gave.
 pub fn pairs_stay(split: &Split, random: &mut Random, tally: &mut Tally) -> Outcome {
@@ -26,6 +27,40 @@ pub fn pairs_stay(split: &Split, random: &mut Random, tally: &mut Tally) -> Outc
     }
     Ok(())
 }
+
+/// A subject reads of each table, before and after a split, what the model reads of it.
+pub fn pairs_agree(
+    subject: &impl Subject,
+    split: &Split,
+    random: &mut Random,
+    tally: &mut Tally,
+) -> Outcome {
+    let (before, after) = (&split.before, &split.after);
+    let old = opened(&before.store, before.table)?;
+    let (firsts, seconds) = (first_glyphs(&old, random), second_glyphs(&old, random));
+    let mut reads_agree = |store: &Store, table: u32| {
+        let pairpos = opened(store, table)?;
+        for _ in 0..PAIRS {
+            let glyphs = [random.pick(&firsts), random.pick(&seconds)];
+            let mut ours = Pair::default();
+            let answer = subject.read_pair(store, table, glyphs, &mut ours);
+            let theirs = read(&pairpos, glyphs);
+            tally.pairs += 1;
+            tally.pairs_found += theirs.found as usize;
+            ensure(answer == 0, || format!("table {table}: answer {answer}"))?;
+            ensure(ours == theirs, || {
+                format!("table {table}, glyphs {glyphs:?}: {ours:?}, not {theirs:?}")
+            })?;
+        }
+        Ok(())
+    };
+    reads_agree(&before.store, before.table)?;
+    let mut tables = split.tables().into_iter();
+    tables.try_for_each(|table| reads_agree(&after.store, table))
+}
+
+/// How many pairs of a table are read by another subject.
+const PAIRS: usize = 24;
 
 /// The first table with a pair decides.
 fn first_pair(tables: &[PairPos], glyphs: [u16; 2]) -> Pair {
