@@ -15,3 +15,4 @@ pub mod SameReach
 pub mod AgainNothing
 pub mod StaysOctets
 pub mod CallsThatSplit
+pub mod Calls
