@@ -16,3 +16,4 @@ pub mod AgainNothing
 pub mod StaysOctets
 pub mod CallsThatSplit
 pub mod Calls
+pub mod Unique
