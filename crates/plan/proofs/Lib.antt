@@ -1,0 +1,9 @@
+pub mod Looking
+pub mod Gathering
+pub mod Fronting
+pub mod Copying
+pub mod Called
+pub mod Cleared
+pub mod Planning
+pub mod Deciding
+pub mod Counting

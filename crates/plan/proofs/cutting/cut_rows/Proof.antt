@@ -1,0 +1,46 @@
+-- `plan::cutting::cut_rows` meets its contract: what is asked of the table, and of its places, goes by what the checks hold, with the set emptied. Assumes nothing.
+use borrow.Author.Needs.{needs}
+use Rattle.plan.proofs.Looking.{class2-beside, rows-ready, rows-placed}
+use Rattle.plan.proofs.cutting.cut_rows.Statement.{statement}
+use Rattle.plan.proofs.cutting.cut_rows.Tie as tie
+
+info-of-requires : tie.Need-info-of-requires
+info-of-requires c κs = class2-beside (c .before .before .before .before .before .before .before .before .pre .1)
+
+clear-u8-requires : tie.Need-clear-u8-requires
+clear-u8-requires c κs = search needs
+
+compute-format2-split-points-requires : tie.Need-compute-format2-split-points-requires
+compute-format2-split-points-requires c κs =
+    let cleared = c .before .before .before .before .before in
+    let info = cleared .before .before in
+    let start = info .before .before .before .before .before .before .before .before .before in
+    (start .pre .0, rows-ready (start .pre .1) (info .info-of .ensures) (cleared .clear-u8 .ensures))
+
+same-length : tie.Need-same-length
+same-length c = search needs
+
+same-length-2 : tie.Need-same-length-2
+same-length-2 c = search needs
+
+same-length-3 : tie.Need-same-length-3
+same-length-3 c = search needs
+
+returns : tie.Need-returns
+returns c b k =
+    let places = c .before .before .before .before .before .before in
+    let cleared = places .before .before .before .before .before .before in
+    let info = cleared .before .before in
+    rows-placed k (info .info-of .ensures) (cleared .clear-u8 .ensures) (places .compute-format2-split-points .ensures b)
+
+pub cut-rows-spec : {M : Type 1} → statement M
+cut-rows-spec =
+    tie.close
+    (tie.spec
+    info-of-requires
+    clear-u8-requires
+    compute-format2-split-points-requires
+    same-length
+    same-length-2
+    same-length-3
+    returns)

@@ -1,0 +1,36 @@
+-- `plan::cutting::cut_sets` meets its contract: what is asked of the table, and of its places, goes by what the checks hold. Assumes nothing.
+use borrow.Author.Needs.{needs}
+use Rattle.plan.proofs.Looking.{coverage-beside, sets-ready, sets-placed}
+use Rattle.plan.proofs.cutting.cut_sets.Statement.{statement}
+use Rattle.plan.proofs.cutting.cut_sets.Tie as tie
+
+info-of-requires : tie.Need-info-of-requires
+info-of-requires c κs = coverage-beside (c .before .before .before .before .before .pre .1)
+
+compute-format1-split-points-requires : tie.Need-compute-format1-split-points-requires
+compute-format1-split-points-requires c κs =
+    let info = c .before .before in
+    let start = info .before .before .before .before .before .before in
+    (start .pre .0, sets-ready (start .pre .1) (info .info-of .ensures))
+
+same-length : tie.Need-same-length
+same-length c = search needs
+
+same-length-2 : tie.Need-same-length-2
+same-length-2 c = search needs
+
+returns : tie.Need-returns
+returns c b k =
+    let places = c .before .before .before .before in
+    let info = places .before .before .before in
+    sets-placed k (info .info-of .ensures) (places .compute-format1-split-points .ensures b)
+
+pub cut-sets-spec : {M : Type 1} → statement M
+cut-sets-spec =
+    tie.close
+    (tie.spec
+    info-of-requires
+    compute-format1-split-points-requires
+    same-length
+    same-length-2
+    returns)

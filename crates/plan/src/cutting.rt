@@ -1,0 +1,179 @@
+// The cut places of a table that has passed the checks. In format 2 the covered glyphs are put in the order of their classes on the way.
+use buffers::clear_u8;
+use checks::PairTable;
+use class_def::classes_into;
+use class_order::sort_pairs;
+use coverage_graph::glyphs_into;
+use object_store::bytes_of;
+use object_store::size_of;
+use split_points::format1::compute_format1_split_points;
+use split_points::format2::compute_format2_split_points;
+use split_points::table_info::TableInfo;
+ghost use mathlib.Core.Path.{_≡_};
+ghost use mathlib.Core.List.{List};
+ghost use Prim.Native.Nat.{ℕ};
+ghost use Rattle.rules.specs.Store.{lent};
+ghost use Rattle.plan.specs.Cutting.{Gathering, Gathers, Beside, infoOf, Looked1, Places1, Looked2, Places2, Looked, CutsByClass, CutsTable};
+
+// What the cut rules ask of the table; object `beside` is the one whose length they ask. The marks of their walks come after that of the look for a cycle.
+fn info_of(objects: &[u32], table: u32, opened: PairTable, beside: u32) -> TableInfo
+    requires { ⌜ Beside (now objects) beside ⌝ }
+    ensures { λ r. ⌜ r ≡ infoOf (now (objects .entry)) table opened beside ⌝ }
+{
+    let layout = opened.layout;
+    TableInfo {
+        table,
+        header: layout.header,
+        item: layout.item,
+        count: layout.count,
+        beside: size_of(objects, beside as usize),
+        epoch: 2,
+    }
+}
+
+// Format 1.
+fn cut_sets(
+    objects: &[u32],
+    links: &[u32],
+    counts: &[u32; 3],
+    table: u32,
+    opened: PairTable,
+    walk: &mut [u32],
+    cuts: &mut [u16],
+) -> usize
+    requires { ⌜ ((b : List ℕ) × Looked1 (lent b (now objects) (now links) (now counts)) table opened (now walk) (now cuts)) ⌝ }
+    ensures { λ r. ⌜ Places1 (now (objects .entry)) (now (links .entry)) (now (counts .entry)) table opened (now (walk .entry)) (now (cuts .entry)) (now (cuts .exit)) r ⌝ }
+{
+    let coverage = opened.coverage;
+    let info = info_of(objects, table, opened, coverage.object);
+    compute_format1_split_points(objects, links, counts, info, walk, cuts)
+}
+
+// The covered glyphs of a table of format 2 with their classes, in the order of these.
+fn gather(data: &[u8], objects: &[u32], opened: PairTable, glyphs: &mut [u16], classes: &mut [u16])
+    requires { ⌜ ((l c : List ℕ) × (t : ℕ) × Gathering (lent (now «data») (now objects) l c) t opened (now glyphs) (now classes)) ⌝ }
+    ensures { λ _. ⌜ Gathers (now («data» .entry)) (now (objects .entry)) opened (now (glyphs .entry)) (now (classes .entry)) (now (glyphs .exit)) (now (classes .exit)) ⌝ }
+{
+    let coverage = opened.coverage;
+    let class1 = opened.class1;
+    glyphs_into(
+        bytes_of(data, objects, coverage.object as usize),
+        coverage.header,
+        glyphs,
+    );
+    classes_into(
+        bytes_of(data, objects, class1.object as usize),
+        class1.header,
+        glyphs,
+        classes,
+    );
+    sort_pairs(classes, glyphs);
+}
+
+// Format 2, with the covered glyphs in the order of their classes.
+fn cut_rows(
+    objects: &[u32],
+    links: &[u32],
+    counts: &[u32; 3],
+    table: u32,
+    opened: PairTable,
+    glyphs: &[u16],
+    classes: &[u16],
+    walk: &mut [u32],
+    glyph_set: &mut [u8],
+    cuts: &mut [u16],
+) -> usize
+    requires { ⌜ ((b : List ℕ) × Looked2 (lent b (now objects) (now links) (now counts)) table opened (now glyphs) (now classes) (now walk) (now «glyph_set») (now cuts)) ⌝ }
+    ensures { λ r. ⌜ Places2 (now (objects .entry)) (now (links .entry)) (now (counts .entry)) table opened (now (glyphs .entry)) (now (classes .entry)) (now (walk .entry)) (now («glyph_set» .entry)) (now (cuts .entry)) (now (cuts .exit)) r ⌝ }
+{
+    let class2 = opened.class2;
+    let info = info_of(objects, table, opened, class2.object);
+    clear_u8(glyph_set);
+    compute_format2_split_points(
+        objects,
+        links,
+        counts,
+        info,
+        glyphs,
+        classes,
+        walk,
+        glyph_set,
+        cuts,
+    )
+}
+
+// Format 2: the glyphs and their classes come to stand at the front of the scratch.
+fn cut_by_class(
+    data: &[u8],
+    objects: &[u32],
+    links: &[u32],
+    counts: &[u32; 3],
+    table: u32,
+    opened: PairTable,
+    walk: &mut [u32],
+    glyph_set: &mut [u8],
+    glyphs: &mut [u16],
+    classes: &mut [u16],
+    cuts: &mut [u16],
+) -> usize
+    requires { ⌜ Looked (lent (now «data») (now objects) (now links) (now counts)) table opened (now walk) (now «glyph_set») (now glyphs) (now classes) (now cuts) ⌝ }
+    requires { ⌜ (opened .layout .format ≡ 1 → ⊥) ⌝ }
+    ensures { λ r. ⌜ CutsByClass (lent (now («data» .entry)) (now (objects .entry)) (now (links .entry)) (now (counts .entry))) table (now (glyphs .entry)) (now (classes .entry)) (now (cuts .entry)) (now (glyphs .exit)) (now (classes .exit)) (now (cuts .exit)) r ⌝ }
+{
+    let count = opened.glyphs;
+    gather(
+        data,
+        objects,
+        opened,
+        &mut glyphs[0..count],
+        &mut classes[0..count],
+    );
+    cut_rows(
+        objects,
+        links,
+        counts,
+        table,
+        opened,
+        &glyphs[0..count],
+        &classes[0..count],
+        walk,
+        glyph_set,
+        cuts,
+    )
+}
+
+// The cut places, at the front of `cuts`, and how many there are.
+pub fn cut_table(
+    data: &[u8],
+    objects: &[u32],
+    links: &[u32],
+    counts: &[u32; 3],
+    table: u32,
+    opened: PairTable,
+    walk: &mut [u32],
+    glyph_set: &mut [u8],
+    glyphs: &mut [u16],
+    classes: &mut [u16],
+    cuts: &mut [u16],
+) -> usize
+    requires { ⌜ Looked (lent (now «data») (now objects) (now links) (now counts)) table opened (now walk) (now «glyph_set») (now glyphs) (now classes) (now cuts) ⌝ }
+    ensures { λ r. ⌜ CutsTable (lent (now («data» .entry)) (now (objects .entry)) (now (links .entry)) (now (counts .entry))) table opened (now (glyphs .entry)) (now (classes .entry)) (now (cuts .entry)) (now (glyphs .exit)) (now (classes .exit)) (now (cuts .exit)) r ⌝ }
+{
+    let layout = opened.layout;
+    if layout.format == 1 {
+        return cut_sets(objects, links, counts, table, opened, walk, cuts);
+    }
+    cut_by_class(
+        data,
+        objects,
+        links,
+        counts,
+        table,
+        opened,
+        walk,
+        glyph_set,
+        glyphs,
+        classes,
+        cuts,
+    )
+}
