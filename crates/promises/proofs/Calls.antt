@@ -13,11 +13,11 @@ use Rattle.folds.proofs.WrittenPart.{part-written}
 use Rattle.rules.specs.Store.{Store}
 use Rattle.rules.specs.Table.{cutPlaces, shape}
 use Rattle.rules.specs.Written.{splitStore, newTables, newNumber}
-use Rattle.rules.specs.Pairs.{Pair, pairOf, pairAmong}
-use Rattle.rules.specs.Answers.{Scratch, Outcome, PairOutcome, settle, done, firstCase, splitCases, planCases, splitCall, planCall, pairCall, reported}
+use Rattle.rules.specs.Pairs.{Pair, noPair, pairOf, pairAmong}
+use Rattle.rules.specs.Answers.{Scratch, Outcome, PairOutcome, settle, settlePair, done, firstCase, readCases, splitCases, planCases, splitCall, planCall, pairCall, reported}
 use Rattle.promises.specs.Demands.{Unchanged, Octets, Splits, resulting}
-use Rattle.promises.specs.Calls.{inOrder, readInOrder, SplitLeaves, SplitKeeps, PlanKeeps}
-use Rattle.promises.proofs.Refusals.{refusals, no-cut-nothing, scratch-zero, plan-reads, as-many-as-cuts}
+use Rattle.promises.specs.Calls.{inOrder, readInOrder, SplitLeaves, SplitKeeps, PlanKeeps, PairKeeps}
+use Rattle.promises.proofs.Refusals.{refusals, no-cut-nothing, scratch-zero, plan-reads, pair-refusals, as-many-as-cuts}
 use Rattle.promises.proofs.PairsKept.{pairs-kept}
 use Rattle.promises.proofs.WrittenAfresh.{written-afresh}
 use Rattle.promises.proofs.ReadingsKept.{readings-kept}
@@ -142,3 +142,18 @@ pub plan-keeps : (s : Store) (t : ℕ) (w : Scratch) (list : List ℕ) (o : Outc
 plan-keeps s t w list o e =
     subst (PlanKeeps s t w list) (sym e)
     (record { refused = refusals s t w list .1; reads = plan-reads s t w list; zero = scratch-zero s t w list .1; places = places-given s t w list })
+
+-- ---- a pair reading
+
+-- a refusal, and a table of another format, have no pair
+found-pair : (s : Store) (t a b : ℕ) → pairCall s t a b .found ≡ 1 → pairCall s t a b ≡ reported 0 (pairOf s t a b)
+unfolding pairCall settlePair noPair
+found-pair s t a b = go (firstCase (readCases s t))
+  where
+    go : (c : Option ℕ) → settlePair c (pairOf s t a b) .found ≡ 1 → settlePair c (pairOf s t a b) ≡ reported 0 (pairOf s t a b)
+    go (some n) h = absurd (omega (arith, h))
+    go none h = refl
+
+-- a pair reading whose outcome is that of `rules` keeps what is promised
+pub pair-keeps : (s : Store) (t a b : ℕ) (o : PairOutcome) → o ≡ pairCall s t a b → PairKeeps s t a b o
+pair-keeps s t a b o e = subst (PairKeeps s t a b) (sym e) (record { refused = pair-refusals s t a b; pairs = found-pair s t a b })

@@ -4,13 +4,14 @@ use Prim.Native.Nat.{ℕ, _<_}
 use mathlib.Core.Path.{_≡_}
 use mathlib.Core.Bool.{true, false, cond}
 use mathlib.Core.List.{List, [], _∷_}
-use lib.ListN.{length}
+use lib.ListN.{length, replicate}
+use lib.IntN.{pos}
 use lib.Dec.{eqb}
 use Rattle.folds.specs.Lists.{put, part}
 use Rattle.rules.specs.Store.{Store, sound, bytesOf, childAt, headOf, tailOf}
 use Rattle.rules.specs.Table.{cutPlaces}
 use Rattle.rules.specs.Written.{newTables}
-use Rattle.rules.specs.Pairs.{noPair}
+use Rattle.rules.specs.Pairs.{noPair, pairOf}
 use Rattle.rules.specs.Answers.{Scratch, Outcome, PairOutcome, cleared, splitCall, pairCall, reported, scratchShort}
 use Rattle.promises.specs.Demands.{Unchanged, AllAfresh, Octets}
 
@@ -58,3 +59,10 @@ pub record PlanKeeps (s : Store) (t : ℕ) (w : Scratch) (list : List ℕ) (o : 
   pub reads : o .store ≡ s
   pub zero : o .scratch ≡ cleared w
   pub places : 0 < o .count → (o .answer ≡ 0) × (o .count ≡ length (cutPlaces s t)) × (o .list ≡ put list 0 (cutPlaces s t))
+
+-- a pair reading
+pub record PairKeeps (s : Store) (t a b : ℕ) (o : PairOutcome) : Type 0 where
+  -- "refuses by 1 to 5 in this order with no pair and sixteen zeros"
+  pub refused : (o .answer ≡ 0 → ⊥) → (o .found ≡ 0) × (o .values ≡ replicate 16 (pos 0))
+  -- where there is a pair, it is the table's own
+  pub pairs : o .found ≡ 1 → o ≡ reported 0 (pairOf s t a b)
