@@ -8,33 +8,43 @@
 //!
 //! | to | call |
 //! |---|---|
+//! | see where a table would be cut | [`cut_plan`], or [`cut_plan_into`] with a list of the host's own |
 //! | read what a table says of two glyphs | [`read_pair`] |
 //!
 //! ```
-//! use splitter::{read_pair, Refusal, Store};
+//! use splitter::{cut_plan, read_pair, Refusal, Scratch, Store};
 //!
-//! // One pair: behind glyph 7, glyph 70 comes 30 units nearer.
+//! // Format 1, glyphs 10, 20 and 30, and a pair set of 30,000 bytes for each: more than 65,535.
 //! let mut store = Store::new();
-//! let table = store.add_object(&[0, 1, 0, 0, 0, 4, 0, 0, 0, 1, 0, 0])?;
-//! let coverage = store.add_object(&[0, 1, 0, 1, 0, 7])?;
-//! let pair_set = store.add_object(&[0, 1, 0, 70, 0xFF, 0xE2])?;
+//! let table = store.add_object(&[0, 1, 0, 0, 0, 4, 0, 0, 0, 3, 0, 0, 0, 0, 0, 0])?;
+//! let coverage = store.add_object(&[0, 1, 0, 3, 0, 10, 0, 20, 0, 30])?;
 //! store.add_link(table, 2, coverage)?;
-//! store.add_link(table, 10, pair_set)?;
+//! for slot in [10, 12, 14] {
+//!     // In front of glyph 70 each is 30 units narrower.
+//!     let mut bytes = vec![0, 1, 0, 70, 0xFF, 0xE2];
+//!     bytes.resize(30_000, 0);
+//!     let pair_set = store.add_object(&bytes)?;
+//!     store.add_link(table, slot, pair_set)?;
+//! }
 //!
-//! let pair = read_pair(&store, table, 7, 70)?.unwrap();
+//! let mut scratch = Scratch::new();
+//! assert_eq!(cut_plan(&store, table, &mut scratch)?, [2]);
+//! let pair = read_pair(&store, table, 30, 70)?.unwrap();
 //! assert_eq!(pair.first.x_advance, -30);
-//! assert_eq!(read_pair(&store, table, 7, 71)?, None);
-//! assert_eq!(read_pair(&store, 9, 7, 70), Err(Refusal::NoTable));
 //! # Ok::<(), Refusal>(())
 //! ```
 
 #![deny(missing_docs, unsafe_code)]
 
 mod pair;
+mod plan;
 pub mod raw;
 mod refusal;
+mod scratch;
 mod store;
 
 pub use pair::{read_pair, PairValues, Values};
+pub use plan::{cut_plan, cut_plan_into};
 pub use refusal::Refusal;
+pub use scratch::Scratch;
 pub use store::{Link, Room, Store, StoreMut, StoreRef};

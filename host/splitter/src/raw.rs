@@ -6,11 +6,39 @@
 //! A store is `data`; `objects`, flat rows of head and tail; `links`, flat rows of parent, position,
 //! width and child; and `counts`, how many data bytes, object rows and link rows are in use. Half a
 //! row at the end of a slice is no row.
+//!
+//! Scratch is `walk`, two numbers for each object in use; `glyph_set`, 8,192 bytes; `glyphs` and
+//! `classes`, one entry for each covered glyph; and `cuts`, one entry for each pair set or row. It may
+//! be longer and hold anything, and is zero after every call, all of it.
 
 #![allow(unsafe_code)]
 
 mod exported {
     extern "C" {
+        pub fn cut_plan(
+            data: *const u8,
+            data_len: usize,
+            objects: *const u32,
+            objects_len: usize,
+            links: *const u32,
+            links_len: usize,
+            counts: *const u32,
+            table: u32,
+            walk: *mut u32,
+            walk_len: usize,
+            glyph_set: *mut u8,
+            glyph_set_len: usize,
+            glyphs: *mut u16,
+            glyphs_len: usize,
+            classes: *mut u16,
+            classes_len: usize,
+            cuts: *mut u16,
+            cuts_len: usize,
+            places: *mut u16,
+            places_len: usize,
+            place_count: *mut u32,
+        ) -> u32;
+
         pub fn read_pair(
             data: *const u8,
             data_len: usize,
@@ -25,6 +53,54 @@ mod exported {
             values: *mut i32,
             found: *mut u32,
         ) -> u32;
+    }
+}
+
+/// Says where a table would be cut, and changes nothing of the store.
+///
+/// `places` takes the cut places in order, from its first entry on, and `place_count` becomes how
+/// many there are. Where the answer is a refusal (1 to 8) `place_count` becomes 0 and `places` stays as
+/// it was: 8 means that `places` is too short.
+#[expect(clippy::too_many_arguments)]
+pub fn cut_plan(
+    data: &[u8],
+    objects: &[u32],
+    links: &[u32],
+    counts: &[u32; 3],
+    table: u32,
+    walk: &mut [u32],
+    glyph_set: &mut [u8],
+    glyphs: &mut [u16],
+    classes: &mut [u16],
+    cuts: &mut [u16],
+    places: &mut [u16],
+    place_count: &mut u32,
+) -> u32 {
+    // SAFETY: each pointer is valid for its length, and what is written is lent to nobody else.
+    unsafe {
+        exported::cut_plan(
+            data.as_ptr(),
+            data.len(),
+            objects.as_ptr(),
+            objects.len(),
+            links.as_ptr(),
+            links.len(),
+            counts.as_ptr(),
+            table,
+            walk.as_mut_ptr(),
+            walk.len(),
+            glyph_set.as_mut_ptr(),
+            glyph_set.len(),
+            glyphs.as_mut_ptr(),
+            glyphs.len(),
+            classes.as_mut_ptr(),
+            classes.len(),
+            cuts.as_mut_ptr(),
+            cuts.len(),
+            places.as_mut_ptr(),
+            places.len(),
+            place_count,
+        )
     }
 }
 
@@ -46,7 +122,7 @@ pub fn read_pair(
     values: &mut [i32; 16],
     found: &mut u32,
 ) -> u32 {
-    // SAFETY: each pointer is valid for its length, and what is written is lent by nobody else.
+    // SAFETY: each pointer is valid for its length, and what is written is lent to nobody else.
     unsafe {
         exported::read_pair(
             data.as_ptr(),

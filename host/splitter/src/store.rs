@@ -183,14 +183,21 @@ impl Store {
     ///
     /// New room is zero.
     pub fn reserve(&mut self, room: Room) {
+        let [data, objects, links] = self.lengths_for(room);
+        self.data.resize(data, 0);
+        self.objects.resize(objects, 0);
+        self.links.resize(links, 0);
+    }
+
+    /// How long the buffers are with so much room, or up to the maxima.
+    fn lengths_for(&self, room: Room) -> [usize; 3] {
         let [data, objects, links] = self.counts.map(|count| count as usize);
         let length = |used: usize, room: usize, most: usize| used.saturating_add(room).min(most);
-        let data = length(data, room.data, Room::MOST.data);
-        let objects = length(objects, room.objects, Room::MOST.objects);
-        let links = length(links, room.links, Room::MOST.links);
-        self.data.resize(data, 0);
-        self.objects.resize(2 * objects, 0);
-        self.links.resize(4 * links, 0);
+        [
+            length(data, room.data, Room::MOST.data),
+            2 * length(objects, room.objects, Room::MOST.objects),
+            4 * length(links, room.links, Room::MOST.links),
+        ]
     }
 
     /// The store, to be read.

@@ -1,6 +1,8 @@
 //! Stores by hand.
 
-use splitter::Store;
+#![allow(dead_code)]
+
+use splitter::{Room, Store};
 
 /// Objects of these words, and links of parent, position and child.
 pub fn store(objects: &[&[u16]], links: &[[u32; 3]]) -> Store {
@@ -17,4 +19,59 @@ pub fn store(objects: &[&[u16]], links: &[[u32; 3]]) -> Store {
 /// Words as a font has them.
 pub fn bytes(words: &[u16]) -> Vec<u8> {
     words.iter().flat_map(|word| word.to_be_bytes()).collect()
+}
+
+/// A format 1 table, object 0, with X advances, of glyphs 10, 20 and so on and a pair set of each
+/// length. Its coverage is object 1, and the sets are objects 2 and on, each of one pair: in front of
+/// glyph 70 the advance is the set's number.
+pub fn format1(lengths: &[usize]) -> Store {
+    let sets = lengths.len() as u16;
+    let mut table = bytes(&[1, 0, 4, 0, sets]);
+    table.resize(10 + 2 * lengths.len(), 0);
+    let glyphs = (1..=sets).map(|set| 10 * set);
+    let coverage: Vec<u16> = [1, sets].into_iter().chain(glyphs).collect();
+    let mut store = Store::new();
+    store.add_object(&table).unwrap();
+    store.add_object(&bytes(&coverage)).unwrap();
+    store.add_link(0, 2, 1).unwrap();
+    for (set, &length) in (0..).zip(lengths) {
+        let mut bytes = bytes(&[1, 70, set + 1]);
+        bytes.resize(length, 0);
+        let object = store.add_object(&bytes).unwrap();
+        store.add_link(0, 10 + 2 * u32::from(set), object).unwrap();
+    }
+    store
+}
+
+/// W7: it is cut at 2, and needs exactly this room.
+pub fn w7() -> (Store, Room) {
+    let room = Room {
+        data: 26,
+        objects: 3,
+        links: 1,
+    };
+    (format1(&[30_000; 3]), room)
+}
+
+/// W12: 170 rows of 200 columns, X advances, and glyph 100 + c in class c. It is cut at 162.
+pub fn w12() -> Store {
+    let mut table = bytes(&[2, 0, 4, 0, 0, 0, 170, 200]);
+    table.resize(16 + 2 * 170 * 200, 0);
+    let classes: Vec<u16> = [1, 100, 170].into_iter().chain(0..170).collect();
+    let mut class_def2 = bytes(&[1, 100, 202]);
+    class_def2.resize(410, 0);
+    let mut store = Store::new();
+    let objects = [
+        table,
+        bytes(&[2, 1, 100, 269, 0]),
+        bytes(&classes),
+        class_def2,
+    ];
+    for object in &objects {
+        store.add_object(object).unwrap();
+    }
+    for (position, part) in [(2, 1), (8, 2), (10, 3)] {
+        store.add_link(0, position, part).unwrap();
+    }
+    store
 }

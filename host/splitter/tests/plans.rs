@@ -1,0 +1,87 @@
+//! Cut plans of stores that are owned and of stores that are lent.
+
+mod common;
+
+use common::{format1, store, w12, w7};
+use splitter::{cut_plan, cut_plan_into, Refusal, Scratch, Store, StoreMut, StoreRef};
+
+#[test]
+fn places() {
+    let mut scratch = Scratch::new();
+    let mut places = |store: &Store| cut_plan(store, 0, &mut scratch).unwrap();
+    assert_eq!(places(&w7().0), [2]);
+    assert_eq!(places(&format1(&[65_517])), []);
+    assert_eq!(places(&format1(&[65_518])), [0]);
+    assert_eq!(places(&format1(&[65_518; 5])), [0, 1, 2, 3, 4]);
+    assert_eq!(places(&w12()), [162]);
+    assert_eq!(places(&store(&[&[3]], &[])), []);
+}
+
+/// A list that is lent: too short, and longer than it must be.
+#[test]
+fn lent_lists() {
+    let (store, _) = w7();
+    let mut scratch = Scratch::new();
+    let mut places = [77; 2];
+    let answer = cut_plan_into(&store, 0, &mut scratch, &mut places[..0]);
+    assert_eq!((answer, places), (Err(Refusal::NoRoom), [77; 2]));
+    let answer = cut_plan_into(&store, 0, &mut scratch, &mut places);
+    assert_eq!((answer, places), (Ok(1), [2, 77]));
+}
+
+#[test]
+fn refusals() {
+    let mut scratch = Scratch::new();
+    let mut refused = |store: &Store, table: u32, refusal: Refusal| {
+        assert_eq!(cut_plan(store, table, &mut scratch), Err(refusal));
+        let mut places = [77; 9];
+        let answer = cut_plan_into(store, table, &mut scratch, &mut places);
+        assert_eq!((answer, places), (Err(refusal), [77; 9]));
+    };
+    refused(&w7().0, 5, Refusal::NoTable);
+    refused(&store(&[&[1, 0, 0, 0, 1]], &[]), 0, Refusal::BadTable);
+    refused(&store(&[&[1, 0, 0, 0, 0]], &[]), 0, Refusal::BadParts);
+    let few = store(&[&[1, 0, 0, 0, 2, 0, 0], &[1, 1, 5]], &[[0, 2, 1]]);
+    refused(&few, 0, Refusal::FewGlyphs);
+    for [parent, position, child] in [[0, 4, 2], [4, 29_998, 0]] {
+        let (mut store, _) = w7();
+        store.add_link(parent, position, child).unwrap();
+        refused(&store, 0, Refusal::BadLinks);
+    }
+}
+
+/// Buffers of the host's own, lent for reading and for a split.
+#[test]
+fn lent_buffers() {
+    let mut scratch = Scratch::new();
+    let (mut data, mut objects, mut links, mut counts) = w7().0.into_parts();
+    let lent = StoreRef::new(&data, &objects, &links, &counts);
+    assert_eq!(cut_plan(lent, 0, &mut scratch), Ok(vec![2]));
+    let lent = StoreMut::new(&mut data, &mut objects, &mut links, &mut counts);
+    assert_eq!(cut_plan(&lent, 0, &mut scratch), Ok(vec![2]));
+    counts[2] += 1;
+    let lent = StoreRef::new(&data, &objects, &links, &counts);
+    assert_eq!(cut_plan(lent, 0, &mut scratch), Err(Refusal::Unsound));
+}
+
+/// Counts of anything make no more scratch than there can be need of.
+#[test]
+fn scratch_has_an_end() {
+    let lent = StoreRef::new(&[], &[], &[], &[u32::MAX; 3]);
+    assert_eq!(
+        cut_plan(lent, 0, &mut Scratch::new()),
+        Err(Refusal::Unsound)
+    );
+}
+
+/// One scratch for stores of any size, and after any refusal.
+#[test]
+fn scratch_is_kept() {
+    let mut scratch = Scratch::new();
+    for lengths in [&[40_000; 2][..], &[5_000; 200], &[1; 3], &[65_535; 5]] {
+        let store = format1(lengths);
+        let fresh = cut_plan(&store, 0, &mut Scratch::new());
+        assert_eq!(cut_plan(&store, 0, &mut scratch), fresh);
+        assert_eq!(cut_plan(&store, 1, &mut scratch), Err(Refusal::BadTable));
+    }
+}
