@@ -5,7 +5,7 @@ mod frame;
 mod oracle;
 mod pairs;
 
-pub use agree::{pair_agrees, plan_agrees, split_agrees};
+pub use agree::{all_agree, pair_agrees, plan_agrees, split_agrees};
 pub use frame::{again, frame};
 pub use oracle::as_the_oracle;
 pub use pairs::{pairs_agree, pairs_stay};

@@ -1,8 +1,10 @@
-//! A plain model of the splitter's rules, and the runs that hold it against the oracle.
+//! A plain model of the splitter's rules, and the runs that hold it and the proved functions against
+//! the oracle.
 //!
 //! The rules are written here a second time, in plain Rust and from the paper alone: clear before
-//! fast. Whatever splits a store is a [`Subject`]; the [`Model`] is one. Two subjects agree if a
-//! call leaves the same answer and the same contents, to the last number.
+//! fast. Whatever splits a store is a [`Subject`]; the [`Model`] is one, and the [`Archive`] is
+//! another. Two subjects agree if a call leaves the same answer and the same contents, to the last
+//! number.
 //!
 //! | module | holds |
 //! |---|---|
@@ -15,16 +17,18 @@
 //! | [`check`] | what must hold of a split, against the oracle and against the model |
 //!
 //! ```
-//! use differential::{check, generate, lend, Model, Random, Tally};
+//! use differential::{check, generate, lend, Archive, Random, Tally};
 //!
 //! let case = generate::format2(7);
 //! let call = lend::amply(&case.store, case.table, &mut Random::new(7));
-//! let split = check::Split::by(&Model, &call);
+//! check::split_agrees(&Archive, &call).unwrap();
+//! let split = check::Split::by(&Archive, &call);
 //! check::as_the_oracle(&split, &mut Tally::default()).unwrap();
 //! ```
 
 #![deny(missing_docs)]
 
+mod archive;
 pub mod check;
 pub mod compare;
 pub mod damage;
@@ -37,6 +41,7 @@ mod random;
 mod subject;
 mod tally;
 
+pub use archive::Archive;
 pub use model::Model;
 pub use random::Random;
 pub use subject::{Call, Pair, Scratch, Subject};

@@ -1,11 +1,12 @@
-//! Damaged calls are refused by their numbers, and nothing else changes.
+//! Damaged calls are refused by their numbers, and nothing else changes: by the model, and by the
+//! archive as by the model.
 
 use differential::{
-    check::{as_the_oracle, frame, Outcome, Split},
+    check::{all_agree, as_the_oracle, frame, Outcome, Split},
     damage::{self, Damage},
     generate, lend,
     model::{answers, class_def, coverage, numbers},
-    Call, Model, Pair, Random, Subject, Tally,
+    Archive, Call, Model, Pair, Random, Subject, Tally,
 };
 
 const STORES: u64 = 80;
@@ -22,7 +23,9 @@ fn calls() -> impl Iterator<Item = (Call<u32>, Random)> {
     })
 }
 
+/// What both answer.
 fn answers(call: &Call<u32>) -> [u32; 3] {
+    assert_eq!(all_agree(&Archive, call), Ok(()));
     let (store, table) = (&call.store, call.table);
     [
         Model.split_pairpos(&mut call.clone()),
@@ -127,6 +130,7 @@ fn anything_may_be_wrong() {
     for (call, mut random) in calls() {
         for _ in 0..60 {
             let scrambled = damage::scramble(&call, &mut random);
+            assert_eq!(all_agree(&Archive, &scrambled), Ok(()));
             let split = Split::by(&Model, &scrambled);
             let outcome = frame(&split).and_then(|()| check(&split, &mut tally));
             assert_eq!(outcome, Ok(()));

@@ -1,9 +1,10 @@
-//! The figures W1 to W12, through the model.
+//! The figures W1 to W12, through the archive and the model.
 
 use differential::{
+    check::all_agree,
     lend,
     model::{class_def, coverage, numbers::bytes, values::ValueFormat},
-    Call, Model, Random, Subject,
+    Archive, Call, Random, Subject,
 };
 use oracle::Store;
 
@@ -36,9 +37,10 @@ fn format1(glyphs: &[u16], lengths: &[usize]) -> Store {
 /// The call after a split, and the places of a cut plan.
 fn split(store: &Store) -> (Call<u32>, Vec<u16>) {
     let mut call = lend::exactly(store, TABLE, &mut Random::new(0));
+    assert_eq!(all_agree(&Archive, &call), Ok(()));
     let mut plan = call.to_plan();
-    assert_eq!(Model.cut_plan(&mut plan), 0);
-    assert_eq!(Model.split_pairpos(&mut call), 0);
+    assert_eq!(Archive.cut_plan(&mut plan), 0);
+    assert_eq!(Archive.split_pairpos(&mut call), 0);
     assert_eq!(call.count, plan.count);
     plan.list.truncate(plan.count as usize);
     (call, plan.list)

@@ -1,10 +1,10 @@
 //! Stores at their maxima, and as many cuts as there can be.
 
 use differential::{
-    check::{as_the_oracle, frame, Outcome, Split},
+    check::{all_agree, as_the_oracle, frame, split_agrees, Outcome, Split},
     edit, lend,
     model::{class_def, coverage, numbers::bytes, soundness::MAXIMA},
-    Model, Random, Subject, Tally,
+    Archive, Random, Subject, Tally,
 };
 use oracle::Store;
 
@@ -31,12 +31,14 @@ fn answer(store: &Store) -> u32 {
     call.store.links.resize(4 * (MAXIMA[2] + 100), 7);
     let scratch = &mut call.scratch;
     scratch.walk.resize(2 * (MAXIMA[1] + 100), 7);
-    Model.split_pairpos(&mut call)
+    assert_eq!(split_agrees(&Archive, &call), Ok(()));
+    Archive.split_pairpos(&mut call)
 }
 
 fn compare(store: &Store) -> Outcome {
     let call = lend::exactly(store, 0, &mut Random::new(0));
-    let split = Split::by(&Model, &call);
+    all_agree(&Archive, &call)?;
+    let split = Split::by(&Archive, &call);
     frame(&split)?;
     as_the_oracle(&split, &mut Tally::default())
 }
@@ -130,7 +132,7 @@ fn a_class_definition_over_all_glyphs_has_65_535_ranges() {
     assert_eq!(compare(&store), Ok(()));
 
     let call = lend::exactly(&store, 0, &mut Random::new(0));
-    let split = Split::by(&Model, &call);
+    let split = Split::by(&Archive, &call);
     let class_def1 = edit::child_at(&split.after.store, 0, 8).unwrap();
     assert_eq!(edit::bytes(&split.after.store, class_def1).len(), 393_214);
     assert_eq!(split.new_tables().len(), 1);

@@ -1,6 +1,6 @@
-//! Pair readings by hand.
+//! Pair readings by hand, through the archive and the model.
 
-use differential::{model::numbers::bytes, Model, Pair, Subject};
+use differential::{check::pair_agrees, model::numbers::bytes, Archive, Pair, Subject};
 use oracle::Store;
 
 const NOTHING: Pair = Pair {
@@ -13,7 +13,9 @@ fn read(store: &Store, first: u16, second: u16) -> Pair {
         values: [9; 16],
         found: 9,
     };
-    assert_eq!(Model.read_pair(store, 0, [first, second], &mut pair), 0);
+    let glyphs = [first, second];
+    assert_eq!(pair_agrees(&Archive, store, 0, glyphs), Ok(()));
+    assert_eq!(Archive.read_pair(store, 0, glyphs, &mut pair), 0);
     pair
 }
 

@@ -4,7 +4,7 @@ use differential::{
     check::{as_the_oracle, frame, Split},
     lend,
     model::numbers::bytes,
-    Model, Random, Tally,
+    Archive, Random, Tally,
 };
 use oracle::Store;
 
@@ -35,7 +35,7 @@ fn the_product_shows_at_its_edges() {
     let mut tally = Tally::default();
     for record in hidden.into_iter().chain(shown) {
         let call = lend::exactly(&one_device(record), 0, &mut Random::new(0));
-        let split = Split::by(&Model, &call);
+        let split = Split::by(&Archive, &call);
         assert_eq!(split.places, [109, 218]);
         assert_eq!(frame(&split), Ok(()));
         assert_eq!(as_the_oracle(&split, &mut tally), Ok(()), "record {record}");

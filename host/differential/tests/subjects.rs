@@ -1,7 +1,7 @@
 //! Other subjects beside the model: the wrong ones are found.
 
 use differential::{
-    check::{pair_agrees, plan_agrees, split_agrees, Outcome},
+    check::{all_agree, pair_agrees, plan_agrees, split_agrees},
     generate,
     lend::{self, Need},
     Call, Model, Pair, Random, Subject,
@@ -42,12 +42,6 @@ fn assert_found(wrong: fn(&mut Call<u32>) -> u32) {
     for call in calls() {
         assert!(split_agrees(&Wrong(wrong), &call).is_err());
     }
-}
-
-fn all_agree(subject: &impl Subject, call: &Call<u32>) -> Outcome {
-    split_agrees(subject, call)?;
-    plan_agrees(subject, &call.to_plan())?;
-    pair_agrees(subject, &call.store, call.table, [0, 0])
 }
 
 #[test]

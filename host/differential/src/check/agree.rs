@@ -4,6 +4,13 @@ use super::{ensure, Outcome};
 use crate::{Call, Model, Pair, Subject};
 use oracle::Store;
 
+/// A split, a cut plan and a pair reading answer and leave what the model's do.
+pub fn all_agree(subject: &impl Subject, call: &Call<u32>) -> Outcome {
+    split_agrees(subject, call)?;
+    plan_agrees(subject, &call.to_plan())?;
+    pair_agrees(subject, &call.store, call.table, [0, 0])
+}
+
 /// A split answers and leaves what the model's does.
 pub fn split_agrees(subject: &impl Subject, call: &Call<u32>) -> Outcome {
     let (mut ours, mut theirs) = (call.clone(), call.clone());
