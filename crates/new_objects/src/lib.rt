@@ -92,15 +92,15 @@ pub fn new_length(glyphs: &[u16], classes: &[u16], cuts: &[u16], layout: Layout)
 {
     let mut at = part_end(classes, 0, cuts[0]);
     let mut total = parts_length(&glyphs[0..at], &classes[0..at], layout.format, 0);
-    let mut j = 0;
-    while j < cuts.len() {
-        let lo = cuts[j];
-        let hi = cut_after(cuts, j, layout.count);
+    let mut i = 0;
+    while i < cuts.len() {
+        let lo = cuts[i];
+        let hi = cut_after(cuts, i, layout.count);
         let end = part_end(classes, at, hi);
         let parts = parts_length(&glyphs[at..end], &classes[at..end], layout.format, lo);
         total += layout.header + layout.item * ((hi - lo) as usize) + parts;
         at = end;
-        j += 1;
+        i += 1;
     }
     total
 }

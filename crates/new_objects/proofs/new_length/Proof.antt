@@ -1,4 +1,4 @@
--- `new_objects::new_length` meets its contract: the kept table's parts and the objects of the first j new tables are summed. Assumes nothing.
+-- `new_objects::new_length` meets its contract: the kept table's parts and the objects of the first i new tables are summed. Assumes nothing.
 use borrow.Author.Needs.{needs}
 use native.Mathlib.Omega.{arith}
 use Prim.Native.Nat.{_-_}
@@ -10,10 +10,10 @@ use Rattle.new_objects.proofs.new_length.Statement.{statement}
 use Rattle.new_objects.proofs.new_length.Tie as tie
 
 abbrev Inv-loop : tie.InvT-loop
-Inv-loop glyphs classes cuts layout at₀ total₀ j₀ at total j = Total glyphs classes cuts layout at total j
+Inv-loop glyphs classes cuts layout at₀ total₀ i₀ at total i = Total glyphs classes cuts layout at total i
 
 abbrev μ-loop : tie.MeasureT-loop
-μ-loop glyphs classes cuts layout at₀ total₀ j₀ at total j = length cuts - j
+μ-loop glyphs classes cuts layout at₀ total₀ i₀ at total i = length cuts - i
 
 shared-slice-read-part-end : tie.Need-shared-slice-read-part-end Inv-loop μ-loop
 shared-slice-read-part-end c = search needs
@@ -102,8 +102,8 @@ add-total-2 c = omega (arith, turn-small _ _ _ _ _ _ _ (c .before .before .befor
 add-total-3 : tie.Need-add-total-3 Inv-loop μ-loop
 add-total-3 c = omega (arith, turn-fits _ _ _ _ _ _ _ (c .before .before .before .before .before .before .before .before .before .loop .inv) (c .before .before .before .before .before .before .before .before .loop-test .taken) _ _ _ _ refl (c .before .before .before .before .before .before .cut-after .ensures) (c .before .before .before .before .before .part-end2 .ensures) (c .before .before .parts-length2 .ensures))
 
-add-j : tie.Need-add-j Inv-loop μ-loop
-add-j c = omega (arith, next-few _ _ _ _ _ _ _ (c .before .before .before .before .before .before .before .before .before .loop .inv) (c .before .before .before .before .before .before .before .before .loop-test .taken))
+add-i : tie.Need-add-i Inv-loop μ-loop
+add-i c = omega (arith, next-few _ _ _ _ _ _ _ (c .before .before .before .before .before .before .before .before .before .loop .inv) (c .before .before .before .before .before .before .before .before .loop-test .taken))
 
 loop-less : tie.Need-loop-less Inv-loop μ-loop
 loop-less c = search needs
@@ -149,7 +149,7 @@ new-length-spec =
     add-total
     add-total-2
     add-total-3
-    add-j
+    add-i
     loop-less
     loop-again
     returns)
