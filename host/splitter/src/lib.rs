@@ -36,6 +36,7 @@
 
 #![deny(missing_docs, unsafe_code)]
 
+mod need;
 mod pair;
 mod plan;
 pub mod raw;

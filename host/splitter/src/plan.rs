@@ -1,6 +1,6 @@
 //! Where a table would be cut.
 
-use crate::{scratch::MOST_ITEMS, Refusal, Scratch, StoreRef};
+use crate::{need::Need, Refusal, Scratch, StoreRef};
 
 /// Says where a table would be cut: at which pair sets of format 1, or rows of format 2.
 ///
@@ -14,7 +14,8 @@ pub fn cut_plan<'a>(
     table: u32,
     scratch: &mut Scratch,
 ) -> Result<Vec<u16>, Refusal> {
-    let mut places = vec![0; MOST_ITEMS];
+    let store = store.into();
+    let mut places = vec![0; Need::of(store, table).items];
     let count = cut_plan_into(store, table, scratch, &mut places)?;
     places.truncate(count);
     places.shrink_to_fit();

@@ -17,6 +17,24 @@ fn places() {
     assert_eq!(places(&store(&[&[3]], &[])), []);
 }
 
+/// Scratch is as long as the coverage asks for, in each of its forms.
+#[test]
+fn coverages() {
+    let mut scratch = Scratch::new();
+    let coverages: [&[u16]; 5] = [
+        &[1, 0],
+        &[2, 0],
+        &[1, 3, 5, 7, 9],
+        &[2, 2, 5, 7, 0, 9, 65_535, 3],
+        &[2, 1, 0, 65_535, 0],
+    ];
+    for coverage in coverages {
+        let store = store(&[&[1, 0, 4, 0, 0], coverage], &[[0, 2, 1]]);
+        assert_eq!(cut_plan(&store, 0, &mut scratch), Ok(vec![]));
+        assert_eq!(cut_plan(&store, 0, &mut Scratch::new()), Ok(vec![]));
+    }
+}
+
 /// A list that is lent: too short, and longer than it must be.
 #[test]
 fn lent_lists() {

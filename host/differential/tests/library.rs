@@ -1,0 +1,117 @@
+//! The host library over generated stores: what it lends is enough, and what it gives is the model's.
+
+use differential::{
+    damage,
+    generate::{self, Case},
+    lend, Call, Model, Pair, Random, Scratch, Subject,
+};
+use oracle::Store;
+use splitter::{cut_plan, read_pair, PairValues, StoreRef, Values};
+
+const STORES: u64 = 600;
+
+/// Stores that are damaged, each in every way, and in so many ways at random.
+const DAMAGED: u64 = 40;
+const SCRAMBLES: usize = 60;
+
+fn cases(seeds: u64) -> impl Iterator<Item = Case> {
+    (0..seeds).flat_map(|seed| [generate::format1(seed), generate::format2(seed)])
+}
+
+fn lent(store: &Store) -> StoreRef<'_> {
+    StoreRef::new(&store.data, &store.objects, &store.links, &store.counts)
+}
+
+/// What the model plans with all the scratch and list that any table may need.
+fn model_plan(call: &Call<u32>) -> (u32, Vec<u16>) {
+    let mut plan = call.to_plan();
+    plan.scratch = Scratch {
+        walk: vec![1; 131_072],
+        glyph_set: vec![1; 8_192],
+        glyphs: vec![1; 65_536],
+        classes: vec![1; 65_536],
+        cuts: vec![1; 65_535],
+    };
+    plan.list = vec![0; 65_535];
+    let answer = Model.cut_plan(&mut plan);
+    plan.list.truncate(plan.count as usize);
+    (answer, plan.list)
+}
+
+fn assert_planned(call: &Call<u32>, scratch: &mut splitter::Scratch, name: &str) {
+    let (answer, places) = model_plan(call);
+    match cut_plan(lent(&call.store), call.table, scratch) {
+        Ok(ours) => assert_eq!((0, ours), (answer, places), "{name}"),
+        Err(refusal) => assert_eq!(refusal.number(), answer, "{name}"),
+    }
+}
+
+/// One scratch serves them all, and grows as it must.
+#[test]
+fn plans() {
+    let mut scratch = splitter::Scratch::new();
+    for case in cases(STORES) {
+        let call = lend::exactly(&case.store, case.table, &mut Random::new(0));
+        assert_planned(&call, &mut scratch, "");
+        assert_planned(&call, &mut splitter::Scratch::new(), "");
+    }
+}
+
+#[test]
+fn plans_of_damaged_stores() {
+    let damages = damage::all();
+    let mut scratch = splitter::Scratch::new();
+    for case in cases(DAMAGED) {
+        let mut random = Random::new(case.table.into());
+        let call = lend::exactly(&case.store, case.table, &mut random);
+        for damage in &damages {
+            if let Some(call) = damage.apply(&call, &mut random) {
+                assert_planned(&call, &mut scratch, damage.name);
+            }
+        }
+        for _ in 0..SCRAMBLES {
+            let call = damage::scramble(&call, &mut random);
+            assert_planned(&call, &mut scratch, "scrambled");
+        }
+    }
+}
+
+/// The library's names for the sixteen numbers.
+#[test]
+fn values_have_their_names() {
+    let (mut found, mut devices) = (0, 0);
+    for case in cases(STORES) {
+        for (first, second) in (0..40).map(|glyph| (7 * glyph, 3 * glyph % 11)) {
+            let mut pair = Pair::default();
+            Model.read_pair(&case.store, case.table, [first, second], &mut pair);
+            let read = read_pair(lent(&case.store), case.table, first, second).unwrap();
+            assert_eq!(read.is_some(), pair.found == 1);
+            assert_eq!(read.map_or([0; 16], numbers), pair.values);
+            found += usize::from(read.is_some());
+            devices += usize::from(pair.values[4..8].iter().any(|&number| number > 0));
+        }
+    }
+    println!("pairs found {found}, with devices {devices}");
+    assert!(found > 1_000 && devices > 10);
+}
+
+fn numbers(pair: PairValues) -> [i32; 16] {
+    let mut values = [0; 16];
+    values[..8].copy_from_slice(&of_one(pair.first));
+    values[8..].copy_from_slice(&of_one(pair.second));
+    values
+}
+
+fn of_one(values: Values) -> [i32; 8] {
+    let device = |object: Option<u32>| object.map_or(0, |object| object as i32 + 1);
+    [
+        values.x_placement.into(),
+        values.y_placement.into(),
+        values.x_advance.into(),
+        values.y_advance.into(),
+        device(values.x_placement_device),
+        device(values.y_placement_device),
+        device(values.x_advance_device),
+        device(values.y_advance_device),
+    ]
+}
