@@ -8,11 +8,12 @@
 //!
 //! | to | call |
 //! |---|---|
-//! | see where a table would be cut | [`cut_plan`], or [`cut_plan_into`] with a list of the host's own |
+//! | split a table that is too large | [`split()`], or [`split_into`] with a list of the host's own |
+//! | see where it would be cut | [`cut_plan`], or [`cut_plan_into`] |
 //! | read what a table says of two glyphs | [`read_pair`] |
 //!
 //! ```
-//! use splitter::{cut_plan, read_pair, Refusal, Scratch, Store};
+//! use splitter::{cut_plan, read_pair, split, Refusal, Scratch, Store};
 //!
 //! // Format 1, glyphs 10, 20 and 30, and a pair set of 30,000 bytes for each: more than 65,535.
 //! let mut store = Store::new();
@@ -29,8 +30,13 @@
 //!
 //! let mut scratch = Scratch::new();
 //! assert_eq!(cut_plan(&store, table, &mut scratch)?, [2]);
-//! let pair = read_pair(&store, table, 30, 70)?.unwrap();
-//! assert_eq!(pair.first.x_advance, -30);
+//! let before = read_pair(&store, table, 30, 70)?;
+//! assert_eq!(before.unwrap().first.x_advance, -30);
+//!
+//! let new_tables = split(&mut store, table, &mut scratch)?;
+//! assert_eq!(new_tables.len(), 1);
+//! assert_eq!(read_pair(&store, table, 30, 70)?, None);
+//! assert_eq!(read_pair(&store, new_tables[0], 30, 70)?, before);
 //! # Ok::<(), Refusal>(())
 //! ```
 
@@ -42,10 +48,12 @@ mod plan;
 pub mod raw;
 mod refusal;
 mod scratch;
+mod split;
 mod store;
 
 pub use pair::{read_pair, PairValues, Values};
 pub use plan::{cut_plan, cut_plan_into};
 pub use refusal::Refusal;
 pub use scratch::Scratch;
+pub use split::{split, split_into};
 pub use store::{Link, Room, Store, StoreMut, StoreRef};

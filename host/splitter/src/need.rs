@@ -2,11 +2,15 @@
 
 use crate::{Room, StoreRef};
 
-/// What a cut plan of a table needs.
+/// What a split or a cut plan of a table needs.
 ///
 /// Where a header cannot be read the numbers mean nothing. The call is then refused for that, before it
 /// looks at what it is lent.
 pub(crate) struct Need {
+    /// The table's format.
+    pub format: usize,
+    /// The table's bytes.
+    pub bytes: usize,
     /// The objects in use.
     pub objects: usize,
     /// The covered glyphs.
@@ -19,12 +23,28 @@ impl Need {
     pub fn of(store: StoreRef, table: u32) -> Self {
         let bytes = |object| store.object(object).unwrap_or_default();
         let header = bytes(table);
-        let count = if word(header, 0) == 1 { 8 } else { 12 };
+        let format = word(header, 0);
+        let count = if format == 1 { 8 } else { 12 };
         let coverage = store.child(table, 2);
         Self {
+            format,
+            bytes: header.len(),
             objects: (store.counts()[1] as usize).min(Room::MOST.objects),
             glyphs: coverage.map_or(0, |coverage| covered(bytes(coverage))),
             items: word(header, count),
+        }
+    }
+
+    /// The room for so many cuts. Of the data it may be more than is needed: no more item bytes are
+    /// moved than the table has, and a covered glyph goes to one coverage, in 2 bytes or less, and to
+    /// one class definition, in 6 or less.
+    pub fn room(&self, cuts: usize) -> Room {
+        let (parts, links) = if self.format == 1 { (1, 1) } else { (2, 3) };
+        let headers = 16 * cuts + 4 * parts * (cuts + 1);
+        Room {
+            data: headers + self.bytes + 8 * self.glyphs,
+            objects: cuts + parts * (cuts + 1),
+            links: links * cuts,
         }
     }
 }

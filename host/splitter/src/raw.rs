@@ -15,6 +15,30 @@
 
 mod exported {
     extern "C" {
+        pub fn split_pairpos(
+            data: *mut u8,
+            data_len: usize,
+            objects: *mut u32,
+            objects_len: usize,
+            links: *mut u32,
+            links_len: usize,
+            counts: *mut u32,
+            table: u32,
+            walk: *mut u32,
+            walk_len: usize,
+            glyph_set: *mut u8,
+            glyph_set_len: usize,
+            glyphs: *mut u16,
+            glyphs_len: usize,
+            classes: *mut u16,
+            classes_len: usize,
+            cuts: *mut u16,
+            cuts_len: usize,
+            new_tables: *mut u32,
+            new_tables_len: usize,
+            new_count: *mut u32,
+        ) -> u32;
+
         pub fn cut_plan(
             data: *const u8,
             data_len: usize,
@@ -56,11 +80,64 @@ mod exported {
     }
 }
 
+/// Splits a table at the cut places of the rule.
+///
+/// The table keeps the items before the first cut. Each cut starts a new table: `new_tables` takes
+/// their numbers in order, from its first entry on, and `new_count` becomes how many there are. With
+/// no cut, with a format other than 1 and 2, and where the answer is a refusal (1 to 8), `new_count`
+/// becomes 0 and store and list stay as they were.
+///
+/// What `data`, `objects` and `links` have beyond the counts is room. Of K cuts, format 1 needs
+/// 2K + 1 objects and K links, format 2 needs 3K + 2 objects and 3K links, both K entries of the list
+/// and the bytes of all new objects.
+#[expect(clippy::too_many_arguments)]
+pub fn split_pairpos(
+    data: &mut [u8],
+    objects: &mut [u32],
+    links: &mut [u32],
+    counts: &mut [u32; 3],
+    table: u32,
+    walk: &mut [u32],
+    glyph_set: &mut [u8],
+    glyphs: &mut [u16],
+    classes: &mut [u16],
+    cuts: &mut [u16],
+    new_tables: &mut [u32],
+    new_count: &mut u32,
+) -> u32 {
+    // SAFETY: each pointer is valid for its length, and what it leads to is lent to nobody else.
+    unsafe {
+        exported::split_pairpos(
+            data.as_mut_ptr(),
+            data.len(),
+            objects.as_mut_ptr(),
+            objects.len(),
+            links.as_mut_ptr(),
+            links.len(),
+            counts.as_mut_ptr(),
+            table,
+            walk.as_mut_ptr(),
+            walk.len(),
+            glyph_set.as_mut_ptr(),
+            glyph_set.len(),
+            glyphs.as_mut_ptr(),
+            glyphs.len(),
+            classes.as_mut_ptr(),
+            classes.len(),
+            cuts.as_mut_ptr(),
+            cuts.len(),
+            new_tables.as_mut_ptr(),
+            new_tables.len(),
+            new_count,
+        )
+    }
+}
+
 /// Says where a table would be cut, and changes nothing of the store.
 ///
 /// `places` takes the cut places in order, from its first entry on, and `place_count` becomes how
 /// many there are. Where the answer is a refusal (1 to 8) `place_count` becomes 0 and `places` stays as
-/// it was: 8 means that `places` is too short.
+/// it was: 1 to 7 are those of a split, and 8 means that `places` is too short.
 #[expect(clippy::too_many_arguments)]
 pub fn cut_plan(
     data: &[u8],

@@ -1,10 +1,10 @@
-//! The scratch of a cut plan.
+//! The scratch of a split and of a cut plan.
 
-use crate::{need::Need, raw, Refusal, StoreRef};
+use crate::{need::Need, raw, Refusal, StoreMut, StoreRef};
 
 const GLYPH_SET: usize = 8_192;
 
-/// Buffers that cut plans work in, kept from call to call.
+/// Buffers that splits and cut plans work in, kept from call to call.
 ///
 /// They grow as tables need them, up to 1 MB. One is enough for all stores and tables, and no call
 /// leaves anything in it.
@@ -27,6 +27,31 @@ impl Scratch {
             classes: Vec::new(),
             cuts: Vec::new(),
         }
+    }
+
+    pub(crate) fn split(
+        &mut self,
+        store: StoreMut,
+        table: u32,
+        new_tables: &mut [u32],
+    ) -> Result<usize, Refusal> {
+        let need = Need::of(store.view(), table);
+        let mut count = 0;
+        let answer = raw::split_pairpos(
+            store.data,
+            store.objects,
+            store.links,
+            store.counts,
+            table,
+            part(&mut self.walk, 2 * need.objects),
+            part(&mut self.glyph_set, GLYPH_SET),
+            part(&mut self.glyphs, need.glyphs),
+            part(&mut self.classes, need.glyphs),
+            part(&mut self.cuts, need.items),
+            new_tables,
+            &mut count,
+        );
+        Refusal::answered(answer).map(|()| count as usize)
     }
 
     pub(crate) fn plan(

@@ -189,6 +189,27 @@ impl Store {
         self.links.resize(links, 0);
     }
 
+    /// Makes a call with at least so much room, or up to the maxima. Where it is refused, the buffers
+    /// become what they were.
+    pub(crate) fn with_room<T>(
+        &mut self,
+        room: Room,
+        call: impl FnOnce(&mut Self) -> Result<T, Refusal>,
+    ) -> Result<T, Refusal> {
+        let before = [self.data.len(), self.objects.len(), self.links.len()];
+        let [data, objects, links] = self.lengths_for(room);
+        self.data.resize(data.max(before[0]), 0);
+        self.objects.resize(objects.max(before[1]), 0);
+        self.links.resize(links.max(before[2]), 0);
+        let answer = call(self);
+        if answer.is_err() {
+            self.data.truncate(before[0]);
+            self.objects.truncate(before[1]);
+            self.links.truncate(before[2]);
+        }
+        answer
+    }
+
     /// How long the buffers are with so much room, or up to the maxima.
     fn lengths_for(&self, room: Room) -> [usize; 3] {
         let [data, objects, links] = self.counts.map(|count| count as usize);
