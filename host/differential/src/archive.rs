@@ -1,16 +1,30 @@
 //! The exported functions, which are proved, as a subject.
 
-use crate::{Call, Model, Pair, Subject};
+use crate::{Call, Pair, Subject};
 use oracle::Store;
 use splitter::raw;
 
-/// The proved functions, as the archive has them. The split is not exported yet: it is the model's.
+/// The proved functions, as the archive has them.
 #[derive(Clone, Copy, Debug)]
 pub struct Archive;
 
 impl Subject for Archive {
     fn split_pairpos(&self, call: &mut Call<u32>) -> u32 {
-        Model.split_pairpos(call)
+        let (store, scratch) = (&mut call.store, &mut call.scratch);
+        raw::split_pairpos(
+            &mut store.data,
+            &mut store.objects,
+            &mut store.links,
+            &mut store.counts,
+            call.table,
+            &mut scratch.walk,
+            &mut scratch.glyph_set,
+            &mut scratch.glyphs,
+            &mut scratch.classes,
+            &mut scratch.cuts,
+            &mut call.list,
+            &mut call.count,
+        )
     }
 
     fn cut_plan(&self, call: &mut Call<u16>) -> u32 {

@@ -1,12 +1,13 @@
 //! The host library over generated stores: what it lends is enough, and what it gives is the model's.
 
 use differential::{
+    check::Split,
     damage,
     generate::{self, Case},
     lend, Call, Model, Pair, Random, Scratch, Subject,
 };
 use oracle::Store;
-use splitter::{cut_plan, read_pair, PairValues, StoreRef, Values};
+use splitter::{cut_plan, read_pair, split, split_into, PairValues, Refusal, StoreRef, Values};
 
 const STORES: u64 = 600;
 
@@ -74,6 +75,83 @@ fn plans_of_damaged_stores() {
             assert_planned(&call, &mut scratch, "scrambled");
         }
     }
+}
+
+fn owned(store: &Store) -> splitter::Store {
+    let Store {
+        data,
+        objects,
+        links,
+        counts,
+    } = store.clone();
+    splitter::Store::from_parts(data, objects, links, counts).unwrap()
+}
+
+/// All that is in use.
+fn in_use(store: splitter::Store) -> Store {
+    let (mut data, mut objects, mut links, counts) = store.into_parts();
+    data.truncate(counts[0] as usize);
+    objects.truncate(2 * counts[1] as usize);
+    links.truncate(4 * counts[2] as usize);
+    Store {
+        data,
+        objects,
+        links,
+        counts,
+    }
+}
+
+/// Stores without room grow, and are then the model's.
+#[test]
+fn splits() {
+    let mut scratch = splitter::Scratch::new();
+    let mut cut = 0;
+    for case in cases(STORES) {
+        let call = lend::exactly(&case.store, case.table, &mut Random::new(0));
+        let model = Split::by(&Model, &call);
+        let mut store = owned(&case.store);
+        let mut list = vec![0; model.places.len()];
+        let answer = split_into(&mut store, case.table, &mut scratch, &mut list);
+        if !model.places.is_empty() {
+            assert_eq!(answer, Err(Refusal::NoRoom));
+            cut += 1;
+        }
+        assert_eq!(in_use(store.clone()), case.store);
+        let new_tables = split(&mut store, case.table, &mut scratch);
+        assert_eq!(new_tables.as_deref(), Ok(model.new_tables()));
+        assert!(store.view().is_sound());
+        assert_eq!(in_use(store), model.after.store);
+    }
+    assert!(cut > 500);
+}
+
+/// Damaged stores that are sound are refused, and stay; or they are split.
+#[test]
+fn splits_of_damaged_stores() {
+    let mut scratch = splitter::Scratch::new();
+    let mut refused = 0;
+    for case in cases(DAMAGED) {
+        let mut random = Random::new(case.table.into());
+        let call = lend::exactly(&case.store, case.table, &mut random);
+        for _ in 0..SCRAMBLES {
+            let mut call = damage::scramble(&call, &mut random);
+            if !lent(&call.store).is_sound() {
+                continue;
+            }
+            call.store = in_use(owned(&call.store));
+            let (answer, places) = model_plan(&call);
+            let mut store = owned(&call.store);
+            match split(&mut store, call.table, &mut scratch) {
+                Ok(new_tables) => assert_eq!((0, new_tables.len()), (answer, places.len())),
+                Err(refusal) => {
+                    assert_eq!(refusal.number(), answer);
+                    assert_eq!(store, owned(&call.store));
+                    refused += 1;
+                }
+            }
+        }
+    }
+    assert!(refused > 500);
 }
 
 /// The library's names for the sixteen numbers.
