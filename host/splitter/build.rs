@@ -22,7 +22,10 @@ fn main() {
     println!("cargo::rerun-if-env-changed=RATTLE_HOME");
     ensure_target();
     let out = PathBuf::from(variable("OUT_DIR"));
-    prove(&root, &out.join(ARCHIVE));
+    let archive = out.join(ARCHIVE);
+    prove(&root, &archive);
+    // For tests in other languages.
+    println!("cargo::rustc-env=SPLITTER_ARCHIVE={}", archive.display());
     println!("cargo::rustc-link-search=native={}", out.display());
     println!("cargo::rustc-link-lib=static=splitter");
 }

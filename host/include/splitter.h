@@ -1,0 +1,144 @@
+/* The proved PairPos splitter, for hosts in C and C++ on x86-64 Linux.
+ *
+ * `rt staticlib splitter`, at the top of the repository, proves the functions and writes the archive
+ * to link, target/staticlib/libsplitter.a. It needs nothing else, allocates nothing, keeps nothing
+ * between calls, and may be called from any thread.
+ *
+ * The object store
+ *   data     the bytes of all objects
+ *   objects  rows of two numbers: where an object's bytes start, and where they end
+ *   links    rows of four numbers: parent, position in the parent, width (2), child;
+ *            they ascend by parent and position
+ *   counts   how many data bytes, object rows and link rows are in use
+ * What the buffers have beyond the counts is room for a split. A length is in elements, not in rows
+ * or bytes; a part of a row at the end of a buffer is no row.
+ *
+ * What is lent
+ *   Each pointer leads to as many elements as the length behind it says, all of them initialised and
+ *   aligned as C aligns them. No two buffers overlap, except where both are only read. A buffer of
+ *   length 0 may be a null pointer. The contents may be anything: no input is an error of the caller,
+ *   and each has its answer.
+ *
+ * Answers
+ *   Each function returns one of the numbers below, the first that applies. Where it is not
+ *   SPLITTER_DONE nothing has changed but the scratch and the outputs that the function names. */
+#ifndef SPLITTER_H
+#define SPLITTER_H
+
+#include <stddef.h>
+#include <stdint.h>
+
+#ifdef __cplusplus
+extern "C" {
+#endif
+
+enum {
+    /* it is done, or there is nothing to do */
+    SPLITTER_DONE = 0,
+    /* the store is not sound: counts past the buffers or the maxima, an object out of order or past
+     * the data in use, a link out of order, of another width, not within its parent, or to an object
+     * that is not in use */
+    SPLITTER_UNSOUND = 1,
+    /* the table's number is not in use */
+    SPLITTER_NO_TABLE = 2,
+    /* the table has under 2 bytes, or not exactly 10 + 2 for each pair set (format 1), or
+     * 16 + all class records (format 2) */
+    SPLITTER_BAD_TABLE = 3,
+    /* coverage or a class definition is not linked, or cannot be read */
+    SPLITTER_BAD_PARTS = 4,
+    /* format 1: the coverage has fewer glyphs than the table has pair sets */
+    SPLITTER_FEW_GLYPHS = 5,
+    /* a scratch buffer is too short */
+    SPLITTER_SHORT_SCRATCH = 6,
+    /* a link of the table stands at no slot, or the table can be reached from itself */
+    SPLITTER_BAD_LINKS = 7,
+    /* there is no room: data, objects, links or the list that takes the result */
+    SPLITTER_NO_ROOM = 8
+};
+
+/* The most that a store has in use. Room beyond is not used. */
+enum {
+    SPLITTER_MOST_DATA = 16777216,
+    SPLITTER_MOST_OBJECTS = 65536,
+    SPLITTER_MOST_LINKS = 262144
+};
+
+/* Scratch lengths that are enough for any table. Exactly enough: for walk two numbers for each object
+ * in use, for glyphs and classes one entry for each covered glyph, for cuts one entry for each pair
+ * set or row. Shorter scratch is cleared sooner. */
+enum {
+    SPLITTER_WALK = 131072,
+    SPLITTER_GLYPH_SET = 8192,
+    SPLITTER_GLYPHS = 65536,
+    SPLITTER_CLASSES = 65536,
+    SPLITTER_CUTS = 65535
+};
+
+/* Splits a table at the cut places of the rule.
+ *
+ * The table keeps its number and the items before the first cut; each cut starts a new table.
+ * new_tables takes their numbers in order, from its first entry on, and *new_count becomes how many
+ * there are. With no cut, with a format other than 1 and 2, and where it is refused (1 to 8),
+ * *new_count becomes 0 and store, counts and new_tables stay as they were.
+ *
+ * Of K cuts, K above 0, format 1 needs room for 2K + 1 objects and K links, format 2 for 3K + 2
+ * objects and 3K links, both for K entries of new_tables and for the bytes of all new objects.
+ *
+ * walk, glyph_set, glyphs, classes and cuts are scratch: zero after every call, all of it. */
+uint32_t split_pairpos(
+    uint8_t *data, size_t data_len,
+    uint32_t *objects, size_t objects_len,
+    uint32_t *links, size_t links_len,
+    uint32_t counts[3],
+    uint32_t table,
+    uint32_t *walk, size_t walk_len,
+    uint8_t *glyph_set, size_t glyph_set_len,
+    uint16_t *glyphs, size_t glyphs_len,
+    uint16_t *classes, size_t classes_len,
+    uint16_t *cuts, size_t cuts_len,
+    uint32_t *new_tables, size_t new_tables_len,
+    uint32_t *new_count);
+
+/* Says where a table would be cut. The store is only read.
+ *
+ * places takes the cut places in order, from its first entry on: numbers of pair sets in format 1, of
+ * rows in format 2. *place_count becomes how many there are. The refusals are those of a split, but
+ * that only places can be short of room; *place_count then becomes 0 and places stays as it was.
+ *
+ * The scratch is that of a split. */
+uint32_t cut_plan(
+    const uint8_t *data, size_t data_len,
+    const uint32_t *objects, size_t objects_len,
+    const uint32_t *links, size_t links_len,
+    const uint32_t counts[3],
+    uint32_t table,
+    uint32_t *walk, size_t walk_len,
+    uint8_t *glyph_set, size_t glyph_set_len,
+    uint16_t *glyphs, size_t glyphs_len,
+    uint16_t *classes, size_t classes_len,
+    uint16_t *cuts, size_t cuts_len,
+    uint16_t *places, size_t places_len,
+    uint32_t *place_count);
+
+/* Reads what a table says of two glyphs, the first before the second. The store is only read.
+ *
+ * values becomes eight numbers for the first glyph and eight for the second: X placement,
+ * Y placement, X advance, Y advance, then their four devices, each as the number of the linked object
+ * plus one, or 0; *found becomes 1. Where there is no pair, and where it is refused (1 to 5), all
+ * sixteen numbers and *found become 0. */
+uint32_t read_pair(
+    const uint8_t *data, size_t data_len,
+    const uint32_t *objects, size_t objects_len,
+    const uint32_t *links, size_t links_len,
+    const uint32_t counts[3],
+    uint32_t table,
+    uint16_t first,
+    uint16_t second,
+    int32_t values[16],
+    uint32_t *found);
+
+#ifdef __cplusplus
+}
+#endif
+
+#endif

@@ -1,0 +1,182 @@
+/* Calls each exported function through splitter.h: in C, and in C++ too. */
+#include "splitter.h"
+
+#include <stdio.h>
+#include <stdlib.h>
+#include <string.h>
+
+static int failures = 0;
+
+static void expect(int holds, const char *what, int line) {
+    if (!holds) {
+        fprintf(stderr, "line %d: %s\n", line, what);
+        failures += 1;
+    }
+}
+
+#define EXPECT(condition) expect((condition), #condition, __LINE__)
+
+/* Three pair sets of 30,000 bytes, and exactly the room that a cut at 2 needs. */
+enum { SET = 30000, USED = 26 + 3 * SET, ROOM = 26 };
+
+typedef struct {
+    uint8_t *data;
+    uint32_t objects[2 * 8];
+    uint32_t links[4 * 5];
+    uint32_t counts[3];
+} store;
+
+/* Exactly enough for five objects, three glyphs and three sets, and what is not lent behind it. */
+typedef struct {
+    uint32_t walk[10];
+    uint8_t glyph_set[SPLITTER_GLYPH_SET];
+    uint16_t glyphs[3];
+    uint16_t classes[3];
+    uint16_t cuts[3];
+    uint16_t behind;
+} scratch;
+
+static void put(uint8_t *data, const uint16_t *words, size_t count) {
+    for (size_t i = 0; i < count; i++) {
+        data[2 * i] = (uint8_t)(words[i] >> 8);
+        data[2 * i + 1] = (uint8_t)words[i];
+    }
+}
+
+static void row(uint32_t *links, uint32_t parent, uint32_t position, uint32_t child) {
+    links[0] = parent;
+    links[1] = position;
+    links[2] = 2;
+    links[3] = child;
+}
+
+/* A format 1 table with X advances, its coverage of glyphs 10, 20 and 30, and three sets, each with a
+ * pair with glyph 70 whose advance is minus the set's number. */
+static void make(store *s) {
+    static const uint16_t head[] = {1, 0, 4, 0, 3, 0, 0, 0, 1, 3, 10, 20, 30};
+    static const uint32_t ends[] = {0, 16, 26, 26 + SET, 26 + 2 * SET, 26 + 3 * SET};
+    s->data = (uint8_t *)calloc(USED + ROOM, 1);
+    memset(s->objects, 0xA5, sizeof s->objects);
+    memset(s->links, 0xA5, sizeof s->links);
+    put(s->data, head, sizeof head / sizeof *head);
+    for (uint32_t i = 0; i < 5; i++) {
+        s->objects[2 * i] = ends[i];
+        s->objects[2 * i + 1] = ends[i + 1];
+    }
+    row(s->links, 0, 2, 1);
+    for (uint32_t i = 0; i < 3; i++) {
+        const uint16_t set[] = {1, 70, (uint16_t)(0x10000 - i)};
+        put(s->data + ends[i + 2], set, 3);
+        row(s->links + 4 * (i + 1), 0, 10 + 2 * i, i + 2);
+    }
+    s->counts[0] = USED;
+    s->counts[1] = 5;
+    s->counts[2] = 4;
+}
+
+static int is_zero(const scratch *s) {
+    const uint8_t *bytes = (const uint8_t *)s;
+    uint8_t any = 0;
+    for (size_t i = 0; i < offsetof(scratch, behind); i++) {
+        any |= bytes[i];
+    }
+    return any == 0 && s->behind == 0xA5A5;
+}
+
+static uint32_t plan(const store *s, uint32_t table, scratch *w, uint16_t *places, size_t places_len, uint32_t *count) {
+    memset(w, 0xA5, sizeof *w);
+    return cut_plan(s->data, USED + ROOM, s->objects, 16, s->links, 20, s->counts, table,
+        w->walk, 10, w->glyph_set, SPLITTER_GLYPH_SET, w->glyphs, 3, w->classes, 3, w->cuts, 3,
+        places, places_len, count);
+}
+
+static uint32_t split(store *s, uint32_t table, scratch *w, uint32_t *tables, size_t tables_len, uint32_t *count) {
+    memset(w, 0xA5, sizeof *w);
+    return split_pairpos(s->data, USED + ROOM, s->objects, 16, s->links, 20, s->counts, table,
+        w->walk, 10, w->glyph_set, SPLITTER_GLYPH_SET, w->glyphs, 3, w->classes, 3, w->cuts, 3,
+        tables, tables_len, count);
+}
+
+static uint32_t pair(const store *s, uint32_t table, uint16_t first, int32_t values[16], uint32_t *found) {
+    memset(values, 0xA5, 16 * sizeof *values);
+    *found = 77;
+    return read_pair(s->data, USED + ROOM, s->objects, 16, s->links, 20, s->counts, table, first, 70, values, found);
+}
+
+/* A pair reading of glyph 30: its one number, or nothing at all. */
+static void expect_pair(const store *s, uint32_t table, int there) {
+    int32_t values[16], expected[16] = {0};
+    uint32_t found;
+    expected[2] = there ? -2 : 0;
+    EXPECT(pair(s, table, 30, values, &found) == SPLITTER_DONE);
+    EXPECT(found == (uint32_t)there);
+    EXPECT(memcmp(values, expected, sizeof values) == 0);
+}
+
+static void a_split(void) {
+    store s;
+    scratch w;
+    uint16_t places[2] = {77, 77};
+    uint32_t tables[2] = {77, 77}, count = 77;
+    make(&s);
+    expect_pair(&s, 0, 1);
+
+    EXPECT(plan(&s, 0, &w, places, 2, &count) == SPLITTER_DONE);
+    EXPECT(count == 1 && places[0] == 2 && places[1] == 77 && is_zero(&w));
+    EXPECT(split(&s, 0, &w, tables, 2, &count) == SPLITTER_DONE);
+    EXPECT(count == 1 && tables[0] == 5 && tables[1] == 77 && is_zero(&w));
+
+    static const uint16_t written[] = {1, 0, 4, 0, 1, 0, 1, 1, 30, 1, 2, 10, 20};
+    uint8_t bytes[ROOM];
+    put(bytes, written, ROOM / 2);
+    EXPECT(memcmp(s.data + USED, bytes, ROOM) == 0);
+    static const uint32_t counts[3] = {USED + ROOM, 8, 5};
+    EXPECT(memcmp(s.counts, counts, sizeof counts) == 0);
+    expect_pair(&s, 0, 0);
+    expect_pair(&s, 5, 1);
+    free(s.data);
+}
+
+static void refusals(void) {
+    store s;
+    scratch w;
+    uint16_t place = 77;
+    uint32_t table = 77, count = 77, found;
+    int32_t values[16], zeros[16] = {0};
+    make(&s);
+
+    EXPECT(plan(&s, 0, &w, &place, 0, &count) == SPLITTER_NO_ROOM && count == 0 && is_zero(&w));
+    count = 77;
+    EXPECT(split(&s, 0, &w, &table, 0, &count) == SPLITTER_NO_ROOM && count == 0 && is_zero(&w));
+    EXPECT(split(&s, 5, &w, &table, 1, &count) == SPLITTER_NO_TABLE && is_zero(&w));
+    EXPECT(split(&s, 1, &w, &table, 1, &count) == SPLITTER_BAD_TABLE && is_zero(&w));
+    EXPECT(pair(&s, 5, 30, values, &found) == SPLITTER_NO_TABLE && found == 0);
+    EXPECT(memcmp(values, zeros, sizeof zeros) == 0);
+    s.counts[2] = 5;
+    EXPECT(plan(&s, 0, &w, &place, 1, &count) == SPLITTER_UNSOUND && count == 0 && is_zero(&w));
+    EXPECT(split(&s, 0, &w, &table, 1, &count) == SPLITTER_UNSOUND && count == 0 && is_zero(&w));
+    EXPECT(place == 77 && table == 77);
+    free(s.data);
+}
+
+/* Nothing is lent but the counts. */
+static void null_pointers(void) {
+    uint32_t counts[3] = {0, 0, 0}, count = 77, found = 77;
+    int32_t values[16], zeros[16] = {0};
+    EXPECT(split_pairpos(NULL, 0, NULL, 0, NULL, 0, counts, 0, NULL, 0, NULL, 0, NULL, 0, NULL, 0,
+        NULL, 0, NULL, 0, &count) == SPLITTER_NO_TABLE);
+    EXPECT(count == 0);
+    count = 77;
+    EXPECT(cut_plan(NULL, 0, NULL, 0, NULL, 0, counts, 0, NULL, 0, NULL, 0, NULL, 0, NULL, 0,
+        NULL, 0, NULL, 0, &count) == SPLITTER_NO_TABLE);
+    EXPECT(count == 0);
+    EXPECT(read_pair(NULL, 0, NULL, 0, NULL, 0, counts, 0, 0, 0, values, &found) == SPLITTER_NO_TABLE);
+    EXPECT(found == 0 && memcmp(values, zeros, sizeof zeros) == 0);
+}
+
+int main(void) {
+    a_split();
+    refusals();
+    null_pointers();
+    return failures == 0 ? EXIT_SUCCESS : EXIT_FAILURE;
+}
