@@ -11,6 +11,7 @@
 //! | split a table that is too large | [`split()`], or [`split_into`] with a list of the host's own |
 //! | see where it would be cut | [`cut_plan`], or [`cut_plan_into`] |
 //! | read what a table says of two glyphs | [`read_pair`] |
+//! | keep a store in a file, for the command `splitter` | [`store_file`] |
 //!
 //! ```
 //! use splitter::{cut_plan, read_pair, split, Refusal, Scratch, Store};
@@ -50,6 +51,7 @@ mod refusal;
 mod scratch;
 mod split;
 mod store;
+pub mod store_file;
 
 pub use pair::{read_pair, PairValues, Values};
 pub use plan::{cut_plan, cut_plan_into};

@@ -1,0 +1,172 @@
+//! Stores as files.
+//!
+//! A host that wants a store looked at writes it to a file; the command `splitter` plans, splits and
+//! reads such files. All numbers are big-endian, and nothing stands between the parts:
+//!
+//! | at | bytes | what |
+//! |---|---|---|
+//! | 0 | 4 | the letters `KRNS` |
+//! | 4 | 2 | the version, 1 |
+//! | 6 | 2 | T, how many tables are listed |
+//! | 8 | 4 | D, how many data bytes there are |
+//! | 12 | 4 | O, how many objects there are |
+//! | 16 | 4 | L, how many links there are |
+//! | 20 | D | the data bytes |
+//! | 20 + D | 8 · O | object rows: head and tail, 4 bytes each |
+//! | 20 + D + 8 · O | 16 · L | link rows: parent, position, width and child, 4 bytes each |
+//! | 20 + D + 8 · O + 16 · L | 4 · T | the numbers of the tables, 4 bytes each |
+//!
+//! The file ends there. The listed tables are the PairPos tables that the file is about, in the order
+//! in which a shaper asks them: each is an object in use, and none is listed twice. The store is
+//! sound. Whatever is otherwise is refused when the file is read, so what was read is written as the
+//! same bytes again.
+
+mod error;
+
+pub use error::FileError;
+
+use crate::Store;
+use std::collections::HashSet;
+
+/// The letters that a store file starts with.
+pub const MAGIC: [u8; 4] = *b"KRNS";
+
+/// The version that is written, and the only one that is read.
+pub const VERSION: u16 = 1;
+
+/// The bytes before the data.
+const HEADER: usize = 20;
+
+/// A store, and the tables in it that the file is about.
+///
+/// ```
+/// use splitter::{store_file::StoreFile, Store};
+///
+/// let mut store = Store::new();
+/// let table = store.add_object(&[0, 1, 0, 0, 0, 4, 0, 0, 0, 0])?;
+/// let coverage = store.add_object(&[0, 1, 0, 0])?;
+/// store.add_link(table, 2, coverage)?;
+///
+/// let bytes = StoreFile::new(store, vec![table])?.to_bytes();
+/// let file = StoreFile::from_bytes(&bytes)?;
+/// assert_eq!(file.tables(), [table]);
+/// assert_eq!(file.store().view().child(table, 2), Some(coverage));
+/// assert_eq!(file.to_bytes(), bytes);
+/// # Ok::<(), Box<dyn std::error::Error>>(())
+/// ```
+#[derive(Clone, Debug, Default, PartialEq, Eq)]
+pub struct StoreFile {
+    store: Store,
+    tables: Vec<u32>,
+}
+
+impl StoreFile {
+    /// A file of a store, about these tables.
+    ///
+    /// # Errors
+    ///
+    /// [`FileError::NoTable`], [`FileError::TableTwice`] and [`FileError::ManyTables`].
+    pub fn new(store: Store, tables: Vec<u32>) -> Result<Self, FileError> {
+        let [_, objects, _] = store.view().counts();
+        let mut listed = HashSet::new();
+        for &table in &tables {
+            if table >= objects {
+                return Err(FileError::NoTable { table, objects });
+            }
+            if !listed.insert(table) {
+                return Err(FileError::TableTwice { table });
+            }
+        }
+        match u16::try_from(tables.len()) {
+            Ok(_) => Ok(Self { store, tables }),
+            Err(_) => Err(FileError::ManyTables),
+        }
+    }
+
+    /// Reads a file.
+    ///
+    /// # Errors
+    ///
+    /// The first [`FileError`] that applies.
+    pub fn from_bytes(bytes: &[u8]) -> Result<Self, FileError> {
+        let (counts, rest) = header(bytes)?;
+        let [data, objects, links] = counts;
+        let (data, rest) = rest.split_at(data as usize);
+        let (objects, rest) = rest.split_at(8 * objects as usize);
+        let (links, tables) = rest.split_at(16 * links as usize);
+        let store = Store::from_parts(data.to_vec(), numbers(objects), numbers(links), counts);
+        Self::new(store.map_err(FileError::Store)?, numbers(tables))
+    }
+
+    /// The file's bytes.
+    pub fn to_bytes(&self) -> Vec<u8> {
+        let view = self.store.view();
+        let [data, objects, links] = view.counts();
+        let mut bytes = Vec::new();
+        bytes.extend(MAGIC);
+        bytes.extend(VERSION.to_be_bytes());
+        bytes.extend((self.tables.len() as u16).to_be_bytes());
+        extend(&mut bytes, &[data, objects, links]);
+        bytes.extend(view.data());
+        extend(&mut bytes, &view.objects[..2 * objects as usize]);
+        extend(&mut bytes, &view.links[..4 * links as usize]);
+        extend(&mut bytes, &self.tables);
+        bytes
+    }
+
+    /// The store.
+    pub const fn store(&self) -> &Store {
+        &self.store
+    }
+
+    /// The tables that the file is about.
+    pub fn tables(&self) -> &[u32] {
+        &self.tables
+    }
+
+    /// The store, and the tables that the file is about.
+    pub fn into_parts(self) -> (Store, Vec<u32>) {
+        (self.store, self.tables)
+    }
+}
+
+/// How many data bytes, objects and links there are in a file that is exactly as long as its header
+/// asks for, and what comes behind the header.
+fn header(bytes: &[u8]) -> Result<([u32; 3], &[u8]), FileError> {
+    if !bytes.starts_with(&MAGIC) {
+        return Err(FileError::NotAStoreFile);
+    }
+    let is = bytes.len() as u64;
+    let short = FileError::Length {
+        is,
+        asked: HEADER as u64,
+    };
+    let version = bytes.get(4..6).ok_or(short)?;
+    let version = number(version) as u16;
+    if version != VERSION {
+        return Err(FileError::Version { version });
+    }
+    let (header, rest) = bytes.split_at_checked(HEADER).ok_or(short)?;
+    let tables = number(&header[6..8]);
+    let counts = [8, 12, 16].map(|at| number(&header[at..at + 4]));
+    let [data, objects, links] = counts.map(u64::from);
+    let asked = HEADER as u64 + data + 8 * objects + 16 * links + 4 * u64::from(tables);
+    match is == asked {
+        true => Ok((counts, rest)),
+        false => Err(FileError::Length { is, asked }),
+    }
+}
+
+/// The number that up to four bytes are.
+fn number(bytes: &[u8]) -> u32 {
+    let longer = |number, &byte| number << 8 | u32::from(byte);
+    bytes.iter().fold(0, longer)
+}
+
+fn numbers(bytes: &[u8]) -> Vec<u32> {
+    bytes.chunks_exact(4).map(number).collect()
+}
+
+fn extend(bytes: &mut Vec<u8>, numbers: &[u32]) {
+    bytes.extend(numbers.iter().flat_map(|number| number.to_be_bytes()));
+}

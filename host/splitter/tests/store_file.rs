@@ -1,0 +1,193 @@
+//! Store files: their bytes, and files that are refused.
+
+mod common;
+
+use common::store;
+use splitter::{
+    read_pair,
+    store_file::{FileError, StoreFile},
+    Refusal, Store,
+};
+
+/// A table of one pair set, its coverage, and an object that nothing leads to.
+fn small() -> StoreFile {
+    let objects: [&[u16]; 4] = [&[1, 0, 4, 0, 1, 0], &[1, 1, 7], &[1, 70, 0xFFE2], &[]];
+    let store = store(&objects, &[[0, 2, 1], [0, 10, 2]]);
+    StoreFile::new(store, vec![0, 2]).unwrap()
+}
+
+/// The same in a file.
+fn small_bytes() -> Vec<u8> {
+    let header = [
+        "KRNS",
+        "\0\x01",
+        "\0\x02",
+        "\0\0\0\x18",
+        "\0\0\0\x04",
+        "\0\0\0\x02",
+    ];
+    let mut bytes = header.concat().into_bytes();
+    bytes.extend([0, 1, 0, 0, 0, 4, 0, 0, 0, 1, 0, 0]);
+    bytes.extend([0, 1, 0, 1, 0, 7]);
+    bytes.extend([0, 1, 0, 70, 0xFF, 0xE2]);
+    let rows = [
+        &[0, 12, 12, 18, 18, 24, 24, 24][..],
+        &[0, 2, 2, 1, 0, 10, 2, 2],
+        &[0, 2],
+    ];
+    for number in rows.concat() {
+        bytes.extend(u32::to_be_bytes(number));
+    }
+    bytes
+}
+
+fn error(bytes: &[u8]) -> FileError {
+    StoreFile::from_bytes(bytes).unwrap_err()
+}
+
+#[test]
+fn the_layout() {
+    assert_eq!(small().to_bytes(), small_bytes());
+    assert_eq!(StoreFile::from_bytes(&small_bytes()), Ok(small()));
+}
+
+/// The example in the document: numbers of two digits at the start of its lines.
+#[test]
+fn the_documents_example() {
+    let document = include_str!("../../../docs/STORE_FILE.md");
+    let is_byte = |word: &&str| word.len() == 2;
+    let lines = document.lines().filter(|line| line.starts_with("    "));
+    let words = lines.flat_map(|line| line.split_whitespace().take_while(is_byte));
+    let bytes: Vec<u8> = words
+        .map(|word| u8::from_str_radix(word, 16).unwrap())
+        .collect();
+    let file = StoreFile::from_bytes(&bytes).unwrap();
+    assert_eq!(file.tables(), [0]);
+    assert_eq!(file.to_bytes(), bytes);
+    let pair = read_pair(file.store(), 0, 7, 70).unwrap().unwrap();
+    assert_eq!(pair.first.x_advance, -30);
+}
+
+#[test]
+fn nothing_at_all() {
+    let file = StoreFile::default();
+    assert_eq!(file.to_bytes().len(), 20);
+    assert_eq!(StoreFile::from_bytes(&file.to_bytes()), Ok(file));
+}
+
+/// Room is not written, and what stands between objects is.
+#[test]
+fn what_is_written() {
+    let (mut data, mut objects, mut links, mut counts) = small().into_parts().0.into_parts();
+    data.extend([9; 5]);
+    counts[0] += 3;
+    objects.extend([7; 5]);
+    links.extend([7; 9]);
+    objects[7] = 26;
+    let store = Store::from_parts(data, objects, links, counts).unwrap();
+    let bytes = StoreFile::new(store, vec![0, 2]).unwrap().to_bytes();
+    assert_eq!(bytes.len(), small_bytes().len() + 3);
+    let file = StoreFile::from_bytes(&bytes).unwrap();
+    assert_eq!(file.store().view().object(3), Some(&[9, 9][..]));
+    assert_eq!(file.to_bytes(), bytes);
+}
+
+#[test]
+fn other_files() {
+    for bytes in [&b""[..], b"KRN", b"SNRK, and more", b"\0\x01\0\0"] {
+        assert_eq!(error(bytes), FileError::NotAStoreFile);
+    }
+    for version in [0, 2, 256, 65_535] {
+        let mut bytes = small_bytes();
+        bytes[4..6].copy_from_slice(&u16::to_be_bytes(version));
+        assert_eq!(error(&bytes), FileError::Version { version });
+        assert_eq!(error(&bytes[..6]), FileError::Version { version });
+    }
+}
+
+#[test]
+fn files_of_another_length() {
+    let bytes = small_bytes();
+    for len in 4..bytes.len() {
+        let asked = if len < 20 { 20 } else { bytes.len() as u64 };
+        let is = len as u64;
+        assert_eq!(error(&bytes[..len]), FileError::Length { is, asked });
+    }
+    let longer = [&bytes[..], &[0]].concat();
+    let [is, asked] = [longer.len() as u64, bytes.len() as u64];
+    assert_eq!(error(&longer), FileError::Length { is, asked });
+}
+
+/// Counts that no file is long enough for.
+#[test]
+fn the_largest_counts() {
+    let mut bytes = small_bytes();
+    bytes[6..20].fill(0xFF);
+    let asked = 20 + (1 + 8 + 16) * u64::from(u32::MAX) + 4 * u64::from(u16::MAX);
+    let is = bytes.len() as u64;
+    assert_eq!(error(&bytes), FileError::Length { is, asked });
+}
+
+/// Any byte may be any other: what is then read is written as it was.
+#[test]
+fn a_damaged_byte() {
+    let bytes = small_bytes();
+    let mut read = 0;
+    for place in 0..bytes.len() {
+        for byte in 0..=u8::MAX {
+            let mut bytes = bytes.clone();
+            bytes[place] = byte;
+            match StoreFile::from_bytes(&bytes) {
+                Ok(file) => {
+                    assert_eq!(file.to_bytes(), bytes);
+                    read += 1;
+                }
+                Err(error) => assert!(error.to_string().len() > 20),
+            }
+        }
+    }
+    assert!(read > 24 * 256);
+}
+
+#[test]
+fn tables_that_cannot_be_listed() {
+    let listed = |tables: &[u32]| {
+        let refused = StoreFile::new(small().into_parts().0, tables.to_vec()).unwrap_err();
+        let mut bytes = small_bytes();
+        let end = bytes.len() - 8;
+        bytes.truncate(end);
+        bytes[7] = tables.len() as u8;
+        bytes.extend(tables.iter().flat_map(|table| table.to_be_bytes()));
+        assert_eq!(error(&bytes), refused);
+        refused
+    };
+    let no_table = FileError::NoTable {
+        table: 4,
+        objects: 4,
+    };
+    assert_eq!(listed(&[0, 4]), no_table);
+    assert_eq!(listed(&[3, 0, 3]), FileError::TableTwice { table: 3 });
+}
+
+#[test]
+fn tables_without_end() {
+    let mut store = Store::new();
+    for _ in 0..65_536 {
+        store.add_object(&[]).unwrap();
+    }
+    let all: Vec<u32> = (0..65_536).collect();
+    let most = StoreFile::new(store.clone(), all[1..].to_vec()).unwrap();
+    assert_eq!(StoreFile::from_bytes(&most.to_bytes()), Ok(most));
+    assert_eq!(StoreFile::new(store, all), Err(FileError::ManyTables));
+}
+
+/// The store's own sentence says what is wrong with it.
+#[test]
+fn stores_that_are_not_sound() {
+    let mut bytes = small_bytes();
+    let links = 20 + 24 + 32;
+    bytes[links + 7] = 10;
+    let refused = FileError::Store(Refusal::Unsound);
+    assert_eq!(error(&bytes), refused);
+    assert_eq!(refused.to_string(), Refusal::Unsound.to_string());
+}
