@@ -1,0 +1,169 @@
+//! What the words ask for.
+
+mod name;
+mod words;
+
+pub use name::Name;
+
+use super::failure::Failure;
+use std::{ffi::OsString, path::PathBuf};
+use words::Words;
+
+/// What the words ask for.
+#[derive(Debug, PartialEq, Eq)]
+pub enum Request {
+    /// Split the samples and show what comes of it.
+    Sample(Sample),
+    /// Show where tables would be cut.
+    Plan(Plan),
+    /// Split tables.
+    Split(Split),
+    /// Read a pair.
+    Pair(Pair),
+    /// Look into a font.
+    Font(Font),
+    /// Say how the command is used, or one of its commands.
+    Help(Option<Name>),
+    /// Say which version this is.
+    Version,
+}
+
+/// What `sample` is asked for.
+#[derive(Debug, Default, PartialEq, Eq)]
+pub struct Sample {
+    /// Where the samples are written, in place of being split.
+    pub directory: Option<PathBuf>,
+    /// Whether bars are drawn in ASCII.
+    pub ascii: bool,
+}
+
+/// What `plan` is asked for.
+#[derive(Debug, PartialEq, Eq)]
+pub struct Plan {
+    /// The store file.
+    pub file: PathBuf,
+    /// The table; without one, those that the file lists.
+    pub table: Option<u32>,
+    /// Whether long lists are shown whole.
+    pub all: bool,
+    /// Whether bars are drawn in ASCII.
+    pub ascii: bool,
+}
+
+/// What `split` is asked for.
+#[derive(Debug, PartialEq, Eq)]
+pub struct Split {
+    /// The store file, what of it, and how it is shown.
+    pub plan: Plan,
+    /// The file that is written. It is the store file itself only where that was asked for.
+    pub output: Output,
+    /// Whether all pairs are read before and after.
+    pub check: bool,
+}
+
+/// Where a split store goes.
+#[derive(Debug, PartialEq, Eq)]
+pub enum Output {
+    /// To another file.
+    File(PathBuf),
+    /// To the file that it came from.
+    InPlace,
+}
+
+/// What `pair` is asked for.
+#[derive(Debug, PartialEq, Eq)]
+pub struct Pair {
+    /// The store file.
+    pub file: PathBuf,
+    /// The table.
+    pub table: u32,
+    /// The first glyph and the second.
+    pub glyphs: [u16; 2],
+}
+
+/// What `font` is asked for.
+#[derive(Debug, PartialEq, Eq)]
+pub struct Font {
+    /// The font file.
+    pub file: PathBuf,
+}
+
+/// What the words ask for. No words ask for the sample.
+pub fn read(words: impl IntoIterator<Item = OsString>) -> Result<Request, Failure> {
+    let mut words = words.into_iter();
+    let Some(first) = words.next() else {
+        return Ok(Request::Sample(Sample::default()));
+    };
+    match first.to_str() {
+        Some("-h" | "--help") => Ok(Request::Help(None)),
+        Some("-V" | "--version") => Ok(Request::Version),
+        _ => read_command(Name::of(&first)?, words),
+    }
+}
+
+fn read_command(name: Name, words: impl Iterator<Item = OsString>) -> Result<Request, Failure> {
+    let mut words = Words::sort(name, words)?;
+    if words.has("--help") {
+        return Ok(Request::Help(Some(name)));
+    }
+    let request = match name {
+        Name::Sample => Request::Sample(sample(&mut words)),
+        Name::Plan => Request::Plan(plan(&mut words)?),
+        Name::Split => Request::Split(split(&mut words)?),
+        Name::Pair => Request::Pair(pair(&mut words)?),
+        Name::Font => Request::Font(Font {
+            file: words.operand("FILE")?.into(),
+        }),
+        Name::Help => Request::Help(topic(&mut words)?),
+    };
+    words.end()?;
+    Ok(request)
+}
+
+fn sample(words: &mut Words) -> Sample {
+    Sample {
+        directory: words.value("--output").map(PathBuf::from),
+        ascii: words.has("--ascii"),
+    }
+}
+
+fn plan(words: &mut Words) -> Result<Plan, Failure> {
+    Ok(Plan {
+        file: words.operand("FILE")?.into(),
+        table: words.optional_number("TABLE")?,
+        all: words.has("--all"),
+        ascii: words.has("--ascii"),
+    })
+}
+
+fn split(words: &mut Words) -> Result<Split, Failure> {
+    Ok(Split {
+        plan: plan(words)?,
+        output: output(words)?,
+        check: words.has("--check"),
+    })
+}
+
+fn output(words: &mut Words) -> Result<Output, Failure> {
+    match (words.value("--output"), words.has("--in-place")) {
+        (Some(file), false) => Ok(Output::File(file.into())),
+        (None, true) => Ok(Output::InPlace),
+        (None, false) => Err(words.failure("wants to know where to write: add -o FILE")),
+        (Some(_), true) => Err(words.failure("takes -o FILE or --in-place, not both")),
+    }
+}
+
+fn pair(words: &mut Words) -> Result<Pair, Failure> {
+    Ok(Pair {
+        file: words.operand("FILE")?.into(),
+        table: words.number("TABLE")?,
+        glyphs: [words.number("G1")?, words.number("G2")?],
+    })
+}
+
+fn topic(words: &mut Words) -> Result<Option<Name>, Failure> {
+    words.optional().map(|word| Name::of(&word)).transpose()
+}
+
+#[cfg(test)]
+mod tests;

@@ -1,0 +1,115 @@
+//! Words that can be followed, and words that cannot.
+
+use super::*;
+
+fn of(words: &str) -> Result<Request, String> {
+    match read(words.split_whitespace().map(OsString::from)) {
+        Ok(request) => Ok(request),
+        Err(Failure::Words(sentence)) => Err(sentence),
+        Err(failure) => panic!("{failure:?}"),
+    }
+}
+
+fn plan_of(file: &str, table: Option<u32>) -> Plan {
+    Plan {
+        file: file.into(),
+        table,
+        all: false,
+        ascii: false,
+    }
+}
+
+#[test]
+fn requests() {
+    let sample = |directory: Option<&str>| {
+        Request::Sample(Sample {
+            directory: directory.map(PathBuf::from),
+            ascii: false,
+        })
+    };
+    assert_eq!(of(""), Ok(sample(None)));
+    assert_eq!(of("sample"), Ok(sample(None)));
+    for words in ["sample -o D", "sample --output D", "sample --output=D"] {
+        assert_eq!(of(words), Ok(sample(Some("D"))));
+    }
+    assert_eq!(of("plan f"), Ok(Request::Plan(plan_of("f", None))));
+    assert_eq!(of("plan f 0x1F"), Ok(Request::Plan(plan_of("f", Some(31)))));
+    assert_eq!(of("plan -- -f"), Ok(Request::Plan(plan_of("-f", None))));
+    let pair = Pair {
+        file: "f".into(),
+        table: 3,
+        glyphs: [65_535, 0],
+    };
+    assert_eq!(of("pair f 3 65535 0"), Ok(Request::Pair(pair)));
+    assert_eq!(of("font f"), Ok(Request::Font(Font { file: "f".into() })));
+    assert_eq!(of("--version"), Ok(Request::Version));
+}
+
+#[test]
+fn splits() {
+    let split = |output, check| {
+        Request::Split(Split {
+            plan: plan_of("f", Some(2)),
+            output,
+            check,
+        })
+    };
+    let to_file = || Output::File("g".into());
+    assert_eq!(of("split f 2 -o g"), Ok(split(to_file(), false)));
+    assert_eq!(of("split -o g --check f 2"), Ok(split(to_file(), true)));
+    assert_eq!(
+        of("split f 2 --in-place"),
+        Ok(split(Output::InPlace, false))
+    );
+}
+
+#[test]
+fn helps() {
+    for words in ["-h", "--help", "help"] {
+        assert_eq!(of(words), Ok(Request::Help(None)));
+    }
+    for words in ["help font", "font -h", "font --help", "font a b c --help"] {
+        assert_eq!(of(words), Ok(Request::Help(Some(Name::Font))));
+    }
+}
+
+/// Each gets a sentence that says where to read more.
+#[test]
+fn words_that_cannot_be_followed() {
+    for (words, what) in [
+        ("pln", "did you mean \"plan\"?"),
+        ("verify", "no command \"verify\""),
+        ("--quick", "no command \"--quick\""),
+        ("help verify", "no command \"verify\""),
+        ("plan", "plan wants FILE"),
+        ("plan f 0 1", "no use for the word \"1\""),
+        ("plan f x", "\"x\" is none"),
+        ("plan f 4294967296", "from 0 to 4294967295"),
+        ("plan f 0x", "\"0x\" is none"),
+        ("plan f 0x+1", "\"0x+1\" is none"),
+        ("plan f -1", "has no option -1"),
+        ("plan f -o g", "has no option -o"),
+        ("plan f --all=1", "takes --all without a value"),
+        ("split f", "add -o FILE"),
+        ("split f -o", "wants a name behind -o"),
+        ("split f -o g -o h", "takes -o once"),
+        ("split f -o g --in-place", "not both"),
+        ("pair f 0 1", "pair wants G2"),
+        ("pair f 0 1 65536", "from 0 to 65535"),
+        ("font", "font wants FILE"),
+        ("sample x", "no use for the word \"x\""),
+    ] {
+        let sentence = of(words).unwrap_err();
+        assert!(sentence.contains(what), "{words}: {sentence}");
+        assert!(sentence.contains("\"splitter help"), "{words}: {sentence}");
+    }
+}
+
+#[cfg(unix)]
+#[test]
+fn names_that_are_not_text() {
+    use std::os::unix::ffi::OsStringExt;
+    let name = OsString::from_vec(vec![b'-', 0xFF]);
+    let request = read(["font".into(), name.clone()]).unwrap();
+    assert_eq!(request, Request::Font(Font { file: name.into() }));
+}

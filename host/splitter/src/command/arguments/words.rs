@@ -1,0 +1,140 @@
+//! The words behind a command, sorted.
+
+use super::Name;
+use crate::command::failure::Failure;
+use std::{collections::VecDeque, ffi::OsString};
+
+/// The words behind a command: its options, and the rest in order.
+pub struct Words {
+    command: Name,
+    options: Vec<(&'static str, Option<OsString>)>,
+    operands: VecDeque<OsString>,
+}
+
+impl Words {
+    /// Sorts the words. Behind `--` nothing is an option.
+    pub fn sort(command: Name, mut words: impl Iterator<Item = OsString>) -> Result<Self, Failure> {
+        let mut sorted = Self {
+            command,
+            options: Vec::new(),
+            operands: VecDeque::new(),
+        };
+        while let Some(word) = words.next() {
+            match word.to_str() {
+                Some("--") => sorted.operands.extend(words.by_ref()),
+                Some(option) if option.len() > 1 && option.starts_with('-') => {
+                    let (name, value) = match option.split_once('=') {
+                        Some((name, value)) => (name, Some(value.into())),
+                        None => (option, None),
+                    };
+                    sorted.add_option(name, value, &mut words)?;
+                }
+                _ => sorted.operands.push_back(word),
+            }
+        }
+        Ok(sorted)
+    }
+
+    fn add_option(
+        &mut self,
+        word: &str,
+        value: Option<OsString>,
+        words: &mut impl Iterator<Item = OsString>,
+    ) -> Result<(), Failure> {
+        let long = match word {
+            "-h" => "--help",
+            "-o" => "--output",
+            word => word,
+        };
+        let options = [("--help", false)];
+        let mut options = options.iter().chain(self.command.options());
+        let Some(&(name, takes_value)) = options.find(|(name, _)| *name == long) else {
+            return Err(self.failure(&format!("has no option {word}")));
+        };
+        if self.has(name) {
+            return Err(self.failure(&format!("takes {word} once")));
+        }
+        let value = match (takes_value, value) {
+            (true, value) => match value.or_else(|| words.next()) {
+                Some(value) => Some(value),
+                None => return Err(self.failure(&format!("wants a name behind {word}"))),
+            },
+            (false, Some(_)) => {
+                return Err(self.failure(&format!("takes {word} without a value")));
+            }
+            (false, None) => None,
+        };
+        self.options.push((name, value));
+        Ok(())
+    }
+
+    /// Whether an option is there.
+    pub fn has(&self, name: &str) -> bool {
+        self.options.iter().any(|(option, _)| *option == name)
+    }
+
+    /// The value of an option.
+    pub fn value(&self, name: &str) -> Option<OsString> {
+        let mut options = self.options.iter();
+        options.find(|(option, _)| *option == name)?.1.clone()
+    }
+
+    /// The next word that is no option, if there is one.
+    pub fn optional(&mut self) -> Option<OsString> {
+        self.operands.pop_front()
+    }
+
+    /// The next word that is no option.
+    pub fn operand(&mut self, what: &str) -> Result<OsString, Failure> {
+        let word = self.optional();
+        word.ok_or_else(|| self.failure(&format!("wants {what}")))
+    }
+
+    /// The next word, which is a number.
+    pub fn number<N: TryFrom<u32>>(&mut self, what: &str) -> Result<N, Failure> {
+        let word = self.operand(what)?;
+        self.to_number(what, &word)
+    }
+
+    /// The next word, if there is one; it is a number then.
+    pub fn optional_number<N: TryFrom<u32>>(&mut self, what: &str) -> Result<Option<N>, Failure> {
+        let word = self.optional();
+        word.map(|word| self.to_number(what, &word)).transpose()
+    }
+
+    /// A number, in tens or, behind `0x`, in sixteens.
+    fn to_number<N: TryFrom<u32>>(&self, what: &str, word: &OsString) -> Result<N, Failure> {
+        let word = word.to_string_lossy();
+        let number = match word.strip_prefix("0x") {
+            Some(digits) if !digits.starts_with('+') => u32::from_str_radix(digits, 16).ok(),
+            _ => word.parse().ok(),
+        };
+        number
+            .and_then(|number| N::try_from(number).ok())
+            .ok_or_else(|| {
+                let most = u32::MAX >> (32 - 8 * size_of::<N>() as u32);
+                self.failure(&format!(
+                    "wants {what} to be a number from 0 to {most}, and \"{word}\" is none"
+                ))
+            })
+    }
+
+    /// Refuses words that are left over.
+    pub fn end(mut self) -> Result<(), Failure> {
+        match self.optional() {
+            None => Ok(()),
+            Some(word) => {
+                let word = word.to_string_lossy();
+                Err(self.failure(&format!("has no use for the word \"{word}\"")))
+            }
+        }
+    }
+
+    /// A sentence about the command, and where to read more.
+    pub fn failure(&self, what: &str) -> Failure {
+        let command = self.command.word();
+        Failure::Words(format!(
+            "{command} {what}; \"splitter help {command}\" says how it is used"
+        ))
+    }
+}

@@ -1,0 +1,228 @@
+//! Small fonts by hand, whole and damaged.
+
+mod made;
+
+use super::*;
+use made::{collection, extension, font, gpos, lookup, pair_rows, pair_sets, words};
+use splitter::{read_pair, PairValues, Store, Values};
+
+/// All that the command does with a font but to show it.
+fn look_into(file: &[u8]) -> Result<Vec<Seen>, FontError> {
+    look_into_by(file, &mut Scratch::new())
+}
+
+fn look_into_by(file: &[u8], scratch: &mut Scratch) -> Result<Vec<Seen>, FontError> {
+    let Some(gpos) = directory::find_gpos(file)? else {
+        return Ok(Vec::new());
+    };
+    let lookups = Lookups::read(gpos)?;
+    Ok(see_all(gpos, &lookups.subtables, scratch))
+}
+
+/// The store of the only subtable of a lookup for pairs.
+fn load(subtable: Vec<u8>) -> Result<Store, FontError> {
+    let gpos = gpos(&[lookup(2, &[subtable])]);
+    let gpos = Bytes::new(&gpos);
+    let lookups = Lookups::read(gpos)?;
+    subtable::load(gpos, lookups.subtables[0].start)
+}
+
+/// Two lookups for pairs among others: one as it is, and one of extensions.
+fn small_font() -> Vec<u8> {
+    let lookups = [
+        lookup(1, &[words(&[1, 0, 0])]),
+        lookup(2, &[pair_sets(), pair_rows(false)]),
+        lookup(9, &[extension(2, &pair_rows(true)), extension(4, &[])]),
+    ];
+    font(&[(b"GDEF", words(&[1, 0])), (b"GPOS", gpos(&lookups))])
+}
+
+#[test]
+fn a_table_of_sets() {
+    let store = load(pair_sets()).unwrap();
+    let view = store.view();
+    // Table, coverage, two sets, of which one is used twice, and two devices.
+    assert_eq!(view.counts(), [72, 6, 7]);
+    assert_eq!(view.child(0, 10), view.child(0, 16));
+    assert_eq!(view.child(0, 14), None);
+    let set = view.child(0, 10).unwrap();
+    let [device, variation] = [6, 8].map(|position| view.child(set, position));
+    assert_eq!(view.child(set, 16), device);
+    assert_eq!(view.object(device.unwrap()).unwrap().len(), 8);
+    assert_eq!(view.object(variation.unwrap()).unwrap().len(), 6);
+    let pair = PairValues {
+        first: Values {
+            x_advance: -30,
+            x_advance_device: device,
+            ..Values::default()
+        },
+        second: Values {
+            x_placement_device: variation,
+            ..Values::default()
+        },
+    };
+    for first in [5, 9] {
+        assert_eq!(read_pair(&store, 0, first, 70), Ok(Some(pair)));
+    }
+    assert_eq!(read_pair(&store, 0, 8, 70), Ok(None));
+}
+
+#[test]
+fn a_table_of_rows() {
+    let store = load(pair_rows(false)).unwrap();
+    assert_eq!(store.view().counts(), [68, 5, 5]);
+    let pair = read_pair(&store, 0, 6, 70).unwrap().unwrap();
+    assert_eq!(pair.first.x_advance, 21);
+    assert_eq!(pair.second.y_placement_device, store.view().child(0, 30));
+    assert!(pair.second.y_placement_device.is_some());
+    assert_eq!(read_pair(&store, 0, 8, 70), Ok(None));
+}
+
+/// A class definition at the place of the coverage is the same object.
+#[test]
+fn parts_are_shared() {
+    let view = load(pair_rows(true)).unwrap();
+    let view = view.view();
+    assert_eq!(view.counts(), [58, 4, 5]);
+    assert_eq!(view.child(0, 2), view.child(0, 10));
+}
+
+#[test]
+fn lookups_for_pairs() {
+    let file = small_font();
+    let seen = look_into(&file).unwrap();
+    let places: Vec<_> = seen
+        .iter()
+        .map(|seen| (seen.subtable.lookup, seen.subtable.number))
+        .collect();
+    assert_eq!(places, [(1, 0), (1, 1), (2, 0)]);
+    let looks: Vec<_> = seen
+        .iter()
+        .map(|seen| {
+            assert_eq!(seen.cuts, Ok(Vec::new()));
+            let look = seen.look.as_ref().unwrap();
+            (look.format, look.items, look.glyphs, look.all_bytes)
+        })
+        .collect();
+    assert_eq!(looks, [(1, 4, 4, 72), (2, 2, 3, 68), (2, 2, 3, 58)]);
+    let gpos = directory::find_gpos(&file).unwrap().unwrap();
+    let lookups = Lookups::read(gpos).unwrap();
+    assert_eq!((lookups.count, lookups.for_pairs), (3, 2));
+}
+
+#[test]
+fn the_first_font_of_a_collection() {
+    let fonts = [small_font(), font(&[])];
+    let seen = look_into(&collection(&fonts)).unwrap();
+    assert_eq!(seen.len(), 3);
+    assert!(seen.iter().all(|seen| seen.cuts.is_ok()));
+    let none = look_into(&collection(&[])).map(|seen| seen.len());
+    assert_eq!(none, Err(FontError::NoFonts));
+}
+
+#[test]
+fn fonts_without_pairs() {
+    assert_eq!(look_into(&font(&[])).unwrap().len(), 0);
+    let empty = font(&[(b"GPOS", words(&[1, 0, 0, 0, 0]))]);
+    assert_eq!(look_into(&empty).unwrap().len(), 0);
+}
+
+#[test]
+fn files_that_are_no_fonts() {
+    let error = |file: &[u8]| look_into(file).map(|seen| seen.len()).unwrap_err();
+    assert_eq!(error(b"wOFF, packed"), FontError::Packed);
+    assert_eq!(error(b"wOF2, packed"), FontError::Packed);
+    assert_eq!(error(b"a letter to a friend"), FontError::NotAFont);
+    assert!(matches!(error(b""), FontError::Ends { at: 0, .. }));
+    let next = font(&[(b"GPOS", words(&[2, 0, 0, 0, 0]))]);
+    assert_eq!(error(&next), FontError::Version { major: 2 });
+}
+
+/// The last of three sets starts within the limit and ends past it.
+#[test]
+fn cut_places_on_disk() {
+    let mut table = words(&[1, 16, 4, 0, 3, 26, 30_026, 60_026]);
+    table.extend(words(&[1, 3, 5, 7, 9]));
+    for _ in 0..3 {
+        let set = [&[7_499, 0], &[1; 14_998][..]].concat();
+        table.extend(words(&set));
+    }
+    let store = load(table).unwrap();
+    assert_eq!(store.view().counts(), [16 + 10 + 3 * 29_998, 5, 4]);
+    let cuts = cut_plan(&store, subtable::TABLE, &mut Scratch::new());
+    assert_eq!(cuts, Ok(vec![2]));
+}
+
+/// Devices of every format, and one that says nothing sensible.
+#[test]
+fn lengths_of_devices() {
+    let len = |words: [u16; 3]| lengths::device(Bytes::new(&made::words(&words)), 0);
+    assert_eq!(len([11, 11, 1]), Ok(8));
+    assert_eq!(len([11, 18, 1]), Ok(8));
+    assert_eq!(len([11, 19, 1]), Ok(10));
+    assert_eq!(len([11, 15, 2]), Ok(10));
+    assert_eq!(len([11, 13, 3]), Ok(10));
+    assert_eq!(len([0, 65_535, 3]), Ok(6 + 65_536));
+    assert_eq!(len([3, 4, 0x8000]), Ok(6));
+    assert_eq!(len([12, 11, 1]), Ok(6));
+    assert_eq!(len([11, 12, 4]), Ok(6));
+}
+
+/// Parts that cannot be read are loaded as they are, and refused by name.
+#[test]
+fn refusals() {
+    let refusal = |store: Store| cut_plan(&store, 0, &mut Scratch::new()).unwrap_err();
+    let no_coverage = words(&[1, 0, 4, 0, 0]);
+    assert_eq!(refusal(load(no_coverage).unwrap()), Refusal::BadParts);
+    let odd_coverage = words(&[1, 10, 4, 0, 0, 7]);
+    assert_eq!(refusal(load(odd_coverage).unwrap()), Refusal::BadParts);
+    let few_glyphs = words(&[1, 14, 4, 0, 2, 0, 0, 1, 1, 5]);
+    assert_eq!(refusal(load(few_glyphs).unwrap()), Refusal::FewGlyphs);
+}
+
+/// A list of lookups that leads to the same long lookup again and again is soon given up.
+#[test]
+fn subtables_without_end() {
+    let mut gpos = words(&[1, 0, 0, 0, 10, 60_000]);
+    gpos.extend(words(&[60_000; 60_000]));
+    gpos.extend([0; 10_000]);
+    let lookup = 10 + 60_000;
+    gpos.splice(lookup..lookup + 6, words(&[2, 0, 60_000]));
+    gpos.resize(lookup + 6 + 2 * 60_000, 0);
+    let read = Lookups::read(Bytes::new(&gpos));
+    assert_eq!(read, Err(FontError::ManySubtables));
+}
+
+/// How many lines are shown of a font, or the sentence about it.
+fn shown(file: &[u8], scratch: &mut Scratch) -> Result<usize, String> {
+    let seen = look_into_by(file, scratch).map_err(|error| error.to_string())?;
+    Ok(seen.iter().map(|seen| seen.lines().len()).sum())
+}
+
+/// Fonts that end anywhere get a sentence, or are whole as far as it matters.
+#[test]
+fn fonts_that_end_anywhere() {
+    let mut scratch = Scratch::new();
+    for file in [small_font(), collection(&[small_font()])] {
+        assert_eq!(shown(&file, &mut scratch), Ok(3));
+        for len in 0..file.len() {
+            assert!(shown(&file[..len], &mut scratch).is_err(), "{len}");
+        }
+    }
+}
+
+/// Any byte may be any other.
+#[test]
+fn fonts_with_a_damaged_byte() {
+    let file = collection(&[small_font()]);
+    let mut scratch = Scratch::new();
+    let mut errors = 0;
+    for place in 0..file.len() {
+        for change in [1, 0x80, 0xFF, file[place], !file[place], 7] {
+            let mut file = file.clone();
+            file[place] ^= change;
+            errors += usize::from(shown(&file, &mut scratch).is_err());
+        }
+    }
+    assert!(errors > 50);
+}

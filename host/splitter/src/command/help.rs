@@ -1,0 +1,124 @@
+//! How the command is used.
+
+use super::arguments::Name;
+
+/// Which version this is.
+pub const VERSION: &str = concat!("splitter ", env!("CARGO_PKG_VERSION"), "\n");
+
+/// How a command is used, or all of them.
+pub const fn of(topic: Option<Name>) -> &'static str {
+    match topic {
+        None | Some(Name::Help) => ALL,
+        Some(Name::Sample) => SAMPLE,
+        Some(Name::Plan) => PLAN,
+        Some(Name::Split) => SPLIT,
+        Some(Name::Pair) => PAIR,
+        Some(Name::Font) => FONT,
+    }
+}
+
+const ALL: &str = "\
+Cuts OpenType pair-kerning tables (GPOS PairPos) that are too large into several
+that fit. The cutting is done by functions that are proved to lose nothing.
+
+    splitter                               the same as splitter sample
+    splitter sample [-o DIR]               split two samples and show them
+    splitter plan FILE [TABLE]             show where tables would be cut
+    splitter split FILE [TABLE] -o FILE    split tables
+    splitter pair FILE TABLE G1 G2         read what a table says of two glyphs
+    splitter font FILE                     look into the GPOS table of a font
+    splitter help [COMMAND]                say more of a command
+    splitter --version                     say which version this is
+
+FILE is a store file, which docs/STORE_FILE.md describes, or a font. Numbers may
+be written in tens or, as 0x1F, in sixteens.
+
+Exit codes: 0 done; 1 refused, or a file that cannot be read or written; 2 words
+that cannot be followed. Errors are one sentence on standard error.
+";
+
+const SAMPLE: &str = "\
+splitter sample [-o DIR] [--ascii]
+
+Splits two built-in stores, one of each format, and shows the old table, where
+it is cut, what comes of it, and that every pair reads as before.
+
+    -o, --output DIR    write the two stores into a directory, as sample1.krns
+                        and sample2.krns, in place of splitting them
+    --ascii             draw bars in ASCII, whatever the locale
+
+Columns: items are the pair sets or rows of a table; glyphs, the first glyphs
+that it covers; bytes, of the table and all that it leads to; itself, of the
+table alone; coverage, class 1 and class 2, of its coverage and its class
+definitions.
+";
+
+const PLAN: &str = "\
+splitter plan FILE [TABLE] [--all] [--ascii]
+
+Shows where the tables of a store file would be cut, and changes nothing. TABLE
+is the number of an object; without it all tables that the file lists are shown.
+
+    --all      show long lists whole
+    --ascii    draw bars in ASCII, whatever the locale
+
+Where a table is refused, the others are shown all the same, and the exit code
+is 1.
+";
+
+const SPLIT: &str = "\
+splitter split FILE [TABLE] (-o FILE | --in-place) [--check] [--all] [--ascii]
+
+Splits the tables of a store file and writes the store with kept and new tables.
+TABLE is the number of an object; without it all tables that the file lists are
+split. Each table keeps its number; new ones are listed right behind it, and
+what fits as it is stays. The file is written whole or, where a table is
+refused, not at all.
+
+    -o, --output FILE    where to write; the file that is read is refused here
+    --in-place           write over the file that is read
+    --check              read every pair before and after; this can take long
+    --all                show long lists whole
+    --ascii              draw bars in ASCII, whatever the locale
+
+\"splitter help sample\" explains the columns.
+";
+
+const PAIR: &str = "\
+splitter pair FILE TABLE G1 G2
+
+Reads what a table of a store file says of glyph G1 before glyph G2: four values
+and four devices for each. TABLE is the number of an object. That there is no
+pair is no error.
+";
+
+const FONT: &str = "\
+splitter font FILE
+
+Shows the pair tables of a TrueType or OpenType font, or of the first font of a
+collection: the subtables of lookups of type 2, and those of type 9 that extend
+type 2. For each: lookup, subtable, format, bytes with all that it leads to,
+pair sets or rows, covered glyphs, and cut places or why it is refused.
+
+What is in a font fits its offsets already, so most tables have no cut places.
+But the rule counts whole parts, where an offset only has to reach the start of
+one: a table close to the limit can have them.
+
+Where a subtable is refused, the others are shown all the same, and the exit
+code is 1.
+";
+
+#[cfg(test)]
+mod tests {
+    use super::*;
+    use crate::command::text::COLUMNS;
+
+    #[test]
+    fn help_keeps_to_the_columns() {
+        for text in [ALL, SAMPLE, PLAN, SPLIT, PAIR, FONT] {
+            for line in text.lines() {
+                assert!(line.len() <= COLUMNS, "{line}");
+            }
+        }
+    }
+}

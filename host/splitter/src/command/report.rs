@@ -1,0 +1,202 @@
+//! Tables before and after a split, as a table and as bars.
+
+use super::{
+    bars::{Bars, LIMIT},
+    failure::Failure,
+    look::Look,
+    screen::Screen,
+    text::{counted, grouped, listed, or_dash, wrapped},
+};
+use splitter::StoreRef;
+use std::ops::Range;
+
+/// So many rows and bars are shown, unless all are asked for.
+const MOST_ROWS: usize = 24;
+
+/// A table as it was: what it is, and where it is cut.
+pub struct Before {
+    look: Look,
+    cuts: Vec<u16>,
+    pieces: Vec<Range<usize>>,
+    piece_bytes: Vec<usize>,
+}
+
+/// How much is shown.
+#[derive(Clone, Copy, Debug, PartialEq, Eq)]
+pub enum Amount {
+    /// Long lists without their middle.
+    Some,
+    /// All there is.
+    All,
+}
+
+impl Before {
+    /// A table as it is, and where it is cut.
+    pub fn new(store: StoreRef, table: u32, cuts: Vec<u16>) -> Option<Self> {
+        let look = Look::at(store, table)?;
+        let pieces = look.pieces(&cuts);
+        Some(Self {
+            piece_bytes: look.piece_bytes(store, &pieces),
+            look,
+            cuts,
+            pieces,
+        })
+    }
+
+    /// What the table is, and where it is cut, in words.
+    pub fn describe(&self, screen: &mut Screen, amount: Amount) -> Result<(), Failure> {
+        let look = &self.look;
+        if !matches!(look.format, 1 | 2) {
+            let sentence = format!(
+                "Table {} has format {}: only formats 1 and 2 are split.",
+                look.table, look.format
+            );
+            return screen.line(&sentence);
+        }
+        let columns = match look.format {
+            1 => String::new(),
+            _ => format!(" of {}", counted(look.columns, "record")),
+        };
+        let [first, second] = look.value_formats;
+        let sentence = format!(
+            "Table {}: format {}, {}{columns}, {} covered, value formats {first:04X} and \
+             {second:04X}; {} bytes with all that it leads to.",
+            look.table,
+            look.format,
+            counted(look.items, look.item_name()),
+            counted(look.glyphs, "glyph"),
+            grouped(look.all_bytes),
+        );
+        screen.lines(&wrapped(&sentence, 0))?;
+        screen.lines(&wrapped(&self.cut_sentence(amount), 0))
+    }
+
+    fn cut_sentence(&self, amount: Amount) -> String {
+        let name = self.look.item_name();
+        match self.cuts.len() {
+            0 => "It fits as it is, and is not cut.".into(),
+            count => format!(
+                "It is cut at {name}{} {}: {} in its place.",
+                if count == 1 { "" } else { "s" },
+                listed(&self.cuts, amount == Amount::All),
+                counted(count + 1, "table"),
+            ),
+        }
+    }
+
+    /// Whether it is cut.
+    pub fn is_cut(&self) -> bool {
+        !self.cuts.is_empty()
+    }
+
+    fn label(&self) -> String {
+        format!("old {}", self.look.table)
+    }
+
+    fn bars(&self, screen: &Screen) -> Bars {
+        Bars::new(screen.style, self.piece_bytes.iter().sum())
+    }
+
+    /// The table as a bar, its pieces one behind the other.
+    pub fn show_bar(&self, screen: &mut Screen) -> Result<(), Failure> {
+        let bars = self.bars(screen);
+        screen.line(&bars.bar(&self.label(), 0, &self.piece_bytes))?;
+        screen.line(&bars.limit())
+    }
+
+    /// The tables that came of it, kept and new in order, beside what it was.
+    pub fn show_after(
+        &self,
+        store: StoreRef,
+        tables: &[u32],
+        screen: &mut Screen,
+        amount: Amount,
+    ) -> Result<(), Failure> {
+        let looks: Vec<Look> = tables.iter().filter_map(|&t| Look::at(store, t)).collect();
+        let label = |place: usize| match place {
+            0 => format!("kept {}", tables[0]),
+            _ => format!("new {}", tables[place]),
+        };
+        screen.line(HEADINGS)?;
+        screen.line(&row(&self.label(), &(0..self.look.items), &self.look))?;
+        show_some(looks.len(), amount, screen, |place| {
+            row(&label(place), &self.pieces[place], &looks[place])
+        })?;
+        screen.line("")?;
+        let bars = self.bars(screen);
+        screen.line(&bars.bar(&self.label(), 0, &self.piece_bytes))?;
+        show_some(looks.len(), amount, screen, |place| {
+            bars.bar(&label(place), place, &[looks[place].all_bytes])
+        })?;
+        screen.line(&bars.limit())?;
+        for note in notes(&looks) {
+            screen.lines(&wrapped(&note, 0))?;
+        }
+        Ok(())
+    }
+}
+
+/// What to say of tables that are past the limit.
+fn notes(looks: &[Look]) -> Vec<String> {
+    let mut notes = Vec::new();
+    let past = |look: &&Look| look.reached_bytes() > LIMIT;
+    let last = |look: &Look| look.all_bytes > LIMIT && look.reached_bytes() <= LIMIT;
+    if looks.iter().any(last) {
+        notes.push(
+            "Some bytes are past the limit: in format 2 the largest of coverage and class \
+             definitions can stand last, and only its start has to be reached."
+                .into(),
+        );
+    }
+    if let Some(look) = looks.iter().find(past) {
+        let count = counted(looks.iter().filter(past).count(), "table");
+        notes.push(format!(
+            "Still past the limit: {count}, {} the first. \"splitter plan\" says whether it can be \
+             cut again; a single {} that is too large cannot.",
+            look.table,
+            look.item_name(),
+        ));
+    }
+    notes
+}
+
+const HEADINGS: &str =
+    "  table      items        glyphs      bytes     itself coverage class 1 class 2";
+
+fn row(label: &str, items: &Range<usize>, look: &Look) -> String {
+    let items = match items.len() {
+        0 => "none".into(),
+        _ => format!("{}-{}", items.start, items.end - 1),
+    };
+    let [class_def1, class_def2] = look.class_defs.map(or_dash);
+    format!(
+        "  {label:<11}{items:<12}{:>7}{:>11}{:>11}{:>9}{class_def1:>8}{class_def2:>8}",
+        grouped(look.glyphs),
+        grouped(look.all_bytes),
+        grouped(look.own_bytes),
+        or_dash(look.coverage),
+    )
+}
+
+/// Shows a line for each of so many, or for the first ones and the last.
+fn show_some(
+    count: usize,
+    amount: Amount,
+    screen: &mut Screen,
+    line: impl Fn(usize) -> String,
+) -> Result<(), Failure> {
+    let left_out = match amount {
+        Amount::Some if count > MOST_ROWS => MOST_ROWS - 1..count - 1,
+        _ => count..count,
+    };
+    for place in 0..count {
+        if place == left_out.start {
+            let more = counted(left_out.len(), "more table");
+            screen.line(&format!("  .. {more} (--all shows them)"))?;
+        }
+        if !left_out.contains(&place) {
+            screen.line(&line(place))?;
+        }
+    }
+    Ok(())
+}

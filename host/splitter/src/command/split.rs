@@ -1,0 +1,107 @@
+//! `splitter split`: a store file with tables split.
+
+use super::{
+    arguments::{Output, Split},
+    failure::Failure,
+    files, pairs,
+    report::{Amount, Before},
+    screen::Screen,
+    text::counted,
+};
+use splitter::{cut_plan, split, store_file::StoreFile, Scratch, Store};
+use std::{fs, path::Path};
+
+/// Splits the tables of a store file, and writes the store.
+pub fn run(request: &Split, screen: &mut Screen) -> Result<(), Failure> {
+    screen.style.unicode &= !request.plan.ascii;
+    let input = &request.plan.file;
+    let output = output(request)?;
+    let file = files::read_store(input)?;
+    let tables = request.plan.tables(&file)?;
+    request.plan.head(&file, screen)?;
+
+    let (mut store, mut listed) = file.into_parts();
+    let mut scratch = Scratch::new();
+    let show = Show {
+        amount: request.plan.amount(),
+        check: request.check,
+    };
+    for &table in &tables {
+        screen.line("")?;
+        let new_tables = show.split(&mut store, table, &mut scratch, screen);
+        let new_tables = new_tables.map_err(|failure| failure.at(input))?;
+        list(&mut listed, table, &new_tables);
+    }
+    let file = StoreFile::new(store, listed).map_err(|error| files::about(output, error))?;
+    let bytes = file.to_bytes();
+    files::write(output, &bytes)?;
+    screen.line("")?;
+    let bytes = counted(bytes.len(), "byte");
+    screen.line(&format!("Wrote {} ({bytes}).", output.display()))
+}
+
+/// Where to write: over the input only where that was asked for.
+fn output(request: &Split) -> Result<&Path, Failure> {
+    let input = &request.plan.file;
+    let output = match &request.output {
+        Output::InPlace => return Ok(input),
+        Output::File(output) => output,
+    };
+    match (fs::canonicalize(input), fs::canonicalize(output)) {
+        (Ok(input), Ok(same)) if input == same => Err(Failure::Words(format!(
+            "{} is the file that is read: give another behind -o, or say --in-place to write over it",
+            output.display()
+        ))),
+        _ => Ok(output),
+    }
+}
+
+/// New tables are listed behind the one that they came of.
+fn list(listed: &mut Vec<u32>, table: u32, new_tables: &[u32]) {
+    let place = listed.iter().position(|&other| other == table);
+    let place = place.unwrap_or_else(|| {
+        listed.push(table);
+        listed.len() - 1
+    });
+    listed.splice(place + 1..place + 1, new_tables.iter().copied());
+}
+
+/// How a split is shown.
+#[derive(Clone, Copy, Debug)]
+pub struct Show {
+    /// How much of it.
+    pub amount: Amount,
+    /// Whether all pairs are read before and after.
+    pub check: bool,
+}
+
+impl Show {
+    /// Splits a table, shows what came of it, and gives the new tables.
+    pub fn split(
+        self,
+        store: &mut Store,
+        table: u32,
+        scratch: &mut Scratch,
+        screen: &mut Screen,
+    ) -> Result<Vec<u32>, Failure> {
+        let refused = |refusal| Failure::refused(table, refusal);
+        let old = store.clone();
+        let cuts = cut_plan(&old, table, scratch).map_err(refused)?;
+        let new_tables = split(store, table, scratch).map_err(refused)?;
+        let tables = [&[table], &new_tables[..]].concat();
+        if let Some(before) = Before::new(old.view(), table, cuts) {
+            before.describe(screen, self.amount)?;
+            if before.is_cut() {
+                screen.line("")?;
+                before.show_after(store.view(), &tables, screen, self.amount)?;
+            }
+        }
+        if self.check {
+            screen.flush()?;
+            let compared = pairs::compare(&old, table, store, &tables).map_err(refused)?;
+            screen.line("")?;
+            compared.show(screen)?;
+        }
+        Ok(new_tables)
+    }
+}

@@ -1,0 +1,95 @@
+//! Numbers and lists in words.
+
+/// The columns that output keeps to.
+pub const COLUMNS: usize = 80;
+
+/// A number with commas between its thousands.
+pub fn grouped(number: usize) -> String {
+    let digits = number.to_string();
+    let mut grouped = String::new();
+    for (place, digit) in digits.chars().enumerate() {
+        if place > 0 && (digits.len() - place).is_multiple_of(3) {
+            grouped.push(',');
+        }
+        grouped.push(digit);
+    }
+    grouped
+}
+
+/// How many there are of something that has a regular plural.
+pub fn counted(number: usize, what: &str) -> String {
+    let plural = if number == 1 { "" } else { "s" };
+    format!("{} {what}{plural}", grouped(number))
+}
+
+/// A number, or a dash where there is none.
+pub fn or_dash(number: Option<usize>) -> String {
+    number.map_or("-".into(), grouped)
+}
+
+/// Numbers with commas between them: where there are many, the first ones and the last.
+pub fn listed(numbers: &[u16], all: bool) -> String {
+    const MOST: usize = 20;
+    let words = |numbers: &[u16]| {
+        let words: Vec<String> = numbers.iter().map(|&n| grouped(n.into())).collect();
+        words.join(", ")
+    };
+    match numbers.split_last() {
+        Some((last, _)) if !all && numbers.len() > MOST => {
+            let last = grouped(usize::from(*last));
+            format!("{}, .. {last}", words(&numbers[..MOST - 1]))
+        }
+        _ => words(numbers),
+    }
+}
+
+/// A sentence in lines, each behind so many spaces.
+pub fn wrapped(sentence: &str, indent: usize) -> Vec<String> {
+    let mut lines = Vec::new();
+    let mut line = String::new();
+    for word in sentence.split_whitespace() {
+        let longer = line.chars().count() + 1 + word.chars().count();
+        if !line.is_empty() && longer > COLUMNS {
+            lines.push(std::mem::take(&mut line));
+        }
+        line.push_str(&match line.is_empty() {
+            true => " ".repeat(indent),
+            false => " ".into(),
+        });
+        line.push_str(word);
+    }
+    lines.push(line);
+    lines
+}
+
+#[cfg(test)]
+mod tests {
+    use super::*;
+
+    #[test]
+    fn thousands() {
+        let numbers = [0, 999, 1_000, 65_535, 1_234_567];
+        let words = ["0", "999", "1,000", "65,535", "1,234,567"];
+        assert_eq!(numbers.map(grouped), words);
+    }
+
+    #[test]
+    fn long_lists_are_shortened() {
+        let numbers: Vec<u16> = (990..1_011).collect();
+        let all = listed(&numbers, true);
+        assert!(all.contains("999, 1,000") && all.ends_with("1,010"));
+        assert!(listed(&numbers, false).ends_with("1,007, 1,008, .. 1,010"));
+        assert_eq!(listed(&numbers[..20], false), listed(&numbers[..20], true));
+        assert_eq!(listed(&[], false), "");
+    }
+
+    #[test]
+    fn lines_keep_to_the_columns() {
+        let sentence = "word ".repeat(50);
+        let lines = wrapped(&sentence, 4);
+        assert!(lines
+            .iter()
+            .all(|line| line.len() <= COLUMNS && line.starts_with("    w")));
+        assert_eq!(lines.join(" ").split_whitespace().count(), 50);
+    }
+}
