@@ -61,6 +61,8 @@ impl Vertex {
 pub struct Graph {
     data: Vec<u8>,
     vertices: Vec<Vertex>,
+    /// Whether new objects are refused.
+    is_closed: bool,
 }
 
 /// Loading a store, splitting, and looking at what there is.
@@ -93,9 +95,39 @@ impl Graph {
         pairpos_graph::split_pairpos(self, table_idx)
     }
 
+    /// Finds where a PairPos table is to be cut, and says whether it is to be cut at all.
+    ///
+    /// This is a split that ends where it would add its first new table: nothing is changed.
+    pub fn plan_pairpos(&mut self, table_idx: ObjIdx) -> Result<bool, RepackError> {
+        self.is_closed = true;
+        let outcome = self.split_pairpos(table_idx);
+        self.is_closed = false;
+        match outcome {
+            Ok(_) => Ok(false),
+            Err(RepackError::ErrorRepackSerialize) => Ok(true),
+            Err(error) => Err(error),
+        }
+    }
+
     /// Splits a MarkBasePos table, and gives the new tables. A failure may leave the graph changed.
     pub fn split_markbase_pos(&mut self, table_idx: ObjIdx) -> Result<Vec<ObjIdx>, RepackError> {
         markbasepos_graph::split_markbase_pos(self, table_idx)
+    }
+
+    /// A copy that has room for so many more bytes and objects, and need not move to take them.
+    pub fn with_room(&self, bytes: usize, objects: usize) -> Self {
+        let mut data = Vec::with_capacity(self.data.len() + bytes);
+        data.extend_from_slice(&self.data);
+        // Memory that was never written is not there yet.
+        data.resize(data.capacity(), 0);
+        data.truncate(self.data.len());
+        let mut vertices = Vec::with_capacity(self.vertices.len() + objects);
+        vertices.extend_from_slice(&self.vertices);
+        Self {
+            data,
+            vertices,
+            is_closed: self.is_closed,
+        }
     }
 
     /// How many objects there are.
@@ -169,6 +201,9 @@ impl Graph {
 
     /// Adds an object of so many zeros.
     fn new_vertex(&mut self, size: usize) -> Result<ObjIdx, RepackError> {
+        if self.is_closed {
+            return Err(RepackError::ErrorRepackSerialize);
+        }
         let head = self.data.len();
         self.data.resize(head + size, 0);
         Ok(self.push_vertex(head..head + size))
