@@ -5,6 +5,7 @@ mod format1;
 mod format2;
 mod glyphs;
 mod growth;
+pub mod large;
 
 use crate::{
     edit,

@@ -18,11 +18,7 @@ const SECOND_GLYPHS: usize = 12;
 pub fn draft(draft: &mut Draft, random: &mut Random) -> usize {
     let slots = slot_count(random);
     let formats = [(); 2].map(|()| value_format(random));
-    let header = [1, random.number() as u16, formats[0].0, formats[1].0];
-    let mut table_bytes = bytes(header);
-    table_bytes.extend(bytes([slots as u16]));
-    table_bytes.extend(random.bytes(2 * slots));
-    let table = draft.object(table_bytes);
+    let table = draft.object(table(random, formats, slots));
 
     let more = random.pick(&[0, 0, 1, 5]);
     let glyphs = glyphs(random, slots + more);
@@ -39,6 +35,15 @@ pub fn draft(draft: &mut Draft, random: &mut Random) -> usize {
             draft.link(table, 10 + 2 * slot, random.pick(&targets));
         }
     }
+    table
+}
+
+/// A table's bytes: those of its offsets are anything.
+pub fn table(random: &mut Random, formats: [ValueFormat; 2], slots: usize) -> Vec<u8> {
+    let [format1, format2] = formats;
+    let mut table = bytes([1, random.number() as u16, format1.0, format2.0]);
+    table.extend(bytes([slots as u16]));
+    table.extend(random.bytes(2 * slots));
     table
 }
 
@@ -74,7 +79,7 @@ fn pair_sets(draft: &mut Draft, random: &mut Random, formats: [ValueFormat; 2]) 
 }
 
 /// A pair set of some length: a count, records whose devices lead below, and then anything.
-fn pair_set(
+pub fn pair_set(
     draft: &mut Draft,
     random: &mut Random,
     formats: [ValueFormat; 2],

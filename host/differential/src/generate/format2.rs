@@ -12,15 +12,16 @@ use crate::{
 };
 
 /// How large a table is, and how much there is beside it.
-struct Plan {
-    formats: [ValueFormat; 2],
-    rows: usize,
-    columns: usize,
-    glyphs: usize,
+pub struct Plan {
+    pub formats: [ValueFormat; 2],
+    pub rows: usize,
+    pub columns: usize,
+    /// Glyphs that are covered.
+    pub glyphs: usize,
     /// Glyphs that class definition 2 names.
-    second_glyphs: usize,
+    pub second_glyphs: usize,
     /// The first of the records that may have devices, and the one behind the last.
-    records: [usize; 2],
+    pub records: [usize; 2],
 }
 
 /// Drafts a table with all that it leads to.
@@ -33,11 +34,16 @@ pub fn draft(draft: &mut Draft, random: &mut Random) -> usize {
     };
     let table = draft.object(plan.table(random));
     let parts = plan.parts(draft, random);
+    link_parts(draft, table, parts);
+    plan.devices(draft, random, table, parts[2]);
+    table
+}
+
+/// Links coverage and class definitions 1 and 2.
+pub fn link_parts(draft: &mut Draft, table: usize, parts: [usize; 3]) {
     for (position, part) in [2, 8, 10].into_iter().zip(parts) {
         draft.link(table, position, part);
     }
-    plan.devices(draft, random, table, parts[2]);
-    table
 }
 
 impl Plan {
@@ -115,7 +121,17 @@ impl Plan {
         self.formats.map(ValueFormat::size).iter().sum()
     }
 
-    fn table(&self, random: &mut Random) -> Vec<u8> {
+    /// The positions of a record's devices.
+    pub fn device_positions(&self, record: usize) -> Vec<usize> {
+        let [format1, format2] = self.formats;
+        let slots = format1.devices().map(|device| 2 * device);
+        let more = format2.devices().map(|device| format1.size() + 2 * device);
+        let start = 16 + record * self.record_size();
+        slots.chain(more).map(|slot| start + slot).collect()
+    }
+
+    /// The table's bytes: those of its offsets and records are anything.
+    pub fn table(&self, random: &mut Random) -> Vec<u8> {
         let [format1, format2] = self.formats;
         let [coverage, class_def1, class_def2] = [(); 3].map(|()| random.number() as u16);
         let (rows, columns) = (self.rows as u16, self.columns as u16);
@@ -153,12 +169,8 @@ impl Plan {
 
     /// Links some device slots. Class definition 2 may lead to a device, and be one itself.
     fn devices(&self, draft: &mut Draft, random: &mut Random, table: usize, class_def2: usize) {
-        let [format1, format2] = self.formats;
-        let slots = format1.devices().map(|device| 2 * device);
-        let more = format2.devices().map(|device| format1.size() + 2 * device);
-        let slots: Vec<usize> = slots.chain(more).collect();
         let [first, end] = self.records;
-        if slots.is_empty() || first == end {
+        if self.device_positions(first).is_empty() || first == end {
             return;
         }
         let sizes = Sizes::any(random);
@@ -170,7 +182,7 @@ impl Plan {
         for _ in 0..random.below(40) {
             let any = random.within(first..=end - 1);
             let record = random.pick(&[any, any, any, first, end - 1]);
-            let position = 16 + record * self.record_size() + random.pick(&slots);
+            let position = random.pick(&self.device_positions(record));
             draft.link(table, position, random.pick(&devices));
         }
     }

@@ -1,0 +1,151 @@
+//! Stores of a given size, with a table that is cut in several places.
+//!
+//! Bytes, links, items, covered glyphs and cuts all grow as the objects do. No record has a number
+//! past 65,535, so the oracle moves all links as it should.
+
+use super::{
+    draft::Draft,
+    format1::{pair_set, table},
+    format2::{link_parts, Plan},
+    Case,
+};
+use crate::{
+    model::{class_def, coverage, values::ValueFormat},
+    Random,
+};
+use std::ops::RangeInclusive;
+
+/// How many objects [`format1`] may have, so that a split has room for its own: near 65,536.
+pub const MOST_FORMAT1: usize = 65_120;
+
+/// How many objects [`format2`] may have.
+pub const MOST_FORMAT2: usize = 64_860;
+
+const NO_FIELDS: ValueFormat = ValueFormat(0);
+/// X advance, and its device.
+const KERNING: ValueFormat = ValueFormat(0x44);
+
+/// A format 1 table. Of four objects three are pair sets, and one is a device that sets share.
+pub fn format1(objects: usize) -> Case {
+    let mut random = Random::new(objects as u64);
+    let mut draft = Draft::default();
+    let device_count = objects / 4;
+    let slots = objects - device_count - 2;
+    let formats = [KERNING, NO_FIELDS];
+    let table = draft.object(table(&mut random, formats, slots));
+    let coverage = draft.object(coverage::write(&glyphs(slots)));
+    draft.link(table, 2, coverage);
+
+    let devices = devices(&mut draft, &mut random, device_count, 6..=30);
+    for slot in 0..slots {
+        let near = &devices[slot * (device_count - NEAR) / slots..][..NEAR];
+        let len = random.within(200..=330);
+        let set = pair_set(&mut draft, &mut random, formats, len, near);
+        draft.link(table, 10 + 2 * slot, set);
+    }
+    laid_out(&draft, table, &mut random)
+}
+
+/// A format 2 table. All objects but its parts are devices, of which each record has two.
+pub fn format2(objects: usize) -> Case {
+    let columns = 32;
+    let rows = objects / columns;
+    class_table(
+        Plan {
+            formats: [KERNING, KERNING],
+            rows,
+            columns,
+            glyphs: objects,
+            second_glyphs: objects,
+            records: [0, rows * columns],
+        },
+        objects - 4,
+        205..=235,
+    )
+}
+
+/// A format 2 table of many records and few devices: 300 objects and 33,003 links.
+pub fn few_objects() -> Case {
+    let (rows, columns) = (220, 150);
+    class_table(
+        Plan {
+            formats: [KERNING, NO_FIELDS],
+            rows,
+            columns,
+            glyphs: 2_000,
+            second_glyphs: 2_000,
+            records: [0, rows * columns],
+        },
+        296,
+        6..=6,
+    )
+}
+
+/// A format 2 table each of whose records has its devices, from among those near to it.
+fn class_table(plan: Plan, device_count: usize, lengths: RangeInclusive<usize>) -> Case {
+    let mut random = Random::new(device_count as u64);
+    let mut draft = Draft::default();
+    let table = draft.object(plan.table(&mut random));
+    let glyphs = glyphs(plan.glyphs);
+    let second_glyphs = self::glyphs(plan.second_glyphs);
+    let parts = [
+        coverage::write(&glyphs),
+        class_def::write(&classes(&mut random, plan.rows, &glyphs)),
+        class_def::write(&classes(&mut random, plan.columns, &second_glyphs)),
+    ];
+    let parts = parts.map(|part| draft.object(part));
+    link_parts(&mut draft, table, parts);
+
+    let devices = devices(&mut draft, &mut random, device_count, lengths);
+    let [first, end] = plan.records;
+    for record in first..end {
+        let near = &devices[record * (device_count - NEAR) / end..][..NEAR];
+        for position in plan.device_positions(record) {
+            draft.link(table, position, random.pick(near));
+        }
+    }
+    laid_out(&draft, table, &mut random)
+}
+
+/// From among how many devices an item takes its own.
+const NEAR: usize = 40;
+
+fn devices(
+    draft: &mut Draft,
+    random: &mut Random,
+    count: usize,
+    lengths: RangeInclusive<usize>,
+) -> Vec<usize> {
+    let mut device = |_| {
+        let len = random.within(lengths.clone());
+        draft.object(random.bytes(len))
+    };
+    (0..count).map(&mut device).collect()
+}
+
+/// So many glyphs in runs of 16, as far as there is room between them.
+fn glyphs(count: usize) -> Vec<u16> {
+    let gaps = (65_536 - count) / (count / 16 + 1);
+    let glyph = |place| place + place / 16 * gaps.min(4);
+    (0..count).map(|place| glyph(place) as u16).collect()
+}
+
+/// Classes in short runs, in no order.
+fn classes(random: &mut Random, count: usize, glyphs: &[u16]) -> Vec<(u16, u16)> {
+    let mut class = 0;
+    let entry = |&glyph| {
+        if random.one_in(3) {
+            class = random.below(count) as u16;
+        }
+        (glyph, class)
+    };
+    glyphs.iter().map(entry).collect()
+}
+
+fn laid_out(draft: &Draft, table: usize, random: &mut Random) -> Case {
+    let (store, numbers) = draft.lay_out(random);
+    Case {
+        store,
+        table: numbers[table],
+    }
+}

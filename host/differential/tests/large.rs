@@ -1,0 +1,50 @@
+//! Large stores are what they are said to be.
+
+use differential::{
+    generate::{large, Case},
+    lend::Need,
+    model::soundness::MAXIMA,
+};
+
+/// Objects and links in use, and cuts. After the split all is within the maxima.
+fn figures(case: &Case) -> [usize; 3] {
+    let need = Need::of(&case.store, case.table);
+    let [data, objects, links] = case.store.counts.map(|count| count as usize);
+    println!("{data} bytes, {objects} objects, {links} links, {need:?}");
+    for (i, in_use) in [data, objects, links].into_iter().enumerate() {
+        assert!(in_use + need.room[i] <= MAXIMA[i]);
+    }
+    [objects, links, need.list]
+}
+
+/// Ten times the objects are about ten times the links and the cuts.
+#[test]
+fn all_grows_as_the_objects_do() {
+    for build in [large::format1, large::format2] {
+        let [thousand, ten_thousand] = [1_000, 10_000].map(|objects| figures(&build(objects)));
+        assert_eq!([thousand[0], ten_thousand[0]], [1_000, 10_000]);
+        assert!((9..=11).contains(&(ten_thousand[1] / thousand[1])));
+        assert!(thousand[2] >= 3 && (9..=12).contains(&(ten_thousand[2] / thousand[2])));
+    }
+}
+
+/// There is hardly room for a new object more.
+#[test]
+fn the_largest_just_fit() {
+    for (build, objects) in [
+        (large::format1 as fn(usize) -> Case, large::MOST_FORMAT1),
+        (large::format2, large::MOST_FORMAT2),
+    ] {
+        let case = build(objects);
+        figures(&case);
+        let after = objects + Need::of(&case.store, case.table).room[1];
+        assert!((65_500..=65_536).contains(&after), "{after}");
+    }
+}
+
+#[test]
+fn few_objects_have_many_links() {
+    let [objects, links, cuts] = figures(&large::few_objects());
+    assert_eq!([objects, links], [300, 33_003]);
+    assert!(cuts >= 2);
+}
