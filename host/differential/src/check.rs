@@ -7,7 +7,7 @@ mod pairs;
 
 pub use agree::{all_agree, pair_agrees, plan_agrees, split_agrees};
 pub use frame::{again, frame};
-pub use oracle::as_the_oracle;
+pub use oracle::{as_the_oracle, refused_or_as_the_oracle};
 pub use pairs::{pairs_agree, pairs_stay};
 
 use crate::{

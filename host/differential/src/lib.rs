@@ -15,6 +15,7 @@
 //! | [`compare`] | what is reachable from tables, renumbered, parts by meaning |
 //! | [`product`] | where the 16-bit product of the crate's text shows |
 //! | [`check`] | what must hold of a split, against the oracle and against the model |
+//! | [`runs`] | all that is asked of the store of one seed |
 //!
 //! ```
 //! use differential::{check, generate, lend, Archive, Random, Tally};
@@ -38,6 +39,7 @@ pub mod lend;
 pub mod model;
 pub mod product;
 mod random;
+pub mod runs;
 mod subject;
 mod tally;
 

@@ -87,6 +87,10 @@ impl<N: Debug + PartialEq> Call<N> {
 
 /// Where two lists differ, and in what, as far as it fits a few lines.
 pub(crate) fn differ<N: Debug + PartialEq>(name: &str, ours: &[N], theirs: &[N]) -> Option<String> {
+    // Nearly always, and quickly seen.
+    if ours == theirs {
+        return None;
+    }
     if ours.len() != theirs.len() {
         let (ours, theirs) = (ours.len(), theirs.len());
         return Some(format!("{name}: length {ours}, not {theirs}"));

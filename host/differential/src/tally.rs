@@ -8,8 +8,8 @@ use std::fmt::{self, Display, Formatter};
 pub struct Tally {
     /// Splits by their answer number.
     pub answers: [usize; 9],
-    /// Tables that were not cut, cut once, cut more often.
-    pub cut_counts: [usize; 3],
+    /// Tables by how often they were cut: not, once, twice, up to 9 times, up to 99, more often.
+    pub cut_counts: [usize; 6],
     /// New tables.
     pub new_tables: usize,
     /// Tables that were cut at 0.
@@ -30,7 +30,7 @@ impl Tally {
         let mut cuts = weighed.iter().filter(|weighed| weighed.is_cut());
         let count = cuts.clone().count();
         self.answers[answer as usize] += 1;
-        self.cut_counts[count.min(2)] += 1;
+        self.cut_counts[cut_class(count)] += 1;
         self.new_tables += count;
         self.cuts_at_0 += usize::from(cuts.any(|cut| cut.item == 0));
         if let Some(shows) = product_shows {
@@ -44,12 +44,21 @@ impl Tally {
     }
 }
 
+fn cut_class(count: usize) -> usize {
+    match count {
+        0..=2 => count,
+        3..=9 => 3,
+        10..=99 => 4,
+        _ => 5,
+    }
+}
+
 impl Display for Tally {
     fn fmt(&self, f: &mut Formatter) -> fmt::Result {
-        let [uncut, once, more] = self.cut_counts;
         let [hidden, shown] = self.products;
         writeln!(f, "answers 0 to 8: {:?}", self.answers)?;
-        writeln!(f, "tables not cut {uncut}, once {once}, more often {more}")?;
+        let cut_counts = self.cut_counts;
+        writeln!(f, "cuts 0, 1, 2, 3.., 10.., 100..: {cut_counts:?}")?;
         let (new_tables, cuts_at_0) = (self.new_tables, self.cuts_at_0);
         writeln!(f, "new tables {new_tables}, cuts at 0 {cuts_at_0}")?;
         writeln!(f, "totals of 65,534 to 65,537: {:?}", self.at_limit)?;

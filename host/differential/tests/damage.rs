@@ -2,10 +2,10 @@
 //! archive as by the model.
 
 use differential::{
-    check::{all_agree, as_the_oracle, frame, Outcome, Split},
+    check::{all_agree, frame, refused_or_as_the_oracle, Split},
     damage::{self, Damage},
     generate, lend,
-    model::{answers, class_def, coverage, numbers},
+    model::{class_def, coverage, numbers},
     Archive, Call, Model, Pair, Random, Subject, Tally,
 };
 
@@ -132,21 +132,10 @@ fn anything_may_be_wrong() {
             let scrambled = damage::scramble(&call, &mut random);
             assert_eq!(all_agree(&Archive, &scrambled), Ok(()));
             let split = Split::by(&Model, &scrambled);
-            let outcome = frame(&split).and_then(|()| check(&split, &mut tally));
+            let outcome = frame(&split).and_then(|()| refused_or_as_the_oracle(&split, &mut tally));
             assert_eq!(outcome, Ok(()));
         }
     }
     println!("{tally}");
     assert!(tally.answers.iter().all(|&count| count > 0));
-}
-
-fn check(split: &Split, tally: &mut Tally) -> Outcome {
-    let (store, table) = (&split.before.store, split.before.table);
-    match answers::open(store, table) {
-        Ok(Some(_)) if split.answer == 0 => as_the_oracle(split, tally),
-        _ => {
-            tally.answers[split.answer as usize] += 1;
-            Ok(())
-        }
-    }
 }

@@ -1,44 +1,27 @@
 //! The model against the oracle, over stores of fixed seeds.
 
 use differential::{
-    check::{again, as_the_oracle, frame, pairs_stay, Outcome, Split},
     generate::{self, Case},
-    lend, Model, Random, Tally,
+    runs, Model, Tally,
 };
 
 const STORES: usize = 2_600;
 
-/// Tables of more pieces than this are not read pair by pair.
-const MOST_PIECES: usize = 64;
-
 fn run(generate: fn(u64) -> Case) -> Tally {
     let mut tally = Tally::default();
     for seed in 0..STORES as u64 {
-        if let Err(reason) = check(&generate(seed), seed, &mut tally) {
-            panic!("seed {seed}: {reason}");
-        }
+        let outcome = runs::whole(&Model, &generate(seed), seed, &mut tally);
+        assert_eq!(outcome, Ok(()), "seed {seed}");
     }
     println!("{tally}");
     tally
 }
 
-fn check(case: &Case, seed: u64, tally: &mut Tally) -> Outcome {
-    let mut random = Random::new(!seed);
-    let call = lend::amply(&case.store, case.table, &mut random);
-    let split = Split::by(&Model, &call);
-    as_the_oracle(&split, tally)?;
-    frame(&split)?;
-    again(&Model, &split)?;
-    if split.tables().len() <= MOST_PIECES {
-        pairs_stay(&split, &mut random, tally)?;
-    }
-    Ok(())
-}
-
 /// No store is refused, and all cases occur.
 fn assert_all_occur(tally: &Tally) {
     assert_eq!(tally.answers[0], STORES);
-    assert!(tally.cut_counts.iter().all(|&count| count > 100));
+    let [cuts @ .., many_cuts] = tally.cut_counts;
+    assert!(many_cuts > 10 && cuts.iter().all(|&count| count > 100));
     assert!(tally.at_limit.iter().all(|&count| count > 10));
     assert!(tally.cuts_at_0 > 10);
     assert!(tally.pairs_found > 1_000);

@@ -1,7 +1,13 @@
 //! Against the oracle.
 
 use super::{ensure, opened, same, Outcome, Split};
-use crate::{compare::reachable, model::cuts::weigh, product, subject::differ, Tally};
+use crate::{
+    compare::reachable,
+    model::{answers, cuts::weigh},
+    product,
+    subject::differ,
+    Tally,
+};
 
 /// A split is the oracle's, but for the 16-bit product. Its call is one that is not refused.
 pub fn as_the_oracle(split: &Split, tally: &mut Tally) -> Outcome {
@@ -22,4 +28,16 @@ pub fn as_the_oracle(split: &Split, tally: &mut Tally) -> Outcome {
         let difference = differ("objects", &ours, &theirs);
         difference.unwrap_or("the 16-bit product does not show".into())
     })
+}
+
+/// A split is the oracle's where it is not refused, and the table has a format that is split.
+pub fn refused_or_as_the_oracle(split: &Split, tally: &mut Tally) -> Outcome {
+    let (store, table) = (&split.before.store, split.before.table);
+    match answers::open(store, table) {
+        Ok(Some(_)) if split.answer == 0 => as_the_oracle(split, tally),
+        _ => {
+            tally.answers[split.answer as usize] += 1;
+            Ok(())
+        }
+    }
 }

@@ -22,12 +22,17 @@ pub struct Plan {
     pub second_glyphs: usize,
     /// The first of the records that may have devices, and the one behind the last.
     pub records: [usize; 2],
+    /// There are fewer links to devices than this.
+    pub device_links: usize,
 }
+
+const FEW: usize = 40;
 
 /// Drafts a table with all that it leads to.
 pub fn draft(draft: &mut Draft, random: &mut Random) -> usize {
     let plan = match random.below(20) {
-        0..=7 => Plan::small(random),
+        0..=6 => Plan::small(random),
+        7 => Plan::crowded(random),
         8..=15 => Plan::rows(random),
         16..=18 => Plan::wrapping(random),
         _ => Plan::estimates(random),
@@ -58,6 +63,23 @@ impl Plan {
             glyphs: random.below(40),
             second_glyphs: random.below(40),
             records: [0, rows * columns],
+            device_links: FEW,
+        }
+    }
+
+    /// Rows of few records, with so many devices that nearly each row may be cut.
+    fn crowded(random: &mut Random) -> Self {
+        let rows = random.within(80..=400);
+        let columns = random.within(1..=2);
+        let device = ValueFormat(0x10 << random.below(4));
+        Self {
+            formats: [device, value_format(random)],
+            rows,
+            columns,
+            glyphs: random.below(600),
+            second_glyphs: random.below(40),
+            records: [0, rows * columns],
+            device_links: 4 * rows,
         }
     }
 
@@ -77,6 +99,7 @@ impl Plan {
             glyphs: random.below(300),
             second_glyphs: random.below(300),
             records: [0, rows * columns],
+            device_links: FEW,
         }
     }
 
@@ -100,6 +123,7 @@ impl Plan {
                 [records - 65_536, 65_536],
                 [records - 65_536, 65_536],
             ]),
+            device_links: FEW,
         }
     }
 
@@ -114,6 +138,7 @@ impl Plan {
             glyphs: random.pick(&[5_000, 12_000, 32_000, 65_536]),
             second_glyphs: random.pick(&[10, 3_000, 30_000]),
             records: [0, rows * columns],
+            device_links: FEW,
         }
     }
 
@@ -179,7 +204,7 @@ impl Plan {
             draft.link_anywhere(random, class_def2, devices[0]);
             devices.push(class_def2);
         }
-        for _ in 0..random.below(40) {
+        for _ in 0..random.below(self.device_links) {
             let any = random.within(first..=end - 1);
             let record = random.pick(&[any, any, any, first, end - 1]);
             let position = random.pick(&self.device_positions(record));

@@ -1,0 +1,114 @@
+//! Runs of the splitter against the model and the oracle, over as many seeds as one likes.
+//!
+//! ```text
+//! runs --seeds A..B [--subject archive|model] [--format 1|2]
+//! ```
+//!
+//! Each seed makes a store of each format, which is split whole and damaged. The first difference
+//! ends the run, with the seed. Otherwise it ends with how often each case occurred.
+
+use differential::{check::Outcome, generate, runs, Archive, Model, Subject, Tally};
+use std::{
+    env,
+    ops::Range,
+    panic::{catch_unwind, AssertUnwindSafe},
+    process::ExitCode,
+    time::{Duration, Instant},
+};
+
+const USAGE: &str = "runs --seeds A..B [--subject archive|model] [--format 1|2]";
+
+/// How often it says how far it is.
+const PROGRESS: Duration = Duration::from_secs(5);
+
+/// What is run.
+struct Args {
+    seeds: Range<u64>,
+    is_model: bool,
+    formats: Vec<u8>,
+}
+
+fn main() -> ExitCode {
+    let Some(args) = Args::read(env::args().skip(1)) else {
+        eprintln!("{USAGE}");
+        return ExitCode::FAILURE;
+    };
+    let done = match args.is_model {
+        true => run(&Model, &args),
+        false => run(&Archive, &args),
+    };
+    match done {
+        Ok(()) => ExitCode::SUCCESS,
+        Err(reason) => {
+            eprintln!("{reason}");
+            ExitCode::FAILURE
+        }
+    }
+}
+
+impl Args {
+    fn read(mut words: impl Iterator<Item = String>) -> Option<Self> {
+        let mut args = Self {
+            seeds: 0..0,
+            is_model: false,
+            formats: vec![1, 2],
+        };
+        while let Some(name) = words.next() {
+            let word = words.next()?;
+            match (name.as_str(), word.as_str()) {
+                ("--seeds", seeds) => {
+                    let (start, end) = seeds.split_once("..")?;
+                    args.seeds = start.parse().ok()?..end.parse().ok()?;
+                }
+                ("--subject", "archive") => args.is_model = false,
+                ("--subject", "model") => args.is_model = true,
+                ("--format", "1") => args.formats = vec![1],
+                ("--format", "2") => args.formats = vec![2],
+                _ => return None,
+            }
+        }
+        (!args.seeds.is_empty()).then_some(args)
+    }
+}
+
+fn run(subject: &impl Subject, args: &Args) -> Outcome {
+    let start = Instant::now();
+    let mut said = start;
+    let mut tally = Tally::default();
+    let mut stores = 0;
+    for seed in args.seeds.clone() {
+        for &format in &args.formats {
+            let outcome = check(subject, format, seed, &mut tally);
+            outcome.map_err(|reason| format!("format {format}, seed {seed}: {reason}"))?;
+            stores += 1;
+        }
+        if said.elapsed() >= PROGRESS {
+            said = Instant::now();
+            let rate = rate(stores, start);
+            eprintln!("seed {seed} of {:?}: {rate} stores a second", args.seeds);
+        }
+    }
+    let calls: usize = tally.answers.iter().sum();
+    let seconds = start.elapsed().as_secs();
+    println!("{stores} stores in {calls} calls, no difference");
+    println!("{tally}");
+    println!("{seconds} seconds, {} stores a second", rate(stores, start));
+    Ok(())
+}
+
+/// The store of a seed, whole and damaged. A panic is a difference too.
+fn check(subject: &impl Subject, format: u8, seed: u64, tally: &mut Tally) -> Outcome {
+    let checked = catch_unwind(AssertUnwindSafe(|| {
+        let case = match format {
+            1 => generate::format1(seed),
+            _ => generate::format2(seed),
+        };
+        runs::whole(subject, &case, seed, tally)?;
+        runs::damaged(subject, &case, seed, tally)
+    }));
+    checked.unwrap_or(Err("panicked".into()))
+}
+
+fn rate(stores: u64, start: Instant) -> u64 {
+    (stores as f64 / start.elapsed().as_secs_f64()) as u64
+}
