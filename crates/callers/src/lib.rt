@@ -2,7 +2,40 @@
 ghost use Rattle.rules.specs.Store.{lent};
 ghost use Rattle.rules.specs.Answers.{scratchOf, outcome};
 ghost use Rattle.pair_reading.specs.Reading.{pairOutcome};
-ghost use Rattle.promises.specs.Calls.{PlanKeeps, PairKeeps};
+ghost use Rattle.promises.specs.Calls.{SplitKeeps, PlanKeeps, PairKeeps};
+
+// A split: a refusal, and no cut, change nothing, the scratch is zero, and after a cut nothing is lost.
+pub fn split(
+    data: &mut [u8],
+    objects: &mut [u32],
+    links: &mut [u32],
+    counts: &mut [u32; 3],
+    table: u32,
+    walk: &mut [u32],
+    glyph_set: &mut [u8],
+    glyphs: &mut [u16],
+    classes: &mut [u16],
+    cuts: &mut [u16],
+    new_tables: &mut [u32],
+    new_count: &mut u32,
+) -> u32
+    ensures { λ r. ⌜ SplitKeeps (lent (now («data» .entry)) (now (objects .entry)) (now (links .entry)) (now (counts .entry))) table (scratchOf (now (walk .entry)) (now («glyph_set» .entry)) (now (glyphs .entry)) (now (classes .entry)) (now (cuts .entry))) (now («new_tables» .entry)) (outcome r (now («new_count» .exit)) (lent (now («data» .exit)) (now (objects .exit)) (now (links .exit)) (now (counts .exit))) (now («new_tables» .exit)) (scratchOf (now (walk .exit)) (now («glyph_set» .exit)) (now (glyphs .exit)) (now (classes .exit)) (now (cuts .exit)))) ⌝ }
+{
+    splitter::split_pairpos(
+        data,
+        objects,
+        links,
+        counts,
+        table,
+        walk,
+        glyph_set,
+        glyphs,
+        classes,
+        cuts,
+        new_tables,
+        new_count,
+    )
+}
 
 // A cut plan: a refusal changes nothing, the store is only read, the scratch is zero, and the places are document 01's.
 pub fn plan(

@@ -58,4 +58,4 @@ module _ (b o links counts : List ℕ) (t : ℕ) (layout : Layout) (is : layout 
   -- a layout says all of a shape that the links ask
   pub part-answered : (cs out : List ℕ) (r : ℕ) → ((x y : List ℕ) → Parted (lent x y links counts) t (shapeWith layout) cs out r) → Parted s t (shape s t) cs out r
   unfolding layoutOf newLinks tableLinks headLinks moved
-  part-answered cs out r told = let p = rw is at (told b o) in record { count-is = p .count-is; rows-are = p .rows-are }
+  part-answered cs out r told = let p = rw is at (told b o) in record { count-is = p .count-is; added = p .added; rows-are = p .rows-are }

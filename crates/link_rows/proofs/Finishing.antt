@@ -106,6 +106,7 @@ parted-links s t sh cs a b class2 g out out′ done h =
     let n = finished-long (s .links) a b (s .linkCount) p (g .ordered) (g .used) room out done t v in
     record {
       count-is = omega (arith, rows-numbers (newLinks s t sh cs), ap length e);
+      added = ap (λ (k : ℕ). s .linkCount + k * length cs) (sym (header-count sh));
       rows-are = finished (s .links) a b (s .linkCount) p (g .ordered) (g .used) room out done t v out′ h ∙ ap (put (s .links) 0) (sym e);
     }
 
@@ -124,5 +125,6 @@ parted-call ls cts t sh cs a b class2 n g e out out′ done h x y =
     rw e
     (record {
       count-is = r .count-is ∙ ap length same;
+      added = r .added;
       rows-are = r .rows-are ∙ ap (λ (l : List Link). put ls 0 (rowNumbers l)) same;
     })

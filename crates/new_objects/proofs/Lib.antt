@@ -1,7 +1,7 @@
 mod Sifting
 pub mod Parting
 mod Beside
-mod Planning
+pub mod Planning
 mod Writing
 mod Lengths
 mod Tables

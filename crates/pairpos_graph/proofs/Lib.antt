@@ -1,0 +1,9 @@
+mod Numbering
+mod Keeping
+mod StoreAfter
+mod Needed
+mod Places
+mod ByTable
+mod SplitAt
+mod Fronts
+mod Calling

@@ -1,0 +1,28 @@
+-- `room::needed_objects` meets its contract. Assumes nothing.
+use borrow.Author.Needs.{needs}
+use native.Mathlib.Omega.{arith}
+use Rattle.pairpos_graph.specs.Room.{objectsNeeded}
+use Rattle.pairpos_graph.proofs.Needed.{some-beside, few-objects}
+use Rattle.pairpos_graph.proofs.room.needed_objects.Statement.{statement}
+use Rattle.pairpos_graph.proofs.room.needed_objects.Tie as tie
+
+objects-per-table-requires : tie.Need-objects-per-table-requires
+objects-per-table-requires c κs = search needs
+
+mul-result : tie.Need-mul-result
+unfolding objectsNeeded
+mul-result c = rw (c .objects-per-table .ensures) (omega (arith, few-objects (c .before .args .format) (c .before .args .cuts) (c .before .pre)))
+
+sub-result : tie.Need-sub-result
+sub-result c = rw (c .objects-per-table .ensures) (some-beside (c .before .args .format))
+
+add-result : tie.Need-add-result
+unfolding objectsNeeded
+add-result c = rw (c .objects-per-table .ensures) (omega (arith, few-objects (c .before .args .format) (c .before .args .cuts) (c .before .pre)))
+
+returns : tie.Need-returns
+unfolding objectsNeeded
+returns c = rw (c .objects-per-table .ensures)
+
+pub needed-objects-spec : {M : Type 1} → statement M
+needed-objects-spec = tie.close (tie.spec objects-per-table-requires mul-result sub-result add-result returns)

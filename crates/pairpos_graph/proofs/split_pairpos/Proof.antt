@@ -1,0 +1,68 @@
+-- `pairpos_graph::split_pairpos` meets its contract: the table is split or refused, and the scratch is cleared. Assumes nothing.
+use borrow.Author.Needs.{needs}
+use Rattle.rules.specs.Store.{lent}
+use Rattle.rules.specs.Answers.{scratchOf}
+use Rattle.pairpos_graph.proofs.Calling.{then-cleared}
+use Rattle.pairpos_graph.proofs.split_pairpos.Statement.{statement}
+use Rattle.pairpos_graph.proofs.split_pairpos.Tie as tie
+
+split-any-requires : tie.Need-split-any-requires
+split-any-requires c κs = search needs
+
+clear-scratch-requires : tie.Need-clear-scratch-requires
+clear-scratch-requires c κs = search needs
+
+same-length : tie.Need-same-length
+same-length c = search needs
+
+same-length-2 : tie.Need-same-length-2
+same-length-2 c = search needs
+
+same-length-3 : tie.Need-same-length-3
+same-length-3 c = search needs
+
+same-length-4 : tie.Need-same-length-4
+same-length-4 c = search needs
+
+same-length-5 : tie.Need-same-length-5
+same-length-5 c = search needs
+
+same-length-6 : tie.Need-same-length-6
+same-length-6 c = search needs
+
+same-length-7 : tie.Need-same-length-7
+same-length-7 c = search needs
+
+same-length-8 : tie.Need-same-length-8
+same-length-8 c = search needs
+
+same-length-9 : tie.Need-same-length-9
+same-length-9 c = search needs
+
+returns : tie.Need-returns
+returns c =
+    let zeroed = c .before .before .before .before .before .before .before .before .before .before in
+    let split = zeroed .before .before .before .before .before .before .before .before .before .before .before .before .before .before .before .before .before .before .before .before .before .before .before .before in
+    let a = split .before .before .before .before .before .before .before .before .before .before .before .before .before .before .before .before .before .before .before .before .before .args in
+    let kept = split .split-any .kept .1 .1 .1 .1 .1 in
+    then-cleared (lent (a .«data» .now) (a .objects .now) (a .links .now) (a .counts .now)) (a .table)
+    (scratchOf (a .walk .now) (a .glyph-set .now) (a .glyphs .now) (a .classes .now) (a .cuts .now)) (a .new-tables .now)
+    (record { walk = kept .0; set = kept .1 .0; glyphs = kept .1 .1 .0; classes = kept .1 .1 .1 .0; cuts = kept .1 .1 .1 .1 .0 })
+    (zeroed .clear-scratch .ensures) (split .split-any .ensures)
+
+pub split-pairpos-spec : {M : Type 1} → statement M
+split-pairpos-spec =
+    tie.close
+    (tie.spec
+    split-any-requires
+    clear-scratch-requires
+    same-length
+    same-length-2
+    same-length-3
+    same-length-4
+    same-length-5
+    same-length-6
+    same-length-7
+    same-length-8
+    same-length-9
+    returns)

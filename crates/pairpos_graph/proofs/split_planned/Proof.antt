@@ -1,0 +1,130 @@
+-- `pairpos_graph::split_planned` meets its contract: nothing to cut, no room, or the split. Assumes nothing.
+use borrow.Author.Tests.{not-true, not-false}
+use borrow.Author.Needs.{needs}
+use Rattle.pairpos_graph.proofs.Fronts.{fronts-lent}
+use Rattle.pairpos_graph.proofs.Calling.{nothing, refused, carried}
+use Rattle.pairpos_graph.proofs.split_planned.Statement.{statement}
+use Rattle.pairpos_graph.proofs.split_planned.Tie as tie
+
+returns : tie.Need-returns
+returns c =
+    let start = c .before .before .before .before .before .before .before .before in
+    nothing (start .pre) (start .args .new-tables .now) (c .if1 .taken)
+
+sub-split-at : tie.Need-sub-split-at
+sub-split-at c = search needs
+
+part-split-at-start : tie.Need-part-split-at-start
+part-split-at-start c = search needs
+
+part-split-at-end : tie.Need-part-split-at-end
+part-split-at-end c = search needs
+
+sub-split-at-2 : tie.Need-sub-split-at-2
+sub-split-at-2 c = search needs
+
+part-split-at-start-2 : tie.Need-part-split-at-start-2
+part-split-at-start-2 c = search needs
+
+part-split-at-end-2 : tie.Need-part-split-at-end-2
+part-split-at-end-2 c = search needs
+
+sub-split-at-3 : tie.Need-sub-split-at-3
+sub-split-at-3 c = search needs
+
+part-split-at-start-3 : tie.Need-part-split-at-start-3
+part-split-at-start-3 c = search needs
+
+part-split-at-end-3 : tie.Need-part-split-at-end-3
+part-split-at-end-3 c = search needs
+
+split-at-requires : tie.Need-split-at-requires
+split-at-requires c κs = fronts-lent (c .before .before .before .before .before .before .before .before .before .before .before .before .before .before .before .before .before .pre) (c .before .before .before .before .before .before .before .before .before .if1 .left)
+
+number-of-requires : tie.Need-number-of-requires
+number-of-requires c κs = search needs
+
+same-length : tie.Need-same-length
+same-length c = search needs
+
+same-length-2 : tie.Need-same-length-2
+same-length-2 c = search needs
+
+same-length-3 : tie.Need-same-length-3
+same-length-3 c = search needs
+
+same-length-4 : tie.Need-same-length-4
+same-length-4 c = search needs
+
+same-length-5 : tie.Need-same-length-5
+same-length-5 c = search needs
+
+same-length-6 : tie.Need-same-length-6
+same-length-6 c = search needs
+
+returns-2 : tie.Need-returns-2
+returns-2 c =
+    let split = c .before .before .before .before .before .before .before .before .before .before .before .before .before .before in
+    let some = split .before .before .before .before .before .before .before .before .before .before in
+    let start = some .before .before .before .before .before .before .before .before in
+    refused (start .pre) (start .args .new-tables .now) (some .if1 .left) (split .split-at .ensures) (not-true _ (c .before .if2 .taken)) (c .number-of .ensures)
+
+cast-new-count : tie.Need-cast-new-count
+cast-new-count c = search needs
+
+same-length-7 : tie.Need-same-length-7
+same-length-7 c = search needs
+
+same-length-8 : tie.Need-same-length-8
+same-length-8 c = search needs
+
+same-length-9 : tie.Need-same-length-9
+same-length-9 c = search needs
+
+same-length-10 : tie.Need-same-length-10
+same-length-10 c = search needs
+
+same-length-11 : tie.Need-same-length-11
+same-length-11 c = search needs
+
+same-length-12 : tie.Need-same-length-12
+same-length-12 c = search needs
+
+returns-3 : tie.Need-returns-3
+returns-3 c =
+    let split = c .before .before .before .before .before .before .before .before .before .before .before .before .before in
+    let some = split .before .before .before .before .before .before .before .before .before .before in
+    let start = some .before .before .before .before .before .before .before .before in
+    carried (start .pre) (start .args .new-tables .now) (some .if1 .left) (split .split-at .ensures) (not-false _ (c .if2 .left))
+
+pub split-planned-spec : {M : Type 1} → statement M
+split-planned-spec =
+    tie.close
+    (tie.spec
+    returns
+    sub-split-at
+    part-split-at-start
+    part-split-at-end
+    sub-split-at-2
+    part-split-at-start-2
+    part-split-at-end-2
+    sub-split-at-3
+    part-split-at-start-3
+    part-split-at-end-3
+    split-at-requires
+    number-of-requires
+    same-length
+    same-length-2
+    same-length-3
+    same-length-4
+    same-length-5
+    same-length-6
+    returns-2
+    cast-new-count
+    same-length-7
+    same-length-8
+    same-length-9
+    same-length-10
+    same-length-11
+    same-length-12
+    returns-3)

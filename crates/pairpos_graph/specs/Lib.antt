@@ -1,0 +1,4 @@
+pub mod Room
+pub mod Arranging
+pub mod Carrying
+pub mod Splitting
