@@ -2,14 +2,17 @@
 
 use crate::{
     input::Input,
-    timing::{Samples, Sides, Timing},
+    timing::{Samples, Sides},
 };
+use differential::{generate::large::Order, lend::Need};
 use std::time::Duration;
 
 /// All that is known of an input.
 pub struct Figures {
     /// Of the table: 1 or 2.
     pub format: u8,
+    /// How the objects are numbered.
+    pub order: Order,
     /// Whether it is one of those that grow.
     pub grows: bool,
     /// In use: data bytes, objects, links.
@@ -18,6 +21,8 @@ pub struct Figures {
     pub glyphs: usize,
     /// Cuts.
     pub cuts: usize,
+    /// How many stores took turns.
+    pub stores: usize,
     /// How often each side took its turn in a run.
     pub repetitions: usize,
     /// The splits.
@@ -30,10 +35,8 @@ pub struct Figures {
 pub struct Compared {
     /// Each side's times.
     pub times: Sides<Spread>,
-    /// Our median by the oracle's.
-    pub ratio: f64,
-    /// The least and the greatest ratio of a run.
-    pub ratios: [f64; 2],
+    /// Quartiles of our time by the oracle's, turn by turn.
+    pub ratios: [f64; 3],
 }
 
 /// Times of one side.
@@ -46,13 +49,15 @@ pub struct Spread {
 
 impl Figures {
     /// Of the runs of an input.
-    pub fn new(input: &Input, timing: &Timing, runs: Vec<Samples>) -> Self {
+    pub fn new(input: &Input, need: Need, runs: Vec<Samples>) -> Self {
         Self {
             format: input.format,
+            order: input.order,
             grows: input.grows,
-            counts: input.case.store.counts,
-            glyphs: timing.need.glyphs,
-            cuts: timing.need.list,
+            counts: input.counts(),
+            glyphs: need.glyphs,
+            cuts: need.list,
+            stores: input.cases.len(),
             repetitions: runs[0].split.ours.len(),
             split: Compared::new(runs.iter().map(|run| &run.split)),
             plan: Compared::new(runs.iter().map(|run| &run.plan)),
@@ -67,31 +72,29 @@ impl Figures {
 
 impl Compared {
     fn new<'a>(runs: impl Iterator<Item = &'a Sides<Vec<Duration>>> + Clone) -> Self {
-        let times = Sides {
-            ours: Spread::new(runs.clone().map(|run| &run.ours)),
-            oracle: Spread::new(runs.map(|run| &run.oracle)),
-        };
-        let medians = times.ours.run_medians.iter().zip(&times.oracle.run_medians);
-        let ratios: Vec<f64> = medians
-            .map(|(ours, oracle)| ratio(*ours, *oracle))
-            .collect();
+        let turns = runs.clone();
+        let turns = turns.flat_map(|run| run.ours.iter().zip(&run.oracle));
+        let mut ratios: Vec<f64> = turns.map(|(ours, oracle)| ratio(*ours, *oracle)).collect();
+        ratios.sort_by(f64::total_cmp);
         Self {
-            ratio: ratio(times.ours.median(), times.oracle.median()),
-            ratios: [
-                ratios.iter().copied().fold(f64::INFINITY, f64::min),
-                ratios.iter().copied().fold(0.0, f64::max),
-            ],
-            times,
+            times: Sides {
+                ours: Spread::new(runs.clone().map(|run| &run.ours)),
+                oracle: Spread::new(runs.map(|run| &run.oracle)),
+            },
+            ratios: quartiles(&ratios),
         }
     }
 }
 
 impl Spread {
     fn new<'a>(runs: impl Iterator<Item = &'a Vec<Duration>> + Clone) -> Self {
-        let all: Vec<Duration> = runs.clone().flatten().copied().collect();
+        let sorted = |mut times: Vec<Duration>| {
+            times.sort();
+            quartiles(&times)
+        };
         Self {
-            quartiles: quartiles(all),
-            run_medians: runs.map(|run| quartiles(run.clone())[1]).collect(),
+            quartiles: sorted(runs.clone().flatten().copied().collect()),
+            run_medians: runs.map(|run| sorted(run.clone())[1]).collect(),
         }
     }
 
@@ -130,8 +133,8 @@ fn ratio(a: Duration, b: Duration) -> f64 {
     a.as_secs_f64() / b.as_secs_f64()
 }
 
-fn quartiles(mut times: Vec<Duration>) -> [Duration; 3] {
-    times.sort();
-    let last = times.len() - 1;
-    [1, 2, 3].map(|quarter| times[(last * quarter + 2) / 4])
+/// The lower quartile, the median and the upper quartile of what is sorted.
+fn quartiles<T: Copy>(sorted: &[T]) -> [T; 3] {
+    let last = sorted.len() - 1;
+    [1, 2, 3].map(|quarter| sorted[(last * quarter + 2) / 4])
 }

@@ -3,17 +3,19 @@
 //! ```text
 //! bench [--runs N]    times all inputs N times over, 3 unless it is said, and writes docs/BENCH.md
 //!                     and docs/bench.svg
-//! bench --quick       the small inputs once: only that both sides agree, whatever the time
+//! bench --quick       the small inputs, each store once: only that both sides agree, whatever the time
 //! ```
 //!
 //! | module | holds |
 //! |---|---|
 //! | [`input`] | what is split |
+//! | [`clock`] | the time that a thread has had |
 //! | [`timing`] | what is timed, and how |
 //! | [`figures`] | medians, spreads, ratios |
 //! | [`page`] | the tables, for a terminal and for docs/BENCH.md |
 //! | [`plot`] | docs/bench.svg |
 
+mod clock;
 mod figures;
 mod input;
 mod page;
@@ -46,12 +48,12 @@ fn main() -> ExitCode {
     }
 }
 
-/// The small inputs once: both sides must agree.
+/// The small inputs, each store once: both sides must agree.
 fn quick() -> Result<(), String> {
     let inputs = input::small();
-    let figures = measure(&inputs, 1, |_| 1)?;
+    let figures = measure(&inputs, 1, |input| input.cases.len())?;
     print!("{}", page::text(&figures));
-    println!("\nBoth sides agree. Times of one repetition say little.");
+    println!("\nBoth sides agree. Times of so few turns say little.");
     Ok(())
 }
 
@@ -85,7 +87,7 @@ fn measure(
         }
     }
     let figures = inputs.iter().zip(timings);
-    let figures = figures.map(|(input, (timing, runs))| Figures::new(input, &timing, runs));
+    let figures = figures.map(|(input, (timing, runs))| Figures::new(input, timing.need(), runs));
     Ok(figures.collect())
 }
 

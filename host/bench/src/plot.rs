@@ -4,6 +4,7 @@ use crate::{
     figures::{Compared, Figures, Spread},
     page::thousands,
 };
+use differential::generate::large::Order;
 use std::{
     fmt::{self, Write},
     time::Duration,
@@ -47,7 +48,7 @@ const SIDES: [Side; 2] = [
     },
 ];
 
-/// The plot of all inputs.
+/// The plot of all inputs whose objects are numbered as they were made.
 pub fn svg(figures: &[Figures]) -> String {
     let mut text = String::new();
     draw(&mut text, figures).expect("room for text");
@@ -164,6 +165,7 @@ impl Panel {
         for (format, colour) in COLOURS.iter().enumerate() {
             let is_of = |input: &&Figures| usize::from(input.format) == format + 1;
             let inputs = figures.iter().filter(is_of);
+            let inputs = inputs.filter(|input| input.order == Order::Made);
             let spread = |input| (side.of)(of(input));
             let grow = inputs.clone().filter(|input| input.grows);
             let points = grow.map(|input| self.point(input, spread(input).median()));

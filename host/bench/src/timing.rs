@@ -1,27 +1,28 @@
 //! What is timed: a single call, on a copy that is ready for it.
 
-use crate::input::Input;
+use crate::{clock, input::Input};
 use differential::{
     check::{as_the_oracle, Outcome, Split},
+    generate::Case,
     lend::{self, Need},
     Archive, Call, Random, Subject, Tally,
 };
 use oracle::Graph;
-use std::{
-    hint::black_box,
-    time::{Duration, Instant},
-};
+use std::{hint::black_box, time::Duration};
 
-/// An input as each side takes it.
-pub struct Timing {
+/// A store as each side takes it.
+struct Ready {
     /// What our split is lent: exactly what it needs, its scratch being zero.
     call: Call<u32>,
-    /// What our cut plan is lent.
-    plan: Call<u16>,
     /// The oracle's graph of the store, loaded.
     graph: Graph,
     /// What is lent.
-    pub need: Need,
+    need: Need,
+}
+
+/// The stores of an input, ready for both sides.
+pub struct Timing {
+    stores: Vec<Ready>,
 }
 
 /// The times of a run, one for each repetition.
@@ -48,28 +49,30 @@ const SPARE_BYTES: usize = 1 << 20;
 impl Timing {
     /// Lends and loads what both sides need.
     pub fn new(input: &Input) -> Self {
-        let (store, table) = (&input.case.store, input.case.table);
-        let mut call = lend::exactly(store, table, &mut Random::new(0));
-        call.scratch.clear();
         Self {
-            plan: call.to_plan(),
-            call,
-            graph: Graph::load(store).expect("a sound store"),
-            need: Need::of(store, table),
+            stores: input.cases.iter().map(Ready::new).collect(),
         }
+    }
+
+    /// What the first store's split is lent.
+    pub fn need(&self) -> Need {
+        self.stores[0].need
     }
 
     /// Both sides cut at the same places, and make the same of the table.
     pub fn agree(&self) -> Outcome {
-        let split = Split::by(&Archive, &self.call);
-        as_the_oracle(&split, &mut Tally::default())
+        self.stores.iter().try_for_each(|store| {
+            let split = Split::by(&Archive, &store.call);
+            as_the_oracle(&split, &mut Tally::default())
+        })
     }
 
     /// Each side in turn, so many times, and once before to get warm.
-    pub fn run(&mut self, repetitions: usize) -> Samples {
+    pub fn run(&self, repetitions: usize) -> Samples {
         let mut samples = Samples::default();
         for repetition in 0..=repetitions {
-            let (split, plan) = (self.split(), self.plan());
+            let store = &self.stores[repetition % self.stores.len()];
+            let (split, plan) = (store.split(), store.plan());
             if repetition > 0 {
                 samples.split.push(split);
                 samples.plan.push(plan);
@@ -77,8 +80,20 @@ impl Timing {
         }
         samples
     }
+}
 
-    fn split(&mut self) -> Sides<Duration> {
+impl Ready {
+    fn new(case: &Case) -> Self {
+        let mut call = lend::exactly(&case.store, case.table, &mut Random::new(0));
+        call.scratch.clear();
+        Self {
+            call,
+            graph: Graph::load(&case.store).expect("a sound store"),
+            need: Need::of(&case.store, case.table),
+        }
+    }
+
+    fn split(&self) -> Sides<Duration> {
         let mut call = self.call.clone();
         let ours = time(|| Archive.split_pairpos(&mut call));
         let mut graph = self.graph_with_room();
@@ -86,11 +101,11 @@ impl Timing {
         Sides { ours, oracle }
     }
 
-    fn plan(&mut self) -> Sides<Duration> {
-        let mut plan = self.plan.clone();
+    fn plan(&self) -> Sides<Duration> {
+        let mut plan = self.call.to_plan();
         let ours = time(|| Archive.cut_plan(&mut plan));
         let mut graph = self.graph_with_room();
-        let oracle = time(|| graph.plan_pairpos(self.plan.table as usize));
+        let oracle = time(|| graph.plan_pairpos(self.call.table as usize));
         Sides { ours, oracle }
     }
 
@@ -109,9 +124,9 @@ impl Sides<Vec<Duration>> {
 
 /// How long something takes. What it gives is dropped afterwards.
 fn time<T>(call: impl FnOnce() -> T) -> Duration {
-    let start = Instant::now();
+    let start = clock::now();
     let given = black_box(call());
-    let time = start.elapsed();
+    let time = clock::now() - start;
     drop(given);
     time
 }

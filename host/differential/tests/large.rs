@@ -1,7 +1,10 @@
 //! Large stores are what they are said to be.
 
 use differential::{
-    generate::{large, Case},
+    generate::{
+        large::{self, Order},
+        Case,
+    },
     lend::Need,
     model::soundness::MAXIMA,
 };
@@ -21,7 +24,8 @@ fn figures(case: &Case) -> [usize; 3] {
 #[test]
 fn all_grows_as_the_objects_do() {
     for build in [large::format1, large::format2] {
-        let [thousand, ten_thousand] = [1_000, 10_000].map(|objects| figures(&build(objects)));
+        let figures = |objects| figures(&build(objects, Order::Any, 0));
+        let [thousand, ten_thousand] = [1_000, 10_000].map(figures);
         assert_eq!([thousand[0], ten_thousand[0]], [1_000, 10_000]);
         assert!((9..=11).contains(&(ten_thousand[1] / thousand[1])));
         assert!(thousand[2] >= 3 && (9..=12).contains(&(ten_thousand[2] / thousand[2])));
@@ -31,20 +35,21 @@ fn all_grows_as_the_objects_do() {
 /// There is hardly room for a new object more.
 #[test]
 fn the_largest_just_fit() {
-    for (build, objects) in [
-        (large::format1 as fn(usize) -> Case, large::MOST_FORMAT1),
-        (large::format2, large::MOST_FORMAT2),
-    ] {
-        let case = build(objects);
-        figures(&case);
-        let after = objects + Need::of(&case.store, case.table).room[1];
-        assert!((65_500..=65_536).contains(&after), "{after}");
+    let order = Order::Made;
+    for seed in 0..3 {
+        let format1 = large::format1(large::MOST_FORMAT1, order, seed);
+        let format2 = large::format2(large::MOST_FORMAT2, order, seed);
+        for case in [format1, format2] {
+            let [objects, ..] = figures(&case);
+            let after = objects + Need::of(&case.store, case.table).room[1];
+            assert!((65_500..=65_536).contains(&after), "{after}");
+        }
     }
 }
 
 #[test]
 fn few_objects_have_many_links() {
-    let [objects, links, cuts] = figures(&large::few_objects());
+    let [objects, links, cuts] = figures(&large::few_objects(0));
     assert_eq!([objects, links], [300, 33_003]);
     assert!(cuts >= 2);
 }

@@ -40,6 +40,15 @@ impl Draft {
     pub fn lay_out(&self, random: &mut Random) -> (Store, Vec<u32>) {
         let mut order: Vec<usize> = (0..self.count()).collect();
         random.shuffle(&mut order);
+        self.lay_out_in(order, random)
+    }
+
+    /// The store, with the objects in an order that is given and gaps between them, and their numbers.
+    pub fn lay_out_in(
+        &self,
+        order: impl IntoIterator<Item = usize>,
+        random: &mut Random,
+    ) -> (Store, Vec<u32>) {
         let mut store = Store::default();
         let mut numbers = vec![0; self.count()];
         for object in order {

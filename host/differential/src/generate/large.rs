@@ -1,4 +1,4 @@
-//! Stores of a given size, with a table that is cut in several places.
+//! Stores of a given size and seed, with a table that is cut in several places.
 //!
 //! Bytes, links, items, covered glyphs and cuts all grow as the objects do. No record has a number
 //! past 65,535, so the oracle moves all links as it should.
@@ -15,6 +15,15 @@ use crate::{
 };
 use std::ops::RangeInclusive;
 
+/// How the objects of a store are numbered.
+#[derive(Clone, Copy, Debug, PartialEq, Eq)]
+pub enum Order {
+    /// One after the other as items lead to them, as those who pack tables do it.
+    Made,
+    /// In any order, so that neighbours have nothing to do with each other.
+    Any,
+}
+
 /// How many objects [`format1`] may have, so that a split has room for its own: near 65,536.
 pub const MOST_FORMAT1: usize = 65_120;
 
@@ -26,8 +35,8 @@ const NO_FIELDS: ValueFormat = ValueFormat(0);
 const KERNING: ValueFormat = ValueFormat(0x44);
 
 /// A format 1 table. Of four objects three are pair sets, and one is a device that sets share.
-pub fn format1(objects: usize) -> Case {
-    let mut random = Random::new(objects as u64);
+pub fn format1(objects: usize, order: Order, seed: u64) -> Case {
+    let mut random = Random::new(seed);
     let mut draft = Draft::default();
     let device_count = objects / 4;
     let slots = objects - device_count - 2;
@@ -43,11 +52,12 @@ pub fn format1(objects: usize) -> Case {
         let set = pair_set(&mut draft, &mut random, formats, len, near);
         draft.link(table, 10 + 2 * slot, set);
     }
-    laid_out(&draft, table, &mut random)
+    laid_out(&draft, table, order, &mut random)
 }
 
 /// A format 2 table. All objects but its parts are devices, of which each record has two.
-pub fn format2(objects: usize) -> Case {
+pub fn format2(objects: usize, order: Order, seed: u64) -> Case {
+    let mut random = Random::new(seed);
     let columns = 32;
     let rows = objects / columns;
     class_table(
@@ -62,11 +72,14 @@ pub fn format2(objects: usize) -> Case {
         },
         objects - 4,
         205..=235,
+        order,
+        &mut random,
     )
 }
 
 /// A format 2 table of many records and few devices: 300 objects and 33,003 links.
-pub fn few_objects() -> Case {
+pub fn few_objects(seed: u64) -> Case {
+    let mut random = Random::new(seed);
     let (rows, columns) = (220, 150);
     class_table(
         Plan {
@@ -80,25 +93,32 @@ pub fn few_objects() -> Case {
         },
         296,
         6..=6,
+        Order::Made,
+        &mut random,
     )
 }
 
 /// A format 2 table each of whose records has its devices, from among those near to it.
-fn class_table(plan: Plan, device_count: usize, lengths: RangeInclusive<usize>) -> Case {
-    let mut random = Random::new(device_count as u64);
+fn class_table(
+    plan: Plan,
+    device_count: usize,
+    lengths: RangeInclusive<usize>,
+    order: Order,
+    random: &mut Random,
+) -> Case {
     let mut draft = Draft::default();
-    let table = draft.object(plan.table(&mut random));
+    let table = draft.object(plan.table(random));
     let glyphs = glyphs(plan.glyphs);
     let second_glyphs = self::glyphs(plan.second_glyphs);
     let parts = [
         coverage::write(&glyphs),
-        class_def::write(&classes(&mut random, plan.rows, &glyphs)),
-        class_def::write(&classes(&mut random, plan.columns, &second_glyphs)),
+        class_def::write(&classes(random, plan.rows, &glyphs)),
+        class_def::write(&classes(random, plan.columns, &second_glyphs)),
     ];
     let parts = parts.map(|part| draft.object(part));
     link_parts(&mut draft, table, parts);
 
-    let devices = devices(&mut draft, &mut random, device_count, lengths);
+    let devices = devices(&mut draft, random, device_count, lengths);
     let [first, end] = plan.records;
     for record in first..end {
         let near = &devices[record * (device_count - NEAR) / end..][..NEAR];
@@ -106,7 +126,7 @@ fn class_table(plan: Plan, device_count: usize, lengths: RangeInclusive<usize>) 
             draft.link(table, position, random.pick(near));
         }
     }
-    laid_out(&draft, table, &mut random)
+    laid_out(&draft, table, order, random)
 }
 
 /// From among how many devices an item takes its own.
@@ -144,8 +164,11 @@ fn classes(random: &mut Random, count: usize, glyphs: &[u16]) -> Vec<(u16, u16)>
     glyphs.iter().map(entry).collect()
 }
 
-fn laid_out(draft: &Draft, table: usize, random: &mut Random) -> Case {
-    let (store, numbers) = draft.lay_out(random);
+fn laid_out(draft: &Draft, table: usize, order: Order, random: &mut Random) -> Case {
+    let (store, numbers) = match order {
+        Order::Made => draft.lay_out_in(0..draft.count(), random),
+        Order::Any => draft.lay_out(random),
+    };
     Case {
         store,
         table: numbers[table],
