@@ -1,7 +1,6 @@
 mod Numbering
 mod Keeping
 mod StoreAfter
-mod Needed
 mod Places
 mod ByTable
 mod SplitAt

@@ -23,8 +23,8 @@ use Rattle.new_objects.specs.Tables.{paired, Planned}
 use Rattle.new_objects.specs.Objects.{Length}
 use Rattle.new_objects.proofs.Planning.{cuts-few}
 use Rattle.new_objects.proofs.Stored.{stored-plan, stored-length}
-use Rattle.pairpos_graph.specs.declared.room.Lent.{Lent}
-use Rattle.pairpos_graph.specs.Room.{objectsNeeded, Counted, shortBy}
+use Rattle.room.specs.declared.Lent.{Lent}
+use Rattle.room.specs.Room.{objectsNeeded, Counted, shortBy}
 use Rattle.pairpos_graph.specs.Arranging.{Arranging}
 use Rattle.pairpos_graph.specs.Carrying.{Carrying, Carried}
 use Rattle.pairpos_graph.specs.Splitting.{Splitting, SplitAt}

@@ -25,7 +25,7 @@ use Rattle.pair_pos.specs.Layout.{layoutOf}
 use Rattle.checks.specs.declared.PairTable.{PairTable}
 use Rattle.link_rows.specs.Parting.{shapeWith, Parting, Parted}
 use Rattle.link_rows.proofs.Callers.{Decided, header-links, part-asked, part-answered}
-use Rattle.pairpos_graph.specs.Room.{objectsNeeded}
+use Rattle.room.specs.Room.{objectsNeeded}
 use Rattle.pairpos_graph.specs.Carrying.{Writing, Wrote, Carrying, Carried}
 use Rattle.pairpos_graph.proofs.Keeping.{cut-places}
 

@@ -1,4 +1,3 @@
-pub mod Room
 pub mod Arranging
 pub mod Carrying
 pub mod Splitting

@@ -1,11 +1,11 @@
 // A split carried out. All that can refuse it has been asked: nothing here fails.
-use crate::room::needed_objects;
 use checks::PairTable;
 use link_rows::part_links;
 use new_objects::write_objects;
 use object_rows::shorten;
 use pair_pos::Layout;
 use pair_pos::objects_per_table;
+use room::needed_objects;
 use wire::put_u16;
 ghost use mathlib.Core.Path.{_≡_};
 ghost use mathlib.Core.List.{List};

@@ -1,7 +1,6 @@
 // The split of a table of any store: decided, carried out, and the scratch cleared. The counterpart of `split_pairpos`.
 pub mod arranging;
 pub mod carrying;
-pub mod room;
 
 use arranging::arrange;
 use carrying::carry_out;

@@ -1,10 +1,10 @@
 -- `room::needed_objects` meets its contract. Assumes nothing.
 use borrow.Author.Needs.{needs}
 use native.Mathlib.Omega.{arith}
-use Rattle.pairpos_graph.specs.Room.{objectsNeeded}
-use Rattle.pairpos_graph.proofs.Needed.{some-beside, few-objects}
-use Rattle.pairpos_graph.proofs.room.needed_objects.Statement.{statement}
-use Rattle.pairpos_graph.proofs.room.needed_objects.Tie as tie
+use Rattle.room.specs.Room.{objectsNeeded}
+use Rattle.room.proofs.Needed.{some-beside, few-objects}
+use Rattle.room.proofs.needed_objects.Statement.{statement}
+use Rattle.room.proofs.needed_objects.Tie as tie
 
 objects-per-table-requires : tie.Need-objects-per-table-requires
 objects-per-table-requires c κs = search needs

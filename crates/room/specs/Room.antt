@@ -5,7 +5,7 @@ use mathlib.Core.List.{List}
 use lib.ListN.{getD}
 use lib.Dec.{ltb, eqb}
 use Rattle.rules.specs.Store.{perLink}
-use Rattle.pairpos_graph.specs.declared.room.Lent.{Lent}
+use Rattle.room.specs.declared.Lent.{Lent}
 
 -- "format 1 needs 2K+1 objects .. format 2 needs 3K+2 objects"
 unfoldable pub objectsNeeded : ℕ → ℕ → ℕ

@@ -9,8 +9,8 @@ use lib.Dec.{ltb, eqb}
 use borrow.Author.Tests.{lt-ltb, le-ltb}
 use Rattle.folds.proofs.Tests.{by-test}
 use Rattle.rules.specs.Store.{perLink}
-use Rattle.pairpos_graph.specs.declared.room.Lent.{Lent}
-use Rattle.pairpos_graph.specs.Room.{objectsNeeded, shortBy}
+use Rattle.room.specs.declared.Lent.{Lent}
+use Rattle.room.specs.Room.{objectsNeeded, shortBy}
 
 -- ---- how much
 

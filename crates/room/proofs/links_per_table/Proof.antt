@@ -1,7 +1,7 @@
 -- `room::links_per_table` meets its contract: each answer by the test that led to it. Assumes nothing.
 use borrow.Author.Tests.{eq-eqb, ne-eqb}
-use Rattle.pairpos_graph.proofs.room.links_per_table.Statement.{statement}
-use Rattle.pairpos_graph.proofs.room.links_per_table.Tie as tie
+use Rattle.room.proofs.links_per_table.Statement.{statement}
+use Rattle.room.proofs.links_per_table.Tie as tie
 
 returns : tie.Need-returns
 returns c = simp (eq-eqb _ _ (c .if1 .taken))

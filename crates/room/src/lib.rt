@@ -5,7 +5,7 @@ ghost use mathlib.Core.Path.{_≡_};
 ghost use mathlib.Core.Bool.{cond};
 ghost use Prim.Native.Nat.{_<_, min};
 ghost use lib.Dec.{eqb};
-ghost use Rattle.pairpos_graph.specs.Room.{objectsNeeded, Counted, shortBy};
+ghost use Rattle.room.specs.Room.{objectsNeeded, Counted, shortBy};
 
 // How long the data, the object rows, the link rows and the result list are that the caller has lent.
 pub struct Lent {

@@ -3,9 +3,9 @@ use Prim.Native.Nat.{ℕ, _*_}
 use mathlib.Core.Path.{ap}
 use native.Mathlib.Omega.{arith}
 use borrow.Author.Needs.{needs}
-use Rattle.pairpos_graph.proofs.Needed.{few-objects, few-links, few-rows, few-link-rows, few-bytes, by-list}
-use Rattle.pairpos_graph.proofs.room.is_short.Statement.{statement}
-use Rattle.pairpos_graph.proofs.room.is_short.Tie as tie
+use Rattle.room.proofs.Needed.{few-objects, few-links, few-rows, few-link-rows, few-bytes, by-list}
+use Rattle.room.proofs.is_short.Statement.{statement}
+use Rattle.room.proofs.is_short.Tie as tie
 
 element-copy-out-objects : tie.Need-element-copy-out-objects
 element-copy-out-objects c = search needs
