@@ -86,6 +86,10 @@ module _ {l : List ℕ} {m key lo hi : ℕ} (o : InOrder l m) (b : Bracket l m k
 pub found : {l : List ℕ} {m key lo hi : ℕ} → Bracket l m key lo hi → hi ≤ lo → FirstRow l m key lo
 found b h = record { within = omega (arith, b .lo-le, b .hi-le); below = b .below; above = λ k g n. b .above k (omega arith) n }
 
+-- the row before `near` is below the key
+pub behind : {l : List ℕ} {m key near : ℕ} → InOrder l m → near ≤ m → (near ≡ 0 → ⊥) → rowKey l (near - 1) < key → Bracket l m key near m
+behind {l} {m} {key} {near} o h n b = subst (λ (lo : ℕ). Bracket l m key lo m) (omega arith) (up o (whole l m key) (near - 1) (omega arith) (omega arith) b)
+
 -- a later key's first row is no earlier
 pub rows-rise : {l : List ℕ} {m a b lo hi : ℕ} → FirstRow l m a lo → FirstRow l m b hi → a ≤ b → lo ≤ hi
 rows-rise {l} {m} {a} {b} {lo} {hi} f g h = ⊎-elim (λ (d : hi < lo). absurd (omega (arith, f .below hi d, g .above hi (omega arith) (omega (arith, f .within))))) (λ d. d) (either hi lo)

@@ -45,7 +45,7 @@ pub fn subgraph_size(
             let parent = walk[n + head];
             walk[n + head] = 0;
             head += 1;
-            row = object_store::first_row(links, m, parent, 0);
+            row = object_store::row_near(links, m, stop, parent, 0);
             stop = object_store::next_row(links, m, row, parent + 1, 0);
         }
     }

@@ -181,29 +181,31 @@ slice-write-walk-3 c = omega arith
 add-head : tie.Need-add-head Inv-loop μ-loop
 add-head c = omega (arith, fit (begin (c .before .before .before)) .objectsMost)
 
-first-row-requires : tie.Need-first-row-requires Inv-loop μ-loop
-first-row-requires c κs = ordered (begin (c .before .before .before))
+row-near-requires : tie.Need-row-near-requires Inv-loop μ-loop
+row-near-requires c κs =
+    let a = c .before .before .before in
+    (ordered (begin a), a .loop .inv .stop-le)
 
 add-next-row : tie.Need-add-next-row Inv-loop μ-loop
 add-next-row c = omega (arith, next (c .before), fit (begin (c .before .before .before .before)) .objectsMost)
 
 next-row-requires : tie.Need-next-row-requires Inv-loop μ-loop
 next-row-requires c κs =
-    let f = c .first-row .ensures in
+    let f = c .row-near .ensures in
     (ordered (begin (c .before .before .before .before)), f .within, λ k h. omega (arith, f .below k h))
 
 loop-less-3 : tie.Need-loop-less-3 Inv-loop μ-loop
 loop-less-3 c =
     let a = c .before .before .before .before .before in
     let k = now (begin a .args .counts) in
-    falls (getD k 1 0) (getD k 2 0) (a .loop .head) (c .before .first-row .result) (c .next-row .result) (a .loop .stop - a .loop .row) (omega arith) (c .next-row .ensures .within)
+    falls (getD k 1 0) (getD k 2 0) (a .loop .head) (c .before .row-near .result) (c .next-row .result) (a .loop .stop - a .loop .row) (omega arith) (c .next-row .ensures .within)
 
 loop-again-3 : tie.Need-loop-again-3 Inv-loop μ-loop
 loop-again-3 c =
     let a = c .before .before .before .before .before in
     let s = begin a in
     pop (a .loop .inv) (use-of s) (s .pre .0) (s .pre .1 .1 .marks .room) (s .pre .1 .1 .marks .queue)
-    (c .before .before .before .if3 .left) (c .before .before .before .before .if1 .left) (c .before .first-row .ensures) (c .next-row .ensures)
+    (c .before .before .before .if3 .left) (c .before .before .before .before .if1 .left) (c .before .row-near .ensures) (c .next-row .ensures)
 
 pub subgraph-size-spec : {M : Type 1} → statement M
 subgraph-size-spec =
@@ -246,7 +248,7 @@ subgraph-size-spec =
     mul-walk-3
     slice-write-walk-3
     add-head
-    first-row-requires
+    row-near-requires
     add-next-row
     next-row-requires
     loop-less-3
