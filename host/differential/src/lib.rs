@@ -15,6 +15,7 @@
 //! | [`compare`] | what is reachable from tables, renumbered, parts by meaning |
 //! | [`product`] | where the 16-bit product of the crate's text shows |
 //! | [`check`] | what must hold of a split, against the oracle and against the model |
+//! | [`vectors`] | a sample of the answers, stored for the program `vectors` |
 //! | [`runs`] | all that is asked of the store of one seed |
 //!
 //! ```
@@ -42,6 +43,7 @@ mod random;
 pub mod runs;
 mod subject;
 mod tally;
+pub mod vectors;
 
 pub use archive::Archive;
 pub use model::Model;

@@ -1,0 +1,129 @@
+// Replays stored answers of the oracle. host/differential writes them, and says in src/vectors.rs how they were made and what stands where.
+mod digest;
+mod input;
+mod pairs;
+mod plans;
+mod report;
+mod splits;
+
+use input::lay_u8;
+use input::lay_u32;
+use input::read_number;
+use libc::STDIN_FILENO;
+use libc::STDOUT_FILENO;
+use pairs::pairs_agree;
+use plans::plan_agrees;
+use report::add_kind;
+use report::both;
+use report::print_kinds;
+use report::print_line;
+use splits::Outcome;
+use splits::split_agrees;
+
+fn main() {
+    let mut text = [0u8; 262144];
+    let length = io::read_full(STDIN_FILENO, &mut text);
+    replay(&text[..length]);
+}
+
+// The text says how long it is, and how many cases it has; then come the cases.
+fn replay(text: &[u8]) {
+    let length = read_number(text, 0);
+    if length.value as usize != text.len() {
+        io::write_all(STDOUT_FILENO, b"the stored answers are cut off\n");
+        return;
+    }
+    let count = read_number(text, length.at);
+    let mut kinds = [0u64; 10];
+    let differing = replay_cases(text, count.at, count.value, &mut kinds);
+    print_kinds(&kinds);
+    print_line(b"cases", count.value as u64);
+    print_line(b"not as stored", differing as u64);
+}
+
+// Replays case after case; answers how many are not as stored.
+fn replay_cases(text: &[u8], from: usize, count: u32, kinds: &mut [u64; 10]) -> u32 {
+    let mut at = from;
+    let mut differing: u32 = 0;
+    let mut k: u32 = 0;
+    while k < count {
+        let case = replay_case(text, at, k as u64 + 1);
+        add_kind(kinds, case.answer, case.count);
+        at = case.at;
+        k += 1;
+        if !case.agrees {
+            differing += 1;
+        }
+    }
+    differing
+}
+
+// Lays a case's store, and makes the calls.
+fn replay_case(text: &[u8], from: usize, case: u64) -> Outcome {
+    let mut counts = [0u32; 3];
+    let mut data = [0u8; 524288];
+    let mut objects = [0u32; 16384];
+    let mut links = [0u32; 32768];
+    let table = read_number(text, from);
+    let a = lay_u32(text, table.at, &mut counts);
+    let b = lay_u8(text, a.at, &mut data);
+    let c = lay_u32(text, b.at, &mut objects);
+    let d = lay_u32(text, c.at, &mut links);
+    let data_count = b.count;
+    let object_count = c.count;
+    let link_count = d.count;
+    replay_calls(
+        text,
+        d.at,
+        case,
+        &mut data[..data_count],
+        &mut objects[..object_count],
+        &mut links[..link_count],
+        &mut counts,
+        table.value,
+    )
+}
+
+// Reads the stored pairs, plans the cuts, splits, and reads the pairs again.
+fn replay_calls(
+    text: &[u8],
+    from: usize,
+    case: u64,
+    data: &mut [u8],
+    objects: &mut [u32],
+    links: &mut [u32],
+    counts: &mut [u32; 3],
+    table: u32,
+) -> Outcome {
+    let before = pairs_agree(
+        text,
+        from,
+        case,
+        data,
+        objects,
+        links,
+        counts,
+        table,
+        &[0; 8192],
+        0,
+    );
+    let plan = plan_agrees(text, before.at, case, data, objects, links, counts, table);
+    let split = split_agrees(
+        text,
+        plan.at,
+        from,
+        case,
+        data,
+        objects,
+        links,
+        counts,
+        table,
+    );
+    let agrees = both(both(before.agrees, plan.agrees), split.agrees);
+    Outcome {
+        at: split.at,
+        answer: split.answer,
+        count: split.count,
+        agrees,
+    }
+}

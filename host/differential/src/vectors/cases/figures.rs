@@ -1,0 +1,262 @@
+//! Stores made by hand: the paper's figures, limits, and shapes that seldom come by chance.
+
+use super::{super::plain, Case};
+use crate::{
+    edit, lend,
+    model::{answers, class_def, coverage, cuts::weigh, numbers::bytes, values::ValueFormat},
+    Call, Random,
+};
+use oracle::Store;
+
+/// The table of each of these stores.
+const TABLE: usize = 0;
+
+/// Those that are stored whole.
+pub fn all() -> Vec<Case> {
+    let mut cases = Vec::new();
+    let mut add = |name: &str, store: Store| {
+        let call = lent(store);
+        let name = name.into();
+        cases.push(Case { name, call });
+    };
+    let three = [10, 20, 30];
+    add("no sets", format1(&[], &[]));
+    add("three sets, one cut", format1(&three, &[30_000; 3]));
+    add("a set at the limit", format1(&[10], &[65_517]));
+    add(
+        "a set past the limit, cut at nought",
+        format1(&[10], &[65_518]),
+    );
+    add(
+        "two cuts, and a glyph too many",
+        format1(&[10, 20, 30, 40], &[40_000; 3]),
+    );
+    add("empty slots and a run of glyphs", empty_slots());
+    add("what two sets share is counted once", shared());
+    add("one set in two slots", one_set(2, 40_000));
+    add("one set in forty slots, each a cut", one_set(40, 65_535));
+    add("loops beside the table", loops());
+    add("no rows", format2([4, 0], [0, 3], &[], &no_classes()));
+    add("rows of one field", rows_of_one_field());
+    for (total, name) in [
+        (65_535, "rows at the limit"),
+        (65_536, "rows past the limit"),
+    ] {
+        add(name, devices(total));
+    }
+    add("one device of all rows, each a cut", one_device_of_all());
+    add(
+        "more records than sixteen bits count",
+        many_records(&[464, 32_700, 65_535]),
+    );
+    add("no glyphs, and a row that fits", one_row(0x001F, 6_551));
+    add(
+        "no glyphs, and a row that does not fit",
+        one_row(0x000F, 8_189),
+    );
+    add("one object as coverage and class definitions", one_part());
+    add(
+        "glyphs of classes that have no row",
+        classes_past_the_rows(),
+    );
+    add("another format", another_format());
+    cases
+}
+
+/// Some of both formats, all of them cut.
+pub fn to_damage() -> [Call<u32>; 7] {
+    let stores = [
+        format1(&[10, 20, 30], &[30_000; 3]),
+        devices(65_536),
+        empty_slots(),
+        one_device_of_all(),
+        loops(),
+        shared(),
+        classes_past_the_rows(),
+    ];
+    stores.map(lent)
+}
+
+/// Exactly what is needed is lent.
+fn lent(store: Store) -> Call<u32> {
+    let store = plain::store(&store, TABLE as u32);
+    let call = lend::exactly(&store, TABLE as u32, &mut Random::new(0));
+    plain::lent(call)
+}
+
+/// Format 1 with a pair set of each length, from object 2 on. Coverage is object 1.
+fn format1(glyphs: &[u16], lengths: &[usize]) -> Store {
+    let mut store = format1_slots(glyphs, lengths.len());
+    for (i, &length) in lengths.iter().enumerate() {
+        let set = store.push_object(&pair_set(length, i));
+        store.push_link(TABLE, 10 + 2 * i as u32, set);
+    }
+    store
+}
+
+/// Format 1 with empty slots. Coverage is object 1.
+fn format1_slots(glyphs: &[u16], slots: usize) -> Store {
+    let mut store = Store::default();
+    let mut table = bytes([1, 0, 4, 0, slots as u16]);
+    table.resize(10 + 2 * slots, 0);
+    store.push_object(&table);
+    let coverage = store.push_object(&coverage::write(glyphs));
+    store.push_link(TABLE, 2, coverage);
+    store
+}
+
+/// Two records: of glyph 5, and of glyph 7 with a value below 0.
+fn pair_set(length: usize, i: usize) -> Vec<u8> {
+    let mut set = bytes([2, 5, 1 + i as u16, 7, u16::MAX - i as u16]);
+    set.resize(length, 0);
+    set
+}
+
+fn empty_slots() -> Store {
+    let glyphs: Vec<u16> = (200..212).collect();
+    let mut store = format1_slots(&glyphs, 12);
+    for (i, slot) in [1, 2, 5, 6, 10].into_iter().enumerate() {
+        let set = store.push_object(&pair_set(20_000, i));
+        store.push_link(TABLE, 10 + 2 * slot, set);
+    }
+    store
+}
+
+/// The second set's share was counted before the cut, and is not measured again.
+fn shared() -> Store {
+    let mut store = format1(&[10, 20, 30], &[100, 30_000, 20_000]);
+    let below = store.push_object(&[0; 40_000]);
+    store.push_link(2, 12, below);
+    store.push_link(3, 12, below);
+    store
+}
+
+fn one_set(slots: usize, length: usize) -> Store {
+    let glyphs: Vec<u16> = (0..slots as u16).map(|slot| 3 * slot).collect();
+    let mut store = format1_slots(&glyphs, slots);
+    let set = store.push_object(&pair_set(length, 0));
+    for slot in 0..slots as u32 {
+        store.push_link(TABLE, 10 + 2 * slot, set);
+    }
+    store
+}
+
+/// A set that leads to itself, two objects that lead to each other, and one that leads to the table.
+fn loops() -> Store {
+    let mut store = format1(&[10, 20, 30], &[30_000; 3]);
+    let [first, second, outside] = [400, 500, 4].map(|length| store.push_object(&vec![0; length]));
+    store.push_link(2, 20, 2);
+    store.push_link(3, 30, first);
+    store.push_link(first, 0, second);
+    store.push_link(second, 1, first);
+    store.push_link(outside, 2, TABLE);
+    store
+}
+
+/// A format 2 table of zeros. Coverage and class definitions are objects 1 to 3.
+fn format2(formats: [u16; 2], shape: [u16; 2], classes: &[(u16, u16)], class_def2: &[u8]) -> Store {
+    let [rows, columns] = shape;
+    let fields: usize = formats.iter().map(|&f| ValueFormat(f).field_count()).sum();
+    let mut table = bytes([2, 0, formats[0], formats[1], 0, 0, rows, columns]);
+    table.resize(16 + 2 * fields * rows as usize * columns as usize, 0);
+    let glyphs: Vec<u16> = classes.iter().map(|entry| entry.0).collect();
+    let mut store = Store::default();
+    store.push_object(&table);
+    store.push_object(&coverage::write(&glyphs));
+    store.push_object(&class_def::write(classes));
+    store.push_object(class_def2);
+    for (position, part) in [(2, 1), (8, 2), (10, 3)] {
+        store.push_link(TABLE, position, part);
+    }
+    store
+}
+
+fn no_classes() -> Vec<u8> {
+    bytes([2, 0])
+}
+
+/// Class 0 for glyph 3, and so on to class 3 for glyph 6.
+fn few_classes() -> Vec<u8> {
+    bytes([1, 3, 4, 0, 1, 2, 3])
+}
+
+/// 170 rows of 200 columns are cut at 162.
+fn rows_of_one_field() -> Store {
+    let classes: Vec<_> = (0..170).map(|class| (100 + class, class)).collect();
+    let mut class_def2 = bytes([1, 100, 202]);
+    class_def2.resize(410, 0);
+    class_def2[406..].copy_from_slice(&[0, 100, 0, 199]);
+    format2([4, 0], [170, 200], &classes, &class_def2)
+}
+
+/// Eight rows with devices, in both glyphs' values; what they share makes the last total.
+fn devices(total: usize) -> Store {
+    let classes: Vec<_> = (0..24).map(|i| (50 + 3 * i, i % 8)).collect();
+    let mut store = format2([0x0014, 0x0082], [8, 4], &classes, &few_classes());
+    let devices = [12, 20, 36].map(|length| store.push_object(&vec![0; length]));
+    let large = store.push_object(&[]);
+    let record = 8;
+    for row in 0..8 {
+        let device = devices[row as usize % 3];
+        store.push_link(TABLE, 16 + record * (4 * row) + 2, device);
+        store.push_link(TABLE, 16 + record * (4 * row + 2) + 6, devices[1]);
+    }
+    store.push_link(TABLE, 16 + record * 31 + 2, large);
+    let pairpos = answers::open(&store, TABLE as u32).ok().flatten();
+    let last = pairpos.and_then(|pairpos| weigh(&pairpos).pop());
+    let length = total - last.expect("a last row").total;
+    edit::replace(&mut store, large as u32, &vec![0; length]);
+    store
+}
+
+fn one_device_of_all() -> Store {
+    let classes: Vec<_> = (0..12).map(|class| (100 + class, class)).collect();
+    let mut store = format2([0x0010, 1], [12, 4], &classes, &few_classes());
+    let device = store.push_object(&[0; 65_520]);
+    for row in 0..12 {
+        store.push_link(TABLE, 16 + 16 * row, device);
+    }
+    store
+}
+
+/// 220 rows of 300 columns, with devices at some records.
+fn many_records(records: &[u32]) -> Store {
+    let classes = [(7, 0), (8, 108), (9, 109), (10, 217), (11, 218), (12, 219)];
+    let mut store = format2([0x0010, 0], [220, 300], &classes, &few_classes());
+    for &record in records {
+        let device = store.push_object(&[0; 8]);
+        store.push_link(TABLE, 16 + 2 * record, device);
+    }
+    store
+}
+
+fn one_row(format: u16, columns: u16) -> Store {
+    format2([format, 0], [1, columns], &[], &bytes([1, 0, 0]))
+}
+
+/// Ranges of glyphs, whose start indices are their classes too.
+fn one_part() -> Store {
+    let mut store = format2([3, 1], [30, 30], &[], &no_classes());
+    let part = bytes([2, 4, 5, 9, 0, 20, 29, 5, 31, 40, 15, 60, 61, 25]);
+    edit::replace(&mut store, 1, &part);
+    edit::link(&mut store, TABLE as u32, 8, 1);
+    edit::link(&mut store, TABLE as u32, 10, 1);
+    store
+}
+
+fn classes_past_the_rows() -> Store {
+    let classes: Vec<_> = (0..60).map(|i| (2 * i, i % 9)).collect();
+    let mut store = format2([5, 0], [6, 4], &classes, &few_classes());
+    edit::replace(&mut store, TABLE as u32, &{
+        let mut table = bytes([2, 0, 5, 0, 0, 0, 6, 7_000]);
+        table.resize(16 + 6 * 7_000 * 4, 0);
+        table
+    });
+    store
+}
+
+fn another_format() -> Store {
+    let mut store = format1(&[10, 20, 30], &[30_000; 3]);
+    store.data[1] = 3;
+    store
+}

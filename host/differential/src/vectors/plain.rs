@@ -1,0 +1,80 @@
+//! Contents that are short to store: long runs of one number where no rule looks.
+
+use crate::{
+    edit,
+    model::{answers, header::Format, table::PairPos},
+    Call,
+};
+use oracle::Store;
+
+/// The most records that stay of a pair set.
+const RECORDS: usize = 2;
+
+/// Makes runs of what is lent to no use: scratch, list, and all past the counts.
+pub fn lent(mut call: Call<u32>) -> Call<u32> {
+    let store = &mut call.store;
+    let [data, objects, links] = store.counts.map(|count| count as usize);
+    store.data[data..].fill(0xA5);
+    store.objects[2 * objects..].fill(6);
+    store.links[4 * links..].fill(7);
+    let scratch = &mut call.scratch;
+    scratch.walk.fill(11);
+    scratch.glyph_set.fill(12);
+    scratch.glyphs.fill(13);
+    scratch.classes.fill(14);
+    scratch.cuts.fill(15);
+    call.list.fill(16);
+    call
+}
+
+/// Makes runs of the bytes of objects, as far as no cut depends on them.
+///
+/// A pair set keeps its first records, and each row of format 2 is two runs.
+pub fn store(old: &Store, table: u32) -> Store {
+    let mut store = old.clone();
+    let Ok(Some(pairpos)) = answers::open(old, table) else {
+        return store;
+    };
+    for object in 0..old.counts[1] {
+        let bytes = plain_bytes(&pairpos, object);
+        let head = edit::head(old, object);
+        store.data[head..head + bytes.len()].copy_from_slice(&bytes);
+    }
+    store
+}
+
+fn plain_bytes(pairpos: &PairPos, object: u32) -> Vec<u8> {
+    let header = &pairpos.header;
+    let offsets = header.format.offsets().len();
+    let mut bytes = pairpos.objects.bytes(object).to_vec();
+    let is_part = pairpos.links()[..offsets]
+        .iter()
+        .any(|link| link[3] == object);
+    if is_part {
+        return bytes;
+    }
+    if object == pairpos.table {
+        let items = &mut bytes[header.format.min_size()..];
+        match header.format {
+            Format::One => items.fill(0),
+            Format::Two => plain_rows(items, header.item_size()),
+        }
+        return bytes;
+    }
+    let record = 2 + header.record_size();
+    if let [0, count @ 0..=5, ..] = &mut bytes[..] {
+        *count = (*count).min(RECORDS as u8);
+    }
+    let rest = bytes.get_mut(2 + RECORDS * record..).unwrap_or_default();
+    rest.fill(object as u8);
+    bytes
+}
+
+/// Both halves of a row are a run.
+fn plain_rows(rows: &mut [u8], size: usize) {
+    for (row, bytes) in rows.chunks_mut(size.max(1)).enumerate() {
+        let (left, right) = bytes.split_at_mut(size / 2);
+        left.fill((row % 200) as u8 + 1);
+        right.fill((row % 200) as u8 + 51);
+    }
+}
