@@ -8,7 +8,7 @@ mod pairs;
 pub use agree::{all_agree, pair_agrees, plan_agrees, split_agrees};
 pub use frame::{again, frame};
 pub use oracle::{as_the_oracle, refused_or_as_the_oracle};
-pub use pairs::{pairs_agree, pairs_stay};
+pub use pairs::{pairs_agree, pairs_stay, MOST_TABLES};
 
 use crate::{
     model::{answers, table::PairPos},

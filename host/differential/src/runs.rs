@@ -3,15 +3,13 @@
 use crate::{
     check::{
         again, all_agree, as_the_oracle, frame, pairs_agree, pairs_stay, refused_or_as_the_oracle,
+        MOST_TABLES,
     },
     check::{Outcome, Split},
     damage::{self, Damage},
     generate::Case,
     lend, Call, Random, Subject, Tally,
 };
-
-/// Tables of more pieces than this are not read pair by pair.
-const MOST_PIECES: usize = 64;
 
 /// How often a store is damaged in one way, and how often at random.
 const DAMAGES: usize = 4;
@@ -29,11 +27,10 @@ pub fn whole(subject: &impl Subject, case: &Case, seed: u64, tally: &mut Tally) 
     as_the_oracle(&split, tally)?;
     frame(&split)?;
     again(subject, &split)?;
-    if split.tables().len() <= MOST_PIECES {
+    if split.tables().len() <= MOST_TABLES {
         pairs_stay(&split, &mut random, tally)?;
-        pairs_agree(subject, &split, &mut random, tally)?;
     }
-    Ok(())
+    pairs_agree(subject, &split, &mut random, tally)
 }
 
 /// Damaged copies of a store's call: they are refused as by the model, and nothing changes.

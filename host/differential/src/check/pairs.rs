@@ -28,7 +28,7 @@ pub fn pairs_stay(split: &Split, random: &mut Random, tally: &mut Tally) -> Outc
     Ok(())
 }
 
-/// A subject reads of each table, before and after a split, what the model reads of it.
+/// A subject reads of each table, before and after a split, what the model reads of it. Of very many tables some are read.
 pub fn pairs_agree(
     subject: &impl Subject,
     split: &Split,
@@ -55,9 +55,27 @@ pub fn pairs_agree(
         Ok(())
     };
     reads_agree(&before.store, before.table)?;
-    let mut tables = split.tables().into_iter();
-    tables.try_for_each(|table| reads_agree(&after.store, table))
+    let tables = some_tables(split.tables(), split.before.table);
+    tables
+        .into_iter()
+        .try_for_each(|table| reads_agree(&after.store, table))
 }
+
+/// All of a few tables; of many, the kept one and others from the first to the last.
+fn some_tables(tables: Vec<u32>, kept: u32) -> Vec<u32> {
+    if tables.len() <= MOST_TABLES {
+        return tables;
+    }
+    let step = tables.len() / SOME_TABLES;
+    let others = tables.into_iter().rev().step_by(step);
+    [kept].into_iter().chain(others).collect()
+}
+
+/// Of more tables than this, some are read by another subject.
+pub const MOST_TABLES: usize = 64;
+
+/// How many of them, about.
+const SOME_TABLES: usize = 15;
 
 /// How many pairs of a table are read by another subject.
 const PAIRS: usize = 24;
