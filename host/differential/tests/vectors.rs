@@ -1,10 +1,15 @@
-//! The stored answers, which the Rattle program `vectors` replays, are those that would be made now.
+//! The stored answers, which the Rattle program `vectors` replays.
 
+use differential::vectors::{self, Sample};
 use std::{fs, path::Path};
+
+fn sample() -> Sample {
+    vectors::sample().unwrap_or_else(|reason| panic!("{reason}"))
+}
 
 #[test]
 fn the_stored_answers_are_those_of_now() {
-    let sample = differential::vectors::sample().unwrap_or_else(|reason| panic!("{reason}"));
+    let sample = sample();
     let stored = Path::new(env!("CARGO_MANIFEST_DIR")).join("../../crates/vectors");
     for (name, text) in [("stdin", sample.input), ("stdout", sample.output)] {
         assert!(
@@ -12,4 +17,20 @@ fn the_stored_answers_are_those_of_now() {
             "crates/vectors/{name} is not what `cargo run --release -p differential --bin vectors` writes"
         );
     }
+}
+
+/// No cut up to many, each refusal, totals on both sides of the limit, products that wrap, devices.
+#[test]
+fn all_that_is_to_be_replayed_occurs() {
+    let sample = sample();
+    let tally = &sample.tally;
+    let [found, with_device] = sample.pairs_found;
+    assert!(sample.input.len() <= 200_000);
+    assert!(sample.kinds.iter().all(|&count| count > 0));
+    assert!(tally.cut_counts[..5].iter().all(|&count| count > 0));
+    assert!(tally.at_limit.iter().all(|&count| count > 1));
+    assert!(tally.cuts_at_0 > 1);
+    assert!(tally.products[0] > 0);
+    assert_eq!(tally.products[1], 0);
+    assert!(found > 100 && with_device > 20);
 }
