@@ -1,7 +1,7 @@
 //! A plain model of the splitter's rules, and the runs that hold it and the proved functions against
 //! the oracle.
 //!
-//! The rules are written here a second time, in plain Rust and from the paper alone: clear before
+//! The rules are written here a second time, in plain Rust and from document 01 alone: clear before
 //! fast. Whatever splits a store is a [`Subject`]; the [`Model`] is one, and the [`Archive`] is
 //! another. Two subjects agree if a call leaves the same answer and the same contents, to the last
 //! number.
@@ -9,6 +9,7 @@
 //! | module | holds |
 //! |---|---|
 //! | [`model`] | the rules: soundness, answers, cut places, what is written, pairs |
+//! | [`by_hand`] | small stores for figures |
 //! | [`generate`] | valid stores of both formats, each from its seed |
 //! | [`lend`] | scratch and room for a call, exact or ample |
 //! | [`damage`] | damaged calls, one for each edge of each refusal |
@@ -31,6 +32,7 @@
 #![deny(missing_docs)]
 
 mod archive;
+pub mod by_hand;
 pub mod check;
 pub mod compare;
 pub mod damage;

@@ -1,6 +1,7 @@
 //! The figures W1 to W12, through the archive and the model.
 
 use differential::{
+    by_hand::{format1_slots, format2},
     check::all_agree,
     lend,
     model::{class_def, coverage, numbers::bytes, values::ValueFormat},
@@ -13,20 +14,9 @@ const TABLE: u32 = 0;
 /// The glyphs of W3.
 const THREE: [u16; 3] = [10, 20, 30];
 
-/// A format 1 table, object 0, of this many empty slots. Its coverage is object 1.
-fn format1_slots(glyphs: &[u16], slots: u16) -> Store {
-    let mut store = Store::default();
-    let mut table = bytes([1, 0, 4, 0, slots]);
-    table.resize(10 + 2 * slots as usize, 0);
-    store.push_object(&table);
-    let coverage = store.push_object(&coverage::write(glyphs));
-    store.push_link(0, 2, coverage);
-    store
-}
-
 /// The same with a pair set of each length, from object 2 on.
 fn format1(glyphs: &[u16], lengths: &[usize]) -> Store {
-    let mut store = format1_slots(glyphs, lengths.len() as u16);
+    let mut store = format1_slots(glyphs, lengths.len());
     for (i, &length) in lengths.iter().enumerate() {
         let set = store.push_object(&vec![0; length]);
         store.push_link(0, 10 + 2 * i as u32, set);
@@ -119,24 +109,6 @@ fn w11_a_set_in_two_slots_counts_once() {
     store.push_link(0, 10, set);
     store.push_link(0, 12, set);
     assert_eq!(cuts(&store), []);
-}
-
-/// A format 2 table, object 0, of zeros. Coverage and class definitions are objects 1 to 3.
-fn format2(formats: [u16; 2], shape: [u16; 2], classes: &[(u16, u16)], class_def2: &[u8]) -> Store {
-    let [rows, columns] = shape;
-    let fields: usize = formats.iter().map(|&f| ValueFormat(f).field_count()).sum();
-    let mut table = bytes([2, 0, formats[0], formats[1], 0, 0, rows, columns]);
-    table.resize(16 + 2 * fields * rows as usize * columns as usize, 0);
-    let glyphs: Vec<u16> = classes.iter().map(|entry| entry.0).collect();
-    let mut store = Store::default();
-    store.push_object(&table);
-    store.push_object(&coverage::write(&glyphs));
-    store.push_object(&class_def::write(classes));
-    store.push_object(class_def2);
-    for (position, part) in [(2, 1), (8, 2), (10, 3)] {
-        store.push_link(0, position, part);
-    }
-    store
 }
 
 #[test]

@@ -1,9 +1,10 @@
-//! Stores made by hand: the paper's figures, limits, and shapes that seldom come by chance.
+//! Stores made by hand: document 01's figures, limits, and shapes that seldom come by chance.
 
 use super::{super::plain, Case};
 use crate::{
+    by_hand::{format1_slots, format2},
     edit, lend,
-    model::{answers, class_def, coverage, cuts::weigh, numbers::bytes, values::ValueFormat},
+    model::{answers, cuts::weigh, numbers::bytes},
     Call, Random,
 };
 use oracle::Store;
@@ -94,17 +95,6 @@ fn format1(glyphs: &[u16], lengths: &[usize]) -> Store {
     store
 }
 
-/// Format 1 with empty slots. Coverage is object 1.
-fn format1_slots(glyphs: &[u16], slots: usize) -> Store {
-    let mut store = Store::default();
-    let mut table = bytes([1, 0, 4, 0, slots as u16]);
-    table.resize(10 + 2 * slots, 0);
-    store.push_object(&table);
-    let coverage = store.push_object(&coverage::write(glyphs));
-    store.push_link(TABLE, 2, coverage);
-    store
-}
-
 /// Two records: of glyph 5, and of glyph 7 with a value below 0.
 fn pair_set(length: usize, i: usize) -> Vec<u8> {
     let mut set = bytes([2, 5, 1 + i as u16, 7, u16::MAX - i as u16]);
@@ -150,24 +140,6 @@ fn loops() -> Store {
     store.push_link(first, 0, second);
     store.push_link(second, 1, first);
     store.push_link(outside, 2, TABLE);
-    store
-}
-
-/// A format 2 table of zeros. Coverage and class definitions are objects 1 to 3.
-fn format2(formats: [u16; 2], shape: [u16; 2], classes: &[(u16, u16)], class_def2: &[u8]) -> Store {
-    let [rows, columns] = shape;
-    let fields: usize = formats.iter().map(|&f| ValueFormat(f).field_count()).sum();
-    let mut table = bytes([2, 0, formats[0], formats[1], 0, 0, rows, columns]);
-    table.resize(16 + 2 * fields * rows as usize * columns as usize, 0);
-    let glyphs: Vec<u16> = classes.iter().map(|entry| entry.0).collect();
-    let mut store = Store::default();
-    store.push_object(&table);
-    store.push_object(&coverage::write(&glyphs));
-    store.push_object(&class_def::write(classes));
-    store.push_object(class_def2);
-    for (position, part) in [(2, 1), (8, 2), (10, 3)] {
-        store.push_link(TABLE, position, part);
-    }
     store
 }
 
