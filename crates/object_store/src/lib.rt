@@ -226,27 +226,6 @@ pub fn first_row(links: &[u32], count: usize, parent: u32, position: u32) -> usi
     lo
 }
 
-// The same, with a look at row `near` before the halving: the rows of objects that were made one after another follow one another.
-pub fn row_near(links: &[u32], count: usize, near: usize, parent: u32, position: u32) -> usize
-    requires { ⌜ InOrder (now links) count × (near ≤ count) ⌝ }
-    ensures { λ r. ⌜ FirstRow (now (links .entry)) count (keyOf parent position) r ⌝ }
-{
-    let key = key_of(parent, position);
-    if near == 0 {
-        return first_row(links, count, parent, position);
-    }
-    if key <= key_at(links, near - 1) {
-        return first_row(links, count, parent, position);
-    }
-    if near == count {
-        return near;
-    }
-    if key_at(links, near) < key {
-        return first_row(links, count, parent, position);
-    }
-    near
-}
-
 // The same, row by row from `start` on, before which every row stands before that position of that parent.
 pub fn next_row(links: &[u32], count: usize, start: usize, parent: u32, position: u32) -> usize
     requires { ⌜ InOrder (now links) count × (start ≤ count) × ((k : ℕ) → k < start → rowKey (now links) k < keyOf parent position) ⌝ }

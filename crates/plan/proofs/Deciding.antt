@@ -5,16 +5,16 @@ use mathlib.Core.Bool.{Bool, true, false}
 use mathlib.Core.List.{List}
 use mathlib.Core.Option.{some}
 use native.Mathlib.Omega.{arith}
-use lib.ListN.{length, getD, replicate}
+use lib.ListN.{getD}
 use Rattle.rules.specs.declared.Answer.{Answer}
 use Rattle.rules.specs.declared.Answer.the-variants.{BadLinks}
 use Rattle.rules.specs.Store.{Store, lent}
 use Rattle.rules.specs.Walk.{onCycle}
 use Rattle.rules.specs.Answers.{Scratch, number, firstCase, cutCases}
 use Rattle.rules.proofs.Sound.{Fits, sound-fits}
-use Rattle.walk.specs.Marks.{noRow, Marks, Ready}
+use Rattle.walk.specs.Marks.{noRow, Marks, Blank, Prepared, Ready}
 use Rattle.walk.specs.Marks as Walk
-use Rattle.walk.proofs.Marks.{marks-zeros, marks-next}
+use Rattle.walk.proofs.Marks.{marks-next}
 use Rattle.walk.proofs.Cycles.{marks-looked}
 use Rattle.checks.specs.declared.PairTable.{PairTable}
 use Rattle.checks.specs.declared.Checked.{Checked}
@@ -46,12 +46,15 @@ module _ (b o l c : List ℕ) (t : ℕ) (w : Scratch) (p : PairTable) (e : calle
   last : {cycle : Bool} → cycle ≡ onCycle (lent b o l c) t → firstCase (cutCases (lent b o l c) t w) ≡ lookedLast (Checked.Open p) cycle
   last h = called (lent b o l c) t w ∙ ap₂ lookedLast e (sym h)
 
-  module _ {z : List ℕ} (q : z ≡ replicate (length (w .walk)) 0) where
-    zeros : Marks (lent b o l c) noRow 1 z
-    zeros = marks-zeros fits (length (w .walk)) (λ k h. refl) q (pass .walk) (omega arith)
+  pub can-prepare : Blank l c (w .walk)
+  can-prepare = record { bytes = b; objects = o; is-sound = pass .opens .reads .sounds; room = pass .walk }
+
+  module _ {z : List ℕ} (q : Prepared l c z) where
+    first : Marks (lent b o l c) noRow 1 z
+    first = q b o (pass .opens .reads .sounds)
 
     pub can-look : (t < getD c 1 0) × Ready o l c noRow 1 z
-    can-look = (pass .opens .reads .used, record { bytes = b; is-sound = pass .opens .reads .sounds; marks = zeros })
+    can-look = (pass .opens .reads .used, record { bytes = b; is-sound = pass .opens .reads .sounds; marks = first; early = omega arith })
 
     module _ {z′ : List ℕ} {cycle : Bool} (d : Walk.Looked (lent b o l c) t 1 z z′ cycle) where
       pub decided-cycle : {gs ks cuts : List ℕ} → cycle ≡ true → Decided (lent b o l c) t w (Refused BadLinks) gs ks cuts
@@ -60,7 +63,7 @@ module _ (b o l c : List ℕ) (t : ℕ) (w : Scratch) (p : PairTable) (e : calle
       pub can-cut : Looked (lent b o l c) t p z′ (w .set) (w .glyphs) (w .classes) (w .cuts)
       can-cut =
           record {
-            walked = record { opens = pass .opens; slots = pass .slots; marks = marks-next fits (marks-looked fits zeros d) (λ k h. refl); room = pass .cuts };
+            walked = record { opens = pass .opens; slots = pass .slots; marks = marks-next fits (marks-looked fits first d) (λ k h. refl); room = pass .cuts };
             long = pass .set;
             glyphs = pass .glyphs;
             classes = pass .classes;

@@ -2,7 +2,6 @@
 pub mod cutting;
 pub mod scratch;
 
-use buffers::clear_u32;
 use checks::Checked;
 use checks::PairTable;
 use checks::check_table;
@@ -14,6 +13,7 @@ use scratch::Lengths;
 use scratch::clear_scratch;
 use scratch::is_short;
 use walk::on_cycle;
+use walk::prepare;
 ghost use mathlib.Core.Path.{_≡_};
 ghost use mathlib.Core.List.{List};
 ghost use Prim.Native.Nat.{ℕ, _≤_};
@@ -93,7 +93,7 @@ fn decide_cuts(
     requires { ⌜ calledOf (lent (now «data») (now objects) (now links) (now counts)) table (lengthsOf (scratchOf (now walk) (now «glyph_set») (now glyphs) (now classes) (now cuts))) ≡ Checked.Open opened ⌝ }
     ensures { λ r. ⌜ Decided (lent (now («data» .entry)) (now (objects .entry)) (now (links .entry)) (now (counts .entry))) table (scratchOf (now (walk .entry)) (now («glyph_set» .entry)) (now (glyphs .entry)) (now (classes .entry)) (now (cuts .entry))) r (now (glyphs .exit)) (now (classes .exit)) (now (cuts .exit)) ⌝ }
 {
-    clear_u32(walk);
+    prepare(links, counts, walk);
     if on_cycle(objects, links, counts, table, 1, walk) {
         return Decision::Refused(Answer::BadLinks);
     }

@@ -19,7 +19,7 @@ use Rattle.split_points.specs.Filled.{Described, Unseen}
 use Rattle.split_points.specs.Classes.{Ordered}
 
 -- the checks up to 5
-pub described : {s : Store} {x : TableInfo} → Reads s (x .table) → x .header ≡ shape s (x .table) .header → x .item ≡ shape s (x .table) .item → x .count ≡ shape s (x .table) .count → x .epoch + x .count < 4294967296 → Described s x
+pub described : {s : Store} {x : TableInfo} → Reads s (x .table) → x .header ≡ shape s (x .table) .header → x .item ≡ shape s (x .table) .item → x .count ≡ shape s (x .table) .count → x .epoch + x .count < 2147483648 → Described s x
 described r h i n e = record { is-sound = r .sounds; used = r .used; exactly = r .exactly; header = h; item = i; count = n; epochs = e }
 
 -- the look for a way from the table back to it, in the epoch before

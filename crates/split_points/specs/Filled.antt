@@ -24,7 +24,7 @@ pub record Described (s : Store) (x : TableInfo) : Type 0 where
   pub item : x .item ≡ shape s (x .table) .item
   pub count : x .count ≡ shape s (x .table) .count
   -- an epoch for each table that may come
-  pub epochs : x .epoch + x .count < 4294967296
+  pub epochs : x .epoch + x .count < 2147483648
 
 -- before the first item: nothing counts as seen, and there is an entry for each cut
 pub record Unseen (s : Store) (x : TableInfo) (w l : List ℕ) : Type 0 where

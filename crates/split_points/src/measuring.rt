@@ -4,7 +4,7 @@ use object_store::next_row;
 use walk::subgraph_size;
 ghost use mathlib.Core.Path.{_≡_};
 ghost use mathlib.Core.List.{List};
-ghost use Prim.Native.Nat.{ℕ, _+_};
+ghost use Prim.Native.Nat.{ℕ, _+_, _<_};
 ghost use Rattle.opentype.specs.PairPos.{Shape, itemAt};
 ghost use Rattle.rules.specs.Store.{lent};
 ghost use Rattle.split_points.specs.Measuring.{At, MeasuresItem};
@@ -26,6 +26,7 @@ pub fn measure(
     epoch: u32,
     walk: &mut [u32],
 ) -> Measured
+    requires { ⌜ epoch < 2147483648 ⌝ }
     requires { ⌜ ((b : List ℕ) × (sh : Shape) × (a : ℕ) × (i : ℕ) × (end ≡ itemAt sh (i + 1)) × At (lent b (now objects) (now links) (now counts)) table sh a i row epoch (now walk)) ⌝ }
     ensures { λ m. ⌜ MeasuresItem (now (objects .entry)) (now (links .entry)) (now (counts .entry)) table row end epoch (now (walk .entry)) m (now (walk .exit)) ⌝ }
 {

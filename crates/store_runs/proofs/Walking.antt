@@ -1,16 +1,16 @@
--- A sound store and a scratch of zeros can be walked, once and again. Assumes nothing.
+-- A sound store can be walked, once and again. Assumes nothing.
 use Prim.Native.Nat.{ℕ, _*_, _≤_}
-use mathlib.Core.Path.{_≡_, refl, sym, ap, _∙_}
+use mathlib.Core.Path.{_≡_, refl, sym, _∙_}
 use mathlib.Core.Bool.{Bool, true, false, not}
 use mathlib.Core.List.{List}
 use native.Mathlib.Omega.{arith}
-use lib.ListN.{length, getD, replicate, length-replicate}
+use lib.ListN.{length, getD}
 use Rattle.object_store.specs.Rows.{InOrder}
 use Rattle.object_store.proofs.Rows.{in-order}
 use Rattle.rules.specs.Store.{lent, sound}
 use Rattle.rules.proofs.Sound.{Fits, sound-fits}
-use Rattle.walk.specs.Marks.{noRow, Marks, Ready, Looked}
-use Rattle.walk.proofs.Marks.{marks-zeros, marks-next}
+use Rattle.walk.specs.Marks.{noRow, Marks, Blank, Prepared, Ready, Looked}
+use Rattle.walk.proofs.Marks.{marks-next}
 use Rattle.walk.proofs.Cycles.{marks-looked}
 use Rattle.store_runs.specs.Looks.{Looks}
 
@@ -24,14 +24,18 @@ module _ {o l c w : List ℕ} (p : Looks o l c w) where
   pub rows-sorted : InOrder l (getD c 2 0)
   rows-sorted = in-order (lent (p .bytes) o l c) fits
 
-  zeros : Marks (lent (p .bytes) o l c) noRow 1 w
-  zeros = marks-zeros fits (length w) (λ k h. refl) (p .zero) (p .room) (omega arith)
+  pub blank : Blank l c w
+  blank = record { bytes = p .bytes; objects = o; is-sound = p .is-sound; room = p .room }
 
-  pub first-ready : Ready o l c noRow 1 w
-  first-ready = record { bytes = p .bytes; is-sound = p .is-sound; marks = zeros }
+  module _ {z : List ℕ} (q : Prepared l c z) where
+    first : Marks (lent (p .bytes) o l c) noRow 1 z
+    first = q (p .bytes) o (p .is-sound)
 
-  pub then-ready : {w′ : List ℕ} {r : Bool} → Looked (lent (p .bytes) o l c) 0 1 w w′ r → Ready o l c noRow 2 w′
-  then-ready d = record { bytes = p .bytes; is-sound = p .is-sound; marks = marks-next fits (marks-looked fits zeros d) (λ k h. refl) }
+    pub first-ready : Ready o l c noRow 1 z
+    first-ready = record { bytes = p .bytes; is-sound = p .is-sound; marks = first; early = omega arith }
+
+    pub then-ready : {z′ : List ℕ} {r : Bool} → Looked (lent (p .bytes) o l c) 0 1 z z′ r → Ready o l c noRow 2 z′
+    then-ready d = record { bytes = p .bytes; is-sound = p .is-sound; marks = marks-next fits (marks-looked fits first d) (λ k h. refl); early = omega arith }
 
 is-true : (b : Bool) → not b ≡ false → b ≡ true
 is-true true h = refl
@@ -45,12 +49,5 @@ module _ (b o l c : List ℕ) {t : Bool} (e : t ≡ sound (lent b o l c)) (h : n
   pub objects-few : getD c 1 0 ≤ 65536
   objects-few = sound-fits (lent b o l c) tested .objectsMost
 
-  pub can-look : (w : List ℕ) (n : ℕ) → w ≡ replicate n 0 → (getD c 1 0 ≡ 0 → ⊥) → 2 * getD c 1 0 ≤ length w → Looks o l c w
-  can-look w n q some room =
-      record {
-        bytes = b;
-        is-sound = tested;
-        some = omega arith;
-        room = room;
-        zero = q ∙ ap (λ (m : ℕ). replicate m 0) (sym (ap length q ∙ length-replicate n 0));
-      }
+  pub can-look : (w : List ℕ) → (getD c 1 0 ≡ 0 → ⊥) → 2 * getD c 1 0 ≤ length w → Looks o l c w
+  can-look w some room = record { bytes = b; is-sound = tested; some = omega arith; room = room }

@@ -1,9 +1,9 @@
 // Stores at their maxima, looked at whole: 65,536 objects in one chain, 262,144 links, and a way back to the first object or none.
-use buffers::clear_u32;
 use libc::STDOUT_FILENO;
 use object_store::first_row;
 use object_store::is_sound;
 use walk::on_cycle;
+use walk::prepare;
 use walk::subgraph_size;
 ghost use Rattle.store_runs.specs.Looks.{Looks};
 
@@ -83,7 +83,6 @@ fn look_at_first(
     counts: &[u32; 3],
     walk: &mut [u32],
 ) -> Report {
-    clear_u32(walk);
     if !is_sound(data, objects, links, counts) {
         return nothing();
     }
@@ -120,6 +119,7 @@ fn print(what: &[u8], r: Report) {
 fn walk_from_first(objects: &[u32], links: &[u32], counts: &[u32; 3], walk: &mut [u32]) -> Report
     requires { ⌜ Looks (now objects) (now links) (now counts) (now walk) ⌝ }
 {
+    prepare(links, counts, walk);
     let cycle = on_cycle(objects, links, counts, 0, 1, walk);
     let count = counts[2] as usize;
     let first = first_row(links, count, 0, 0);

@@ -7,7 +7,7 @@ use mathlib.Core.Path.{_≡_, refl, sym, ap, subst, _∙_}
 use native.Mathlib.Nat.{not-suc-le-zero, le-of-suc-le-suc, eq-or-lt-of-le}
 use native.Mathlib.Omega.{arith}
 use lib.Dec.{leb, ltb, eqb}
-use lib.ListN.{length, getD, set, replicate, length-set, length-replicate, getD-replicate}
+use lib.ListN.{length, getD, set, length-set}
 use lib.Seq.{getD-set-same, getD-set-other, ext-getD}
 use borrow.Author.Tests.{leb-true, ltb-true, eqb-true, eq-eqb, ne-eqb}
 use Rattle.folds.proofs.Tests.{and-both, cond-has, by-test, true-false, either}
@@ -18,7 +18,8 @@ use Rattle.rules.specs.Walk.{marked, reached, reachSize}
 use Rattle.rules.proofs.Reached.{Reach, reached-only, reached-all}
 use Rattle.rules.proofs.Reaching.{reach-all, reach-more, reached-bytes, reached-more, reached-same, reached-none, size-bytes}
 use Rattle.rules.proofs.Sound.{Fits, sizes-most}
-use Rattle.walk.specs.Marks.{between, alsoBetween, Marks, stamp, Walked}
+use Rattle.object_store.specs.Rows.{keyOf, FirstRow}
+use Rattle.walk.specs.Marks.{between, noRow, alsoBetween, Marks, stamp, Walked}
 use Rattle.walk.proofs.Turns.{graph, rowParent, rowChild, sizeAt, Has, has, Spread}
 
 -- ---- the scratch with some marks more
@@ -127,7 +128,7 @@ module _ {s : Store} {from : ℕ → Bool} {lo hi e : ℕ} {w w′ : List ℕ} {
 -- the bytes are of no matter
 module _ (b b′ o l c : List ℕ) {from : ℕ → Bool} {e : ℕ} {w : List ℕ} where
   pub marks-bytes : Marks (lent b o l c) from e w → Marks (lent b′ o l c) from e w
-  marks-bytes v = record { room = v .room; seen = λ i h. v .seen i h ∙ ap (λ (r : List ℕ). marked r i) (reached-bytes b b′ o l c from); latest = v .latest; queue = v .queue }
+  marks-bytes v = record { room = v .room; seen = λ i h. v .seen i h ∙ ap (λ (r : List ℕ). marked r i) (reached-bytes b b′ o l c from); latest = v .latest; ends = v .ends }
 
   pub walked-bytes : {lo hi : ℕ} {w′ : List ℕ} {total : ℕ} → Walked (lent b o l c) from lo hi e w w′ total → Walked (lent b′ o l c) from lo hi e w w′ total
   walked-bytes {lo} {hi} d = record {
@@ -138,25 +139,19 @@ module _ (b b′ o l c : List ℕ) {from : ℕ → Bool} {e : ℕ} {w : List ℕ
 
 module _ {s : Store} {e : ℕ} {w : List ℕ} (f : Fits s) where
   -- an epoch later than every mark: nothing is seen
-  pub marks-fresh : {from : ℕ → Bool} → ((k : ℕ) → k < s .linkCount → from k ≡ false) → 2 * s .objectCount ≤ length w → ((i : ℕ) → i < s .objectCount → getD w i 0 < e)
-      → ((j : ℕ) → s .objectCount ≤ j → j < 2 * s .objectCount → getD w j 0 ≡ 0) → Marks s from e w
-  marks-fresh {from} none room early queue = record {
+  pub marks-fresh : 2 * s .objectCount ≤ length w → ((i : ℕ) → i < s .objectCount → getD w i 0 < e)
+      → ((i : ℕ) → i < s .objectCount → FirstRow (s .links) (s .linkCount) (keyOf (i + 1) 0) (getD w (s .objectCount + i) 0)) → Marks s noRow e w
+  marks-fresh room early ends = record {
     room = room;
-    seen = λ i h. ne-eqb (getD w i 0) e (λ q. omega (arith, early i h)) ∙ sym (reached-none s f from none i h);
+    seen = λ i h. ne-eqb (getD w i 0) e (λ q. omega (arith, early i h)) ∙ sym (reached-none s f noRow (λ k l. refl) i h);
     latest = λ i h. omega (arith, early i h);
-    queue = queue;
+    ends = ends;
   }
-
-  -- a scratch of zeros, before the first epoch
-  pub marks-zeros : {from : ℕ → Bool} (n : ℕ) → ((k : ℕ) → k < s .linkCount → from k ≡ false) → w ≡ replicate n 0 → 2 * s .objectCount ≤ n → 0 < e → Marks s from e w
-  marks-zeros n none q room first =
-      let zero-at : (i : ℕ) → i < n → getD w i 0 ≡ 0 = λ i h. ap (λ (x : List ℕ). getD x i 0) q ∙ getD-replicate {A = ℕ} n i 0 0 h in
-      marks-fresh none (omega (arith, ap length q, length-replicate {A = ℕ} n 0)) (λ i h. omega (arith, zero-at i (omega arith))) (λ j g h. zero-at j (omega arith))
 
   module _ {from : ℕ → Bool} (v : Marks s from e w) where
     -- the same rows under another name
     pub marks-same : {same : ℕ → Bool} → ((k : ℕ) → k < s .linkCount → from k ≡ same k) → Marks s same e w
-    marks-same {same} h = record { room = v .room; seen = λ i l. v .seen i l ∙ reached-same s f from same h i l; latest = v .latest; queue = v .queue }
+    marks-same {same} h = record { room = v .room; seen = λ i l. v .seen i l ∙ reached-same s f from same h i l; latest = v .latest; ends = v .ends }
 
     -- the next epoch: nothing is seen
     pub marks-next : {none : ℕ → Bool} → ((k : ℕ) → k < s .linkCount → none k ≡ false) → Marks s none (e + 1) w
@@ -164,7 +159,7 @@ module _ {s : Store} {e : ℕ} {w : List ℕ} (f : Fits s) where
       room = v .room;
       seen = λ i l. ne-eqb (getD w i 0) (e + 1) (λ q. omega (arith, v .latest i l)) ∙ sym (reached-none s f _ h i l);
       latest = λ i l. omega (arith, v .latest i l);
-      queue = v .queue;
+      ends = v .ends;
     }
 
     -- more rows walked
@@ -173,7 +168,7 @@ module _ {s : Store} {e : ℕ} {w : List ℕ} (f : Fits s) where
       room = omega (arith, v .room, length-stamp e r w (s .objectCount));
       seen = λ i l. ap (λ (x : ℕ). eqb x e) (at i l) ∙ now i l;
       latest = λ i l. rw (at i l) (cond-has (λ (x : ℕ). x ≤ e) (marked r i) e (getD w i 0) (omega arith) (v .latest i l));
-      queue = λ j l m. stamp-above e r w (s .objectCount) j l ∙ v .queue j l m;
+      ends = λ i l. rw (stamp-above e r w (s .objectCount) (s .objectCount + i) (omega arith)) (v .ends i l);
     }
       where
         r : List ℕ

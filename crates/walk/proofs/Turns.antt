@@ -1,19 +1,19 @@
 -- What holds at each turn of a walk, and what it leaves, on plain lists and numbers. Assumes nothing.
-use Prim.Native.Nat.{ℕ, suc, _+_, _-_, _*_, _≤_, _<_}
-use mathlib.Core.Bool.{Bool}
-use mathlib.Core.List.{List, []}
+use Prim.Native.Nat.{ℕ, zero, suc, _+_, _-_, _*_, _≤_, _<_}
+use mathlib.Core.Bool.{Bool, not}
+use mathlib.Core.List.{List, [], _∷_}
 use mathlib.Core.Logic.{_⊎_, inl, inr, ⊎-elim}
-use mathlib.Core.Path.{_≡_, refl, sym, _∙_}
+use mathlib.Core.Path.{_≡_, refl, sym, ap, subst, _∙_}
 use native.Mathlib.Decide.{ℕ-discrete}
 use native.Mathlib.Nat.{suc-mul, eq-or-lt-of-le}
 use native.Mathlib.Omega.{arith}
 use lib.Dec.{leb, ltb, eqb}
 use lib.ListN.{length, getD, set, length-set}
 use lib.Seq.{getD-set-same, getD-set-other}
-use borrow.Author.Tests.{le-leb, lt-ltb, eq-eqb, ne-eqb}
+use borrow.Author.Tests.{le-leb, lt-leb, lt-ltb, eq-eqb, ne-eqb}
 use Rattle.folds.specs.Folds.{sum}
 use Rattle.folds.proofs.Tests.{and-intro, either}
-use Rattle.folds.proofs.Tally.{tally, count, tally-same, tally-one, tally-le, count-le}
+use Rattle.folds.proofs.Tally.{tally, count, tally-same, tally-one, tally-le}
 use Rattle.rules.specs.Store.{Store, perLink}
 use Rattle.rules.proofs.Reached.{Reach}
 use Rattle.rules.proofs.Sound.{Fits}
@@ -46,13 +46,26 @@ has e w i = eqb (getD w i 0) e
 abbrev Ahead : ℕ → ℕ → ℕ → Type 0
 Ahead row stop k = (row ≤ k) × (k < stop)
 
--- object i stands in the queue
-abbrev Queued : List ℕ → ℕ → ℕ → ℕ → ℕ → Type 0
-Queued w n head tail i = (j : ℕ) × (head ≤ j) × (j < tail) × (getD w (n + j) 0 ≡ i)
+-- object i has been found: it has the mark e, or stands in the stack, with a number above it
+abbrev pub Found : ℕ → List ℕ → ℕ → Type 0
+Found e w i = e ≤ getD w i 0
 
--- the scratch once object c has the mark e and stands at slot i
-abbrev pub enter : List ℕ → ℕ → ℕ → ℕ → List ℕ
-enter w c e i = set (set w c e) i c
+abbrev pub found : ℕ → List ℕ → ℕ → Bool
+found e w i = leb e (getD w i 0)
+
+-- object i has not the mark e: its rows are still to come, if they come at all
+abbrev pub unread : ℕ → List ℕ → ℕ → Bool
+unread e w i = not (eqb (getD w i 0) e)
+
+-- i is one of the list
+unfoldable pub In : ℕ → List ℕ → Type 0
+In i [] = ⊥
+In i (x ∷ xs) = (i ≡ x) ⊎ In i xs
+
+-- the stack below `top`: each object of the list, once, and in its place one more than the epoch and the `top` that it found
+unfoldable pub Stacked : ℕ → List ℕ → ℕ → List ℕ → Type 0
+Stacked e w top [] = top ≡ 0
+Stacked e w top (x ∷ xs) = (top ≡ x + 1) × (e < getD w x 0) × (In x xs → ⊥) × Stacked e w (getD w x 0 - e - 1) xs
 
 -- m link rows name objects below n, at positions of 32 bits
 pub record Used (l : List ℕ) (m n : ℕ) : Type 0 where
@@ -68,22 +81,22 @@ pub reach-used : {l : List ℕ} {m n i : ℕ} {from : ℕ → Bool} → Used l m
 reach-used u (Reach.seed k h a e) = rw e at (u .children k h)
 reach-used u (Reach.step r k h p e) = rw e at (u .children k h)
 
--- at each turn: marked are objects that had the mark or can be reached, each row from a marked object leads to a marked one or is still to come,
--- slots outside the queue are as they came, and the sum and the queue's end are the length and the number of what was marked
-pub record Inv (o l : List ℕ) (n m lo hi e : ℕ) (w₀ w : List ℕ) (total row stop head tail : ℕ) : Type 0 where
+-- at each turn: found are objects that had the mark or can be reached, each row from an object that has the mark leads to one that was found or
+-- is still to come, the rest of the scratch is as it came, and the sum is the length of what was found
+pub record Inv (o l : List ℕ) (n m lo hi e : ℕ) (w₀ w : List ℕ) (total row stop top : ℕ) : Type 0 where
   pub long : length w ≡ length w₀
   pub stop-le : stop ≤ m
-  pub head-le : head ≤ tail
-  pub tail-le : tail ≤ n
-  pub other : (i : ℕ) → i < n → (getD w i 0 ≡ getD w₀ i 0) ⊎ Has e w i
-  pub only : (i : ℕ) → i < n → Has e w i → Has e w₀ i ⊎ Reach (graph l m) (between lo hi) i
-  pub queued : (j : ℕ) → head ≤ j → j < tail → Reach (graph l m) (between lo hi) (getD w (n + j) 0)
+  pub stack : List ℕ
+  pub stacked : Stacked e w top stack
+  pub waiting : (i : ℕ) → i < n → e < getD w i 0 → In i stack
+  pub reaches : (i : ℕ) → In i stack → Reach (graph l m) (between lo hi) i
+  pub other : (i : ℕ) → i < n → (getD w i 0 ≡ getD w₀ i 0) ⊎ Found e w i
+  pub only : (i : ℕ) → i < n → Found e w i → Has e w₀ i ⊎ Reach (graph l m) (between lo hi) i
   pub current : (k : ℕ) → row ≤ k → k < stop → Reach (graph l m) (between lo hi) (rowChild l k)
-  pub seeds : (k : ℕ) → lo ≤ k → k < hi → Has e w (rowChild l k) ⊎ Ahead row stop k
-  pub pending : (k : ℕ) → k < m → Has e w (rowParent l k) → Has e w (rowChild l k) ⊎ (Ahead row stop k ⊎ Queued w n head tail (rowParent l k))
-  pub outside : (i : ℕ) → n ≤ i → (i < n + head) ⊎ (n + tail ≤ i) → getD w i 0 ≡ getD w₀ i 0
-  pub total-is : total + tally (sizeAt o) (has e w₀) n ≡ tally (sizeAt o) (has e w) n
-  pub count-is : tail + count (has e w₀) n ≡ count (has e w) n
+  pub seeds : (k : ℕ) → lo ≤ k → k < hi → Found e w (rowChild l k) ⊎ Ahead row stop k
+  pub pending : (k : ℕ) → k < m → Has e w (rowParent l k) → Found e w (rowChild l k) ⊎ Ahead row stop k
+  pub outside : (i : ℕ) → n ≤ i → getD w i 0 ≡ getD w₀ i 0
+  pub total-is : total + tally (sizeAt o) (found e w₀) n ≡ tally (sizeAt o) (found e w) n
 
 -- what a walk leaves
 pub record Spread (o l : List ℕ) (n m lo hi e : ℕ) (w₀ w : List ℕ) (total : ℕ) : Type 0 where
@@ -106,161 +119,254 @@ module _ {l : List ℕ} {m n x row stop : ℕ} (u : Used l m n) (f : FirstRow l 
       let b : stop ≤ k → ⊥ = λ z. omega (arith, g .above k z h, u .short k h) in
       omega arith
 
-module _ {o l : List ℕ} {n m lo hi e : ℕ} {w₀ : List ℕ} where
-  pub start : hi ≤ m → ((k : ℕ) → k < m → Has e w₀ (rowParent l k) → Has e w₀ (rowChild l k)) → Inv o l n m lo hi e w₀ w₀ 0 lo hi 0 0
+-- ---- the stack
+
+-- no object of a stack has a number at or below the epoch
+stack-high : (e : ℕ) (w : List ℕ) (top : ℕ) (xs : List ℕ) → Stacked e w top xs → (i : ℕ) → In i xs → e < getD w i 0
+unfolding In Stacked
+stack-high e w top [] s i h = absurd h
+stack-high e w top (x ∷ xs) (a, b, d, s) i h = ⊎-elim (λ q. rw q b) (stack-high e w (getD w x 0 - e - 1) xs s i) h
+
+-- a change elsewhere is none to the stack
+stack-other : (e : ℕ) (w : List ℕ) (c v top : ℕ) (xs : List ℕ) → (In c xs → ⊥) → Stacked e w top xs → Stacked e (set w c v) top xs
+unfolding In Stacked
+stack-other e w c v top [] out s = s
+stack-other e w c v top (x ∷ xs) out (a, b, d, s) =
+    let same : getD (set w c v) x 0 ≡ getD w x 0 = getD-set-other w c x v 0 (λ q. out (inl (sym q))) in
+    (a, rw same b, d, rw same (stack-other e w c v (getD w x 0 - e - 1) xs (λ h. out (inr h)) s))
+
+stack-push : (e : ℕ) (w : List ℕ) (c top : ℕ) (xs : List ℕ) → c < length w → getD w c 0 < e → Stacked e w top xs → Stacked e (set w c (e + 1 + top)) (c + 1) (c ∷ xs)
+unfolding In Stacked
+stack-push e w c top xs h low s =
+    let out : In c xs → ⊥ = λ i. omega (arith, stack-high e w top xs s c i) in
+    let here : getD (set w c (e + 1 + top)) c 0 ≡ e + 1 + top = getD-set-same w c (e + 1 + top) 0 h in
+    let next : top ≡ getD (set w c (e + 1 + top)) c 0 - e - 1 = omega arith in
+    (refl, omega arith, out, subst (λ (t : ℕ). Stacked e (set w c (e + 1 + top)) t xs) next (stack-other e w c (e + 1 + top) top xs out s))
+
+stack-empty : (e : ℕ) (w : List ℕ) (top : ℕ) (xs : List ℕ) → top ≡ 0 → Stacked e w top xs → (i : ℕ) → In i xs → ⊥
+unfolding In Stacked
+stack-empty e w top [] z s i h = h
+stack-empty e w top (x ∷ xs) z (a, b, d, s) i h = omega arith
+
+-- the stack's last object, and the stack without it
+record Popped (e : ℕ) (w : List ℕ) (top : ℕ) (xs : List ℕ) : Type 0 where
+  rest : List ℕ
+  high : e < getD w (top - 1) 0
+  is-in : In (top - 1) xs
+  below : Stacked e (set w (top - 1) e) (getD w (top - 1) 0 - e - 1) rest
+  others : (i : ℕ) → In i xs → (i ≡ top - 1) ⊎ In i rest
+  fewer : (i : ℕ) → In i rest → In i xs
+
+stack-pop : (e : ℕ) (w : List ℕ) (top : ℕ) (xs : List ℕ) → 0 < top → Stacked e w top xs → Popped e w top xs
+unfolding In Stacked
+stack-pop e w top [] h s = absurd (omega arith)
+stack-pop e w top (x ∷ xs) h (a, b, d, s) =
+    let q : x ≡ top - 1 = omega arith in
+    subst (λ (y : ℕ). Popped e w top (y ∷ xs)) (sym q) record { rest = xs; high = rw (← q) b; is-in = inl refl; below = rw (← q) (stack-other e w x e (getD w x 0 - e - 1) xs d s); others = λ i z. z; fewer = λ i z. inr z }
+
+-- ---- the turns
+
+module _ {o l : List ℕ} {n m lo hi e : ℕ} {w₀ : List ℕ} (latest : (i : ℕ) → i < n → getD w₀ i 0 ≤ e) where
+  pub start : hi ≤ m → ((k : ℕ) → k < m → Has e w₀ (rowParent l k) → Has e w₀ (rowChild l k)) → Inv o l n m lo hi e w₀ w₀ 0 lo hi 0
+  unfolding In Stacked
   start h closed = record {
     long = refl;
     stop-le = h;
-    head-le = omega arith;
-    tail-le = omega arith;
+    stack = [];
+    stacked = refl;
+    waiting = λ i a b. absurd (omega (arith, latest i a));
+    reaches = λ i z. absurd z;
     other = λ i _. inl refl;
-    only = λ i _ t. inl t;
-    queued = λ j a b. absurd (omega arith);
+    only = λ i a f. inl (omega (arith, latest i a));
     current = λ k a b. Reach.seed k (omega arith) (and-intro (leb lo k) (ltb k hi) (le-leb lo k a) (lt-ltb k hi b)) refl;
     seeds = λ k a b. inr (a, b);
-    pending = λ k a t. inl (closed k a t);
-    outside = λ i a b. refl;
+    pending = λ k a t. inl (omega (arith, closed k a t));
+    outside = λ i a. refl;
     total-is = omega arith;
-    count-is = omega arith;
   }
 
-  module _ {w : List ℕ} {total row stop head tail : ℕ} (v : Inv o l n m lo hi e w₀ w total row stop head tail) where
-    -- a row whose child has the mark
-    pub skip : Has e w (rowChild l row) → Inv o l n m lo hi e w₀ w total (row + 1) stop head tail
+  module _ {w : List ℕ} {total row stop top : ℕ} (v : Inv o l n m lo hi e w₀ w total row stop top) where
+    -- a row whose child was found
+    pub skip : Found e w (rowChild l row) → Inv o l n m lo hi e w₀ w total (row + 1) stop top
     skip t = record {
       long = v .long;
       stop-le = v .stop-le;
-      head-le = v .head-le;
-      tail-le = v .tail-le;
+      stack = v .stack;
+      stacked = v .stacked;
+      waiting = v .waiting;
+      reaches = v .reaches;
       other = v .other;
       only = v .only;
-      queued = v .queued;
       current = λ k a b. v .current k (omega arith) b;
       seeds = λ k a b. ⊎-elim inl (past k) (v .seeds k a b);
-      pending = λ k a p. ⊎-elim inl (⊎-elim (λ b. ⊎-elim inl (λ d. inr (inl d)) (past k b)) (λ q. inr (inr q))) (v .pending k a p);
+      pending = λ k a p. ⊎-elim inl (past k) (v .pending k a p);
       outside = v .outside;
       total-is = v .total-is;
-      count-is = v .count-is;
     }
       where
-        past : (k : ℕ) → Ahead row stop k → Has e w (rowChild l k) ⊎ Ahead (row + 1) stop k
+        past : (k : ℕ) → Ahead row stop k → Found e w (rowChild l k) ⊎ Ahead (row + 1) stop k
         past k a = ⊎-elim (λ q. inl (rw (← q) t)) (λ b. inr (omega arith)) (eq-or-lt-of-le (a .0))
 
-    -- an object that can be reached and has not the mark gets it, and goes into the queue
-    mark : {c : ℕ} → Used l m n → hi ≤ m → 2 * n ≤ length w₀ → c < n → Reach (graph l m) (between lo hi) c → (Has e w c → ⊥)
-        → Inv o l n m lo hi e w₀ (enter w c e (n + tail)) (total + sizeAt o c) row stop head (tail + 1)
-    mark {c} u him big c< rc ne = record {
-      long = simp length-set (v .long);
-      stop-le = v .stop-le;
-      head-le = omega (arith, v .head-le);
-      tail-le = room;
-      other = λ i a. ⊎-elim (λ q. inr (cc here)) (λ q. ⊎-elim (λ z. inl (q ∙ z)) (λ t. inr (q ∙ t)) (v .other i a)) (at i a);
-      only = λ i a t. ⊎-elim (λ q. inr (rw q rc)) (λ q. v .only i a (sym q ∙ t)) (at i a);
-      queued = λ j a b. ⊎-elim (λ q. let z : getD (enter w c e (n + tail)) (n + j) 0 ≡ c = cc last in rw z rc) (λ q. rw (slot j q) (v .queued j a q)) (below j b);
-      current = v .current;
-      seeds = λ k a b. ⊎-elim (λ t. inl (more (rowChild l k) (u .children k (omega arith)) t)) inr (v .seeds k a b);
-      pending = λ k a t. ⊎-elim (λ q. inr (inr (tail, v .head-le, omega arith, last ∙ sym q)))
-          (λ q. ⊎-elim (λ p. inl (more (rowChild l k) (u .children k a) p)) (λ r. inr (⊎-elim inl (λ p. inr (p .0, p .1, omega arith, slot (p .0) (p .2) ∙ p .3)) r)) (v .pending k a (sym q ∙ t)))
-          (at (rowParent l k) (u .parents k a));
-      outside = λ i a b. past i a (⊎-elim (λ z. λ q. omega (arith, v .head-le)) (λ z. λ q. omega arith) b) ∙ v .outside i a (⊎-elim inl (λ z. inr (omega arith)) b);
-      total-is = omega (arith, grown (sizeAt o), v .total-is);
-      count-is = omega (arith, grown (λ i. 1), v .count-is);
-    }
+    -- an object that can be reached and was not found goes onto the stack
+    module _ {c : ℕ} (u : Used l m n) (him : hi ≤ m) (big : 2 * n ≤ length w₀) (c< : c < n) (rc : Reach (graph l m) (between lo hi) c) (low : getD w c 0 < e) where
+      here : getD (set w c (e + 1 + top)) c 0 ≡ e + 1 + top
+      here = getD-set-same w c (e + 1 + top) 0 (omega (arith, v .long))
+
+      -- an object is c, or has the number that it had
+      at : (i : ℕ) → (i ≡ c) ⊎ (getD (set w c (e + 1 + top)) i 0 ≡ getD w i 0)
+      at i = elim (ℕ-discrete i c) [ yes q ↦ inl q | no d ↦ inr (getD-set-other w c i (e + 1 + top) 0 d) ]
+
+      more : (i : ℕ) → Found e w i → Found e (set w c (e + 1 + top)) i
+      more i t = ⊎-elim (λ q. rw q (omega (arith, here))) (λ q. omega arith) (at i)
+
+      mark : Inv o l n m lo hi e w₀ (set w c (e + 1 + top)) (total + sizeAt o c) row stop (c + 1)
+      unfolding In
+      mark = record {
+        long = simp length-set (v .long);
+        stop-le = v .stop-le;
+        stack = c ∷ v .stack;
+        stacked = stack-push e w c top (v .stack) (omega (arith, v .long)) low (v .stacked);
+        waiting = λ i a h. ⊎-elim inl (λ q. inr (v .waiting i a (omega arith))) (at i);
+        reaches = λ i. ⊎-elim (λ q. rw q rc) (v .reaches i);
+        other = λ i a. ⊎-elim (λ q. inr (rw q (omega (arith, here)))) (λ q. ⊎-elim (λ z. inl (q ∙ z)) (λ t. inr (more i t)) (v .other i a)) (at i);
+        only = λ i a t. ⊎-elim (λ q. inr (rw q rc)) (λ q. v .only i a (omega arith)) (at i);
+        current = v .current;
+        seeds = λ k a b. ⊎-elim (λ t. inl (more (rowChild l k) t)) inr (v .seeds k a b);
+        pending = λ k a t. ⊎-elim (λ q. absurd (omega (arith, here, ap (λ (i : ℕ). getD (set w c (e + 1 + top)) i 0) q))) (λ q. ⊎-elim (λ p. inl (more (rowChild l k) p)) inr (v .pending k a (sym q ∙ t))) (at (rowParent l k));
+        outside = λ i a. getD-set-other w c i (e + 1 + top) 0 (omega arith) ∙ v .outside i a;
+        total-is = omega (arith, grown, v .total-is);
+      }
+        where
+          same : (i : ℕ) → i < n → (i ≡ c → ⊥) → found e (set w c (e + 1 + top)) i ≡ found e w i
+          same i a d = ⊎-elim (λ q. absurd (d q)) (λ q. rw q) (at i)
+
+          grown : tally (sizeAt o) (found e (set w c (e + 1 + top))) n ≡ tally (sizeAt o) (found e w) n + sizeAt o c
+          grown =
+              tally-one (sizeAt o) (found e w) (found e (set w c (e + 1 + top))) c n c< (lt-leb e (getD w c 0) low)
+              (le-leb e (getD (set w c (e + 1 + top)) c 0) (omega (arith, here))) same
+
+      -- it has no mark yet, as before
+      mark-unread : count (unread e (set w c (e + 1 + top))) n ≡ count (unread e w) n
+      mark-unread =
+          tally-same (λ i. 1) (unread e (set w c (e + 1 + top))) (unread e w) n
+          (λ i a. ⊎-elim (λ q. rw q (ap not (ne-eqb (getD (set w c (e + 1 + top)) c 0) e (omega (arith, here)) ∙ sym (ne-eqb (getD w c 0) e (omega arith))))) (λ q. rw q) (at i))
+
+    -- the stack's last is an object
+    pub top-few : Used l m n → top ≤ n
+    top-few u = ⊎-elim (λ q. omega arith) (λ h. omega (arith, reach-used u (v .reaches (top - 1) (stack-pop e w top (v .stack) h (v .stacked) .is-in)))) (either-none top)
       where
-        here : getD (enter w c e (n + tail)) c 0 ≡ e
-        here = getD-set-other (set w c e) (n + tail) c c 0 (omega arith) ∙ getD-set-same w c e 0 (omega (arith, v .long))
+        either-none : (x : ℕ) → (x ≡ 0) ⊎ (0 < x)
+        either-none zero = inl refl
+        either-none (suc x) = inr (omega arith)
 
-        -- an object is c, or has the mark that it had
-        at : (i : ℕ) → i < n → (i ≡ c) ⊎ (getD (enter w c e (n + tail)) i 0 ≡ getD w i 0)
-        at i a = elim (ℕ-discrete i c) [ yes q ↦ inl q | no d ↦ inr (getD-set-other (set w c e) (n + tail) i c 0 (omega arith) ∙ getD-set-other w c i e 0 d) ]
+    -- a row whose child was not found
+    module _ (u : Used l m n) (him : hi ≤ m) (big : 2 * n ≤ length w₀) (h : row < stop) (low : getD w (rowChild l row) 0 < e) where
+      child< : rowChild l row < n
+      child< = u .children row (omega (arith, v .stop-le))
 
-        same : (i : ℕ) → i < n → (i ≡ c → ⊥) → has e (enter w c e (n + tail)) i ≡ has e w i
-        same i a d = ⊎-elim (λ q. absurd (d q)) (λ q. rw q) (at i a)
+      pub push-unread : count (unread e (set w (rowChild l row) (e + 1 + top))) n ≡ count (unread e w) n
+      push-unread = mark-unread u him big child< (v .current row (omega arith) h) low
 
-        grown : (f : ℕ → ℕ) → tally f (has e (enter w c e (n + tail))) n ≡ tally f (has e w) n + f c
-        grown f = tally-one f (has e w) (has e (enter w c e (n + tail))) c n c< (ne-eqb (getD w c 0) e ne) (eq-eqb (getD (enter w c e (n + tail)) c 0) e here) same
+    -- the last of the stack leaves it and gets the mark, and its rows are walked
+    module _ (u : Used l m n) (big : 2 * n ≤ length w₀) (some : 0 < top) where
+      p : Popped e w top (v .stack)
+      p = stack-pop e w top (v .stack) some (v .stacked)
 
-        room : tail + 1 ≤ n
-        room = omega (arith, v .count-is, grown (λ i. 1), count-le (has e (enter w c e (n + tail))) n)
+      pub top-reached : Reach (graph l m) (between lo hi) (top - 1)
+      top-reached = v .reaches (top - 1) (p .is-in)
 
-        more : (i : ℕ) → i < n → Has e w i → Has e (enter w c e (n + tail)) i
-        more i a t = ⊎-elim (λ q. cc here) (λ q. q ∙ t) (at i a)
+      pub top-used : top - 1 < n
+      top-used = reach-used u top-reached
 
-        last : getD (enter w c e (n + tail)) (n + tail) 0 ≡ c
-        last = getD-set-same (set w c e) (n + tail) c 0 (simp length-set (omega (arith, v .long, room)))
+      pub top-high : e < getD w (top - 1) 0
+      top-high = p .high
 
-        past : (i : ℕ) → n ≤ i → (i ≡ n + tail → ⊥) → getD (enter w c e (n + tail)) i 0 ≡ getD w i 0
-        past i a d = getD-set-other (set w c e) (n + tail) i c 0 d ∙ getD-set-other w c i e 0 (omega arith)
+      at-top : getD (set w (top - 1) e) (top - 1) 0 ≡ e
+      at-top = getD-set-same w (top - 1) e 0 (omega (arith, v .long, top-used))
 
-        slot : (j : ℕ) → j < tail → getD (enter w c e (n + tail)) (n + j) 0 ≡ getD w (n + j) 0
-        slot j a = past (n + j) (omega arith) (omega arith)
+      -- the ends of the rows are as they came
+      pub pop-ends : ((i : ℕ) → i < n → FirstRow l m (keyOf (i + 1) 0) (getD w₀ (n + i) 0)) → (i : ℕ) → i < n → FirstRow l m (keyOf (i + 1) 0) (getD (set w (top - 1) e) (n + i) 0)
+      pop-ends ends i h = subst (FirstRow l m (keyOf (i + 1) 0)) (sym (getD-set-other w (top - 1) (n + i) e 0 (omega (arith, top-used)) ∙ v .outside (n + i) (omega arith))) (ends i h)
 
-        below : (j : ℕ) → j < tail + 1 → (j ≡ tail) ⊎ (j < tail)
-        below j a = eq-or-lt-of-le (omega arith)
+      -- an object is the last, or has the number that it had
+      apart : (i : ℕ) → (i ≡ top - 1) ⊎ (getD (set w (top - 1) e) i 0 ≡ getD w i 0)
+      apart i = elim (ℕ-discrete i (top - 1)) [ yes q ↦ inl q | no d ↦ inr (getD-set-other w (top - 1) i e 0 d) ]
 
-    -- the queue's next object leaves it, its slot is 0 again, and its rows are walked
-    pub pop : {row′ stop′ : ℕ} → Used l m n → hi ≤ m → 2 * n ≤ length w₀ → ((j : ℕ) → n ≤ j → j < 2 * n → getD w₀ j 0 ≡ 0)
-        → head < tail → stop ≤ row → FirstRow l m (keyOf (getD w (n + head) 0) 0) row′ → FirstRow l m (keyOf (getD w (n + head) 0 + 1) 0) stop′
-        → Inv o l n m lo hi e w₀ (set w (n + head) 0) total row′ stop′ (head + 1) tail
-    pop {row′} {stop′} u him big clear h end f g = record {
-      long = simp length-set (v .long);
-      stop-le = g .within;
-      head-le = omega arith;
-      tail-le = v .tail-le;
-      other = λ i a. ⊎-elim (λ q. inl (kept i a ∙ q)) (λ q. inr (kept i a ∙ q)) (v .other i a);
-      only = λ i a t. v .only i a (sym (kept i a) ∙ t);
-      queued = λ j a b. rw (moved (n + j) (omega arith)) (v .queued j (omega arith) b);
-      current = λ k a b. let (c, p) = of-parent u f g k a b in Reach.step (v .queued head (omega arith) h) k c p refl;
-      seeds = λ k a b. ⊎-elim (λ t. inl (kept (rowChild l k) (u .children k (omega arith)) ∙ t)) (λ z. absurd (omega arith)) (v .seeds k a b);
-      pending = λ k a p. ⊎-elim (λ t. inl (kept (rowChild l k) (u .children k a) ∙ t)) (⊎-elim (λ z. absurd (omega arith)) (λ q. inr (next k a q))) (v .pending k a (sym (kept (rowParent l k) (u .parents k a)) ∙ p));
-      outside = λ i a b. elim (ℕ-discrete i (n + head)) [
-        | yes q ↦ rw q (getD-set-same w (n + head) 0 0 (omega (arith, v .long, v .tail-le)) ∙ sym (clear (n + head) (omega arith) (omega (arith, v .tail-le))))
-        | no q ↦ moved i q ∙ v .outside i a (⊎-elim (λ z. inl (omega arith)) inr b)
-      ];
-      total-is = omega (arith, v .total-is, same (sizeAt o));
-      count-is = omega (arith, v .count-is, same (λ i. 1));
-    }
-      where
-        moved : (i : ℕ) → (i ≡ n + head → ⊥) → getD (set w (n + head) 0) i 0 ≡ getD w i 0
-        moved i d = getD-set-other w (n + head) i 0 0 d
+      kept : (i : ℕ) → Found e w i → Found e (set w (top - 1) e) i
+      kept i t = ⊎-elim (λ q. rw q (omega (arith, at-top))) (λ q. omega arith) (apart i)
 
-        kept : (i : ℕ) → i < n → getD (set w (n + head) 0) i 0 ≡ getD w i 0
-        kept i a = moved i (omega arith)
+      was : (i : ℕ) → Found e (set w (top - 1) e) i → Found e w i
+      was i t = ⊎-elim (λ q. rw q (omega (arith, top-high))) (λ q. omega arith) (apart i)
 
-        same : (f : ℕ → ℕ) → tally f (has e (set w (n + head) 0)) n ≡ tally f (has e w) n
-        same f = tally-same f (has e (set w (n + head) 0)) (has e w) n (λ i a. rw (kept i a))
+      pub pop : {row′ stop′ : ℕ} → stop ≤ row → FirstRow l m (keyOf (top - 1) 0) row′ → FirstRow l m (keyOf (top - 1 + 1) 0) stop′
+          → Inv o l n m lo hi e w₀ (set w (top - 1) e) total row′ stop′ (getD w (top - 1) 0 - e - 1)
+      pop end f g = record {
+        long = simp length-set (v .long);
+        stop-le = g .within;
+        stack = p .rest;
+        stacked = p .below;
+        waiting = λ i a h. ⊎-elim (λ q. absurd (omega (arith, at-top, ap (λ (j : ℕ). getD (set w (top - 1) e) j 0) q))) (λ q. ⊎-elim (λ z. absurd (omega (arith, at-top, ap (λ (j : ℕ). getD (set w (top - 1) e) j 0) z))) (λ z. z) (p .others i (v .waiting i a (omega arith)))) (apart i);
+        reaches = λ i z. v .reaches i (p .fewer i z);
+        other = λ i a. ⊎-elim (λ q. inr (rw q (omega (arith, at-top)))) (λ q. ⊎-elim (λ z. inl (q ∙ z)) (λ t. inr (kept i t)) (v .other i a)) (apart i);
+        only = λ i a t. v .only i a (was i t);
+        current = λ k a b. let (d, q) = of-parent u f g k a b in Reach.step top-reached k d q refl;
+        seeds = λ k a b. ⊎-elim (λ t. inl (kept (rowChild l k) t)) (λ z. absurd (omega arith)) (v .seeds k a b);
+        pending = λ k a t. ⊎-elim (λ q. inr (parent-in u f g k a (sym q)))
+            (λ q. ⊎-elim (λ z. inl (kept (rowChild l k) z)) (λ z. absurd (omega arith)) (v .pending k a (sym q ∙ t))) (apart (rowParent l k));
+        outside = λ i a. getD-set-other w (top - 1) i e 0 (omega (arith, top-used)) ∙ v .outside i a;
+        total-is = omega (arith, v .total-is, tally-same (sizeAt o) (found e (set w (top - 1) e)) (found e w) n same);
+      }
+        where
+          same : (i : ℕ) → i < n → found e (set w (top - 1) e) i ≡ found e w i
+          same i a = ⊎-elim (λ q. rw q (le-leb e (getD (set w (top - 1) e) (top - 1) 0) (omega (arith, at-top)) ∙ sym (le-leb e (getD w (top - 1) 0) (omega (arith, top-high))))) (λ q. rw q) (apart i)
 
-        next : (k : ℕ) → k < m → Queued w n head tail (rowParent l k) → Ahead row′ stop′ k ⊎ Queued (set w (n + head) 0) n (head + 1) tail (rowParent l k)
-        next k a (j, b, d, q) = ⊎-elim (λ i. inl (parent-in u f g k a (cc))) (λ i. inr (j, omega arith, d, moved (n + j) (omega arith) ∙ q)) (eq-or-lt-of-le b)
+      -- one object less is without the mark
+      pub pop-unread : count (unread e w) n ≡ count (unread e (set w (top - 1) e)) n + 1
+      pop-unread =
+          tally-one (λ i. 1) (unread e (set w (top - 1) e)) (unread e w) (top - 1) n top-used
+          (ap not (eq-eqb (getD (set w (top - 1) e) (top - 1) 0) e at-top)) (ap not (ne-eqb (getD w (top - 1) 0) e (omega (arith, top-high))))
+          (λ i a d. ⊎-elim (λ q. absurd (d q)) (λ q. rw q) (apart i))
 
     -- nothing is left to look at
-    pub done : stop ≤ row → tail ≤ head → Spread o l n m lo hi e w₀ w total
-    done end empty = record {
+    pub done : Used l m n → hi ≤ m → stop ≤ row → top ≡ 0 → Spread o l n m lo hi e w₀ w total
+    done u him end empty = record {
       long = v .long;
-      other = v .other;
-      only = v .only;
-      seeds = λ k a b. ⊎-elim (λ t. t) (λ z. absurd (omega arith)) (v .seeds k a b);
-      closed = λ k a p. ⊎-elim (λ t. t) (⊎-elim (λ z. absurd (omega arith)) (λ q. absurd (omega arith))) (v .pending k a p);
-      outside = λ i a. v .outside i a (⊎-elim inl (λ z. inr (omega arith)) (side i));
-      total-is = v .total-is;
+      other = λ i a. ⊎-elim inl (λ t. inr (settled i a t)) (v .other i a);
+      only = λ i a t. v .only i a (omega arith);
+      seeds = λ k a b. ⊎-elim (λ t. settled (rowChild l k) (u .children k (omega arith)) t) (λ z. absurd (omega arith)) (v .seeds k a b);
+      closed = λ k a t. ⊎-elim (λ z. settled (rowChild l k) (u .children k a) z) (λ z. absurd (omega arith)) (v .pending k a t);
+      outside = v .outside;
+      total-is = omega (arith, v .total-is, tally-same (sizeAt o) (found e w₀) (has e w₀) n at-first, tally-same (sizeAt o) (found e w) (has e w) n at-last);
     }
       where
-        side : (i : ℕ) → (i < n + head) ⊎ (n + head ≤ i)
-        side i = either i (n + head)
+        nothing : (i : ℕ) → In i (v .stack) → ⊥
+        nothing = stack-empty e w top (v .stack) empty (v .stacked)
+
+        -- what was found has the mark
+        settled : (i : ℕ) → i < n → Found e w i → Has e w i
+        settled i a t = ⊎-elim (λ q. sym q) (λ q. absurd (nothing i (v .waiting i a q))) (eq-or-lt-of-le t)
+
+        same : (x : ℕ) → (e ≤ x → x ≡ e) → leb e x ≡ eqb x e
+        same x h = ⊎-elim (λ q. rw (lt-leb e x q, ne-eqb x e (omega arith))) (λ q. rw (le-leb e x q, eq-eqb x e (h q))) (either x e)
+
+        at-first : (i : ℕ) → i < n → found e w₀ i ≡ has e w₀ i
+        at-first i a = same (getD w₀ i 0) (λ h. omega (arith, latest i a))
+
+        at-last : (i : ℕ) → i < n → found e w i ≡ has e w i
+        at-last i a = same (getD w i 0) (settled i a)
 
     pub total-most : sum (sizeAt o) n ≤ 16777216 → total ≤ 16777216
-    total-most h = omega (arith, v .total-is, tally-le (sizeAt o) (has e w) n)
+    total-most h = omega (arith, v .total-is, tally-le (sizeAt o) (found e w) n)
 
-  -- a row whose child has not the mark
-  pub push : {w : List ℕ} {total row stop head tail : ℕ} → Inv o l n m lo hi e w₀ w total row stop head tail → Used l m n → hi ≤ m → 2 * n ≤ length w₀ → row < stop → (Has e w (rowChild l row) → ⊥)
-      → Inv o l n m lo hi e w₀ (enter w (rowChild l row) e (n + tail)) (total + sizeAt o (rowChild l row)) (row + 1) stop head (tail + 1)
-  push {w} {row = row} {tail = tail} v u him big h ne =
-      let c< : rowChild l row < n = u .children row (omega (arith, v .stop-le)) in
-      skip (mark v u him big c< (v .current row (omega arith) h) ne)
-      (getD-set-other (set w (rowChild l row) e) (n + tail) (rowChild l row) (rowChild l row) 0 (omega arith) ∙ getD-set-same w (rowChild l row) e 0 (omega (arith, v .long)))
+  pub push : {w : List ℕ} {total row stop top : ℕ} → (v : Inv o l n m lo hi e w₀ w total row stop top) → Used l m n → hi ≤ m → 2 * n ≤ length w₀ → row < stop → getD w (rowChild l row) 0 < e
+      → Inv o l n m lo hi e w₀ (set w (rowChild l row) (e + 1 + top)) (total + sizeAt o (rowChild l row)) (row + 1) stop (rowChild l row + 1)
+  push {w} {row = row} {top = top} v u him big h low =
+      let c< : rowChild l row < n = child< v u him big h low in
+      skip (mark v u him big c< (v .current row (omega arith) h) low)
+      (omega (arith, getD-set-same w (rowChild l row) (e + 1 + top) 0 (omega (arith, v .long))))
 
--- the measure falls when the queue gives its next object
-pub falls : (n m head row stop a : ℕ) → head < n → stop ≤ m → (n - (head + 1)) * (m + 1) + (stop - row) < (n - head) * (m + 1) + a
-falls n m head row stop a h l =
-    let q : n - head ≡ suc (n - (head + 1)) = omega arith in
-    rw q (omega (arith, suc-mul (n - (head + 1)) (m + 1)))
+-- the measure falls when the stack gives its last object
+pub falls : (m u u′ row stop a : ℕ) → u ≡ u′ + 1 → stop ≤ m → u′ * (m + 1) + (stop - row) < u * (m + 1) + a
+falls m u u′ row stop a h l =
+    let q : u ≡ suc u′ = omega arith in
+    rw q (omega (arith, suc-mul u′ (m + 1)))

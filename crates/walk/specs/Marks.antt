@@ -1,5 +1,5 @@
--- The walk's scratch, "two numbers an object in use": a mark for each object, then a queue, which is empty between walks. A mark is the number
--- of an epoch, so that a new epoch forgets all that was seen with nothing to clear. Assumes nothing.
+-- The walk's scratch, "two numbers an object in use": a mark for each object, then the row where each object's link rows end. A mark is the
+-- number of an epoch, so that a new epoch forgets all that was seen with nothing to clear. Assumes nothing.
 use Prim.Native.Nat.{ℕ, zero, suc, _+_, _*_, _≤_, _<_}
 use mathlib.Core.Bool.{Bool, true, false, cond, _&&_, _||_}
 use mathlib.Core.List.{List}
@@ -8,6 +8,7 @@ use lib.Dec.{leb, ltb, eqb}
 use lib.ListN.{length, getD, set}
 use Rattle.rules.specs.Store.{Store, lent, linkAt, sound}
 use Rattle.rules.specs.Walk.{marked, reached, reachSize, ofTable, onCycle}
+use Rattle.object_store.specs.Rows.{keyOf, FirstRow}
 
 -- row k is one of those from lo up to hi, hi left out
 abbrev pub between : ℕ → ℕ → ℕ → Bool
@@ -28,18 +29,31 @@ pub record Marks (s : Store) (from : ℕ → Bool) (e : ℕ) (w : List ℕ) : Ty
   pub seen : (i : ℕ) → i < s .objectCount → eqb (getD w i 0) e ≡ marked (reached s from) i
   -- every other mark is an earlier epoch's
   pub latest : (i : ℕ) → i < s .objectCount → getD w i 0 ≤ e
-  pub queue : (j : ℕ) → s .objectCount ≤ j → j < 2 * s .objectCount → getD w j 0 ≡ 0
+  -- object i's rows end where those of the next object would start
+  pub ends : (i : ℕ) → i < s .objectCount → FirstRow (s .links) (s .linkCount) (keyOf (i + 1) 0) (getD w (s .objectCount + i) 0)
 
 -- w with the mark e for each of the first n objects that r marks
 unfoldable pub stamp : ℕ → List ℕ → List ℕ → ℕ → List ℕ
 stamp e r w zero = w
 stamp e r w (suc n) = cond (marked r n) (set (stamp e r w n) n e) (stamp e r w n)
 
--- before a walk: the rows are those of a sound store, and those of `from` have been walked
+-- before the first walk: the rows are those of a sound store, and the scratch, which may hold anything, is long enough
+pub record Blank (l c w : List ℕ) : Type 0 where
+  pub bytes : List ℕ
+  pub objects : List ℕ
+  pub is-sound : sound (lent bytes objects l c) ≡ true
+  pub room : 2 * getD c 1 0 ≤ length w
+
+-- the first epoch, in which nothing has been walked yet, whatever the bytes and objects of the store
+abbrev pub Prepared : List ℕ → List ℕ → List ℕ → Type 0
+Prepared l c w = (b o : List ℕ) → sound (lent b o l c) ≡ true → Marks (lent b o l c) noRow 1 w
+
+-- before a walk: the rows are those of a sound store, those of `from` have been walked, and the epochs leave room for numbers above them
 pub record Ready (o l c : List ℕ) (from : ℕ → Bool) (e : ℕ) (w : List ℕ) : Type 0 where
   pub bytes : List ℕ
   pub is-sound : sound (lent bytes o l c) ≡ true
   pub marks : Marks (lent bytes o l c) from e w
+  pub early : e < 2147483648
 
 -- after a walk of the rows from lo up to hi: what these reach has the mark too, and r is the length of what they have added
 pub record Walked (s : Store) (from : ℕ → Bool) (lo hi e : ℕ) (w w′ : List ℕ) (r : ℕ) : Type 0 where

@@ -1,13 +1,45 @@
 // What can be reached along the link rows of a sound store: how many bytes it has, each object counted once, and whether a table is among it.
-ghost use Prim.Native.Nat.{ℕ, _≤_, _<_};
+use object_store::next_row;
+ghost use Prim.Native.Nat.{ℕ, _+_, _≤_, _<_};
 ghost use mathlib.Core.Bool.{Bool};
+ghost use mathlib.Core.Path.{_≡_};
 ghost use mathlib.Core.List.{List};
-ghost use lib.ListN.{getD};
+ghost use lib.ListN.{length, getD};
+ghost use Rattle.folds.specs.Folds.{before};
 ghost use Rattle.rules.specs.Store.{lent};
-ghost use Rattle.walk.specs.Marks.{noRow, Ready, Walks, Looked};
+ghost use Rattle.walk.specs.Marks.{noRow, Blank, Prepared, Ready, Walks, Looked};
 
-// The length of all objects that can be reached from the children of the link rows `lo` up to `hi` and have not the mark `epoch` yet; each gets
-// that mark as it enters the queue, so that it is counted once.
+// Prepares the scratch, which may hold anything: no object has a mark, and the row where each object's rows end is at hand.
+pub fn prepare(links: &[u32], counts: &[u32; 3], walk: &mut [u32])
+    requires { ⌜ Blank (now links) (now counts) (now walk) ⌝ }
+    ensures { λ _. ⌜ Prepared (now (links .entry)) (now (counts .entry)) (now (walk .exit)) ⌝ }
+{
+    let n = counts[1] as usize;
+    let m = counts[2] as usize;
+    let mut end: usize = 0;
+    let mut i: usize = 0;
+    while i < n {
+        end = next_row(links, m, end, i as u32 + 1, 0);
+        walk[i] = 0;
+        walk[n + i] = end as u32;
+        i += 1;
+    }
+}
+
+// The row where the rows of object `i` of `n` start: where those of the object before it end.
+fn first_row_of(walk: &[u32], n: usize, i: usize) -> u32
+    requires { ⌜ (n + i ≤ length (now walk)) × (n + i < 4294967296) ⌝ }
+    ensures { λ r. ⌜ r ≡ before (λ j. getD (now (walk .entry)) (n + j) 0) i ⌝ }
+{
+    if i == 0 {
+        return 0;
+    }
+    walk[n + (i - 1)]
+}
+
+// The length of all objects that can be reached from the children of the link rows `lo` up to `hi` and have not the mark `epoch` yet; each is
+// counted once. Those whose rows are still to come are a stack: `top` is one more than the last of them, 0 where there is none, and each has
+// in the place of its mark one more than the epoch and the `top` that it found.
 pub fn subgraph_size(
     objects: &[u32],
     links: &[u32],
@@ -21,32 +53,29 @@ pub fn subgraph_size(
     ensures { λ r. ⌜ Walks (now (objects .entry)) (now (links .entry)) (now (counts .entry)) lo hi epoch (now (walk .entry)) (now (walk .exit)) r ⌝ }
 {
     let n = counts[1] as usize;
-    let m = counts[2] as usize;
     let mut sum: u64 = 0;
     let mut row = lo;
     let mut stop = hi;
-    let mut head: usize = 0;
-    let mut tail: usize = 0;
+    let mut top: u32 = 0;
     loop {
         if row < stop {
             let child = links[object_store::PER_LINK * row + object_store::CHILD];
             let c = child as usize;
             row += 1;
-            if walk[c] != epoch {
-                walk[c] = epoch;
-                walk[n + tail] = child;
-                tail += 1;
+            if walk[c] < epoch {
+                walk[c] = epoch + 1 + top;
+                top = child + 1;
                 sum += object_store::size_of(objects, c) as u64;
             }
         } else {
-            if tail <= head {
+            if top == 0 {
                 return sum;
             }
-            let parent = walk[n + head];
-            walk[n + head] = 0;
-            head += 1;
-            row = object_store::row_near(links, m, stop, parent, 0);
-            stop = object_store::next_row(links, m, row, parent + 1, 0);
+            let parent = (top - 1) as usize;
+            top = walk[parent] - epoch - 1;
+            walk[parent] = epoch;
+            row = first_row_of(walk, n, parent) as usize;
+            stop = walk[n + parent] as usize;
         }
     }
 }
@@ -63,9 +92,10 @@ pub fn on_cycle(
     requires { ⌜ (table < getD (now counts) 1 0) × Ready (now objects) (now links) (now counts) noRow epoch (now walk) ⌝ }
     ensures { λ r. ⌜ ((b : List ℕ) → Looked (lent b (now (objects .entry)) (now (links .entry)) (now (counts .entry))) table epoch (now (walk .entry)) (now (walk .exit)) r) ⌝ }
 {
-    let count = counts[2] as usize;
-    let lo = object_store::first_row(links, count, table, 0);
-    let hi = object_store::next_row(links, count, lo, table + 1, 0);
+    let n = counts[1] as usize;
+    let t = table as usize;
+    let lo = first_row_of(walk, n, t) as usize;
+    let hi = walk[n + t] as usize;
     subgraph_size(objects, links, counts, lo, hi, epoch, walk);
-    walk[table as usize] == epoch
+    walk[t] == epoch
 }

@@ -1,6 +1,6 @@
 -- `plan::decide_cuts` meets its contract: a cycle refuses, and else the table is cut. Assumes nothing.
 use Rattle.rules.specs.Answers.{Scratch, scratchOf}
-use Rattle.plan.proofs.Deciding.{can-look, decided-cycle, can-cut, decided-cut}
+use Rattle.plan.proofs.Deciding.{can-prepare, can-look, decided-cycle, can-cut, decided-cut}
 use borrow.Author.Needs.{needs}
 use Rattle.plan.proofs.decide_cuts.Statement.{statement}
 use Rattle.plan.proofs.decide_cuts.Tie as tie
@@ -9,15 +9,18 @@ use Rattle.plan.proofs.decide_cuts.Tie as tie
 abbrev scratch : tie.Start → Scratch
 scratch c = let a = c .args in scratchOf (a .walk .now) (a .glyph-set .now) (a .glyphs .now) (a .classes .now) (a .cuts .now)
 
-clear-u32-requires : tie.Need-clear-u32-requires
-clear-u32-requires c κs = search needs
+prepare-requires : tie.Need-prepare-requires
+prepare-requires c κs =
+    let start = c .before .before .before .before .before .before .before .before .before in
+    let a = start .args in
+    can-prepare (a .«data» .now) (a .objects .now) (a .links .now) (a .counts .now) (a .table) (scratch start) (a .opened) (start .pre)
 
 on-cycle-requires : tie.Need-on-cycle-requires
 on-cycle-requires c κs =
-    let clear = c .before .before .before in
-    let start = clear .before .before .before .before .before .before .before .before .before .before in
+    let first = c .before .before .before in
+    let start = first .before .before .before .before .before .before .before .before .before .before in
     let a = start .args in
-    can-look (a .«data» .now) (a .objects .now) (a .links .now) (a .counts .now) (a .table) (scratch start) (a .opened) (start .pre) (clear .clear-u32 .ensures)
+    can-look (a .«data» .now) (a .objects .now) (a .links .now) (a .counts .now) (a .table) (scratch start) (a .opened) (start .pre) (first .prepare .ensures)
 
 same-length : tie.Need-same-length
 same-length c = search needs
@@ -25,18 +28,18 @@ same-length c = search needs
 returns : tie.Need-returns
 returns c =
     let look = c .before .before .before in
-    let clear = look .before .before .before .before in
-    let start = clear .before .before .before .before .before .before .before .before .before .before in
+    let first = look .before .before .before .before in
+    let start = first .before .before .before .before .before .before .before .before .before .before in
     let a = start .args in
-    decided-cycle (a .«data» .now) (a .objects .now) (a .links .now) (a .counts .now) (a .table) (scratch start) (a .opened) (start .pre) (clear .clear-u32 .ensures) (look .on-cycle .ensures (a .«data» .now)) (c .if1 .taken)
+    decided-cycle (a .«data» .now) (a .objects .now) (a .links .now) (a .counts .now) (a .table) (scratch start) (a .opened) (start .pre) (first .prepare .ensures) (look .on-cycle .ensures (a .«data» .now)) (c .if1 .taken)
 
 cut-table-requires : tie.Need-cut-table-requires
 cut-table-requires c κs =
     let look = c .before .before .before .before .before .before .before .before in
-    let clear = look .before .before .before .before in
-    let start = clear .before .before .before .before .before .before .before .before .before .before in
+    let first = look .before .before .before .before in
+    let start = first .before .before .before .before .before .before .before .before .before .before in
     let a = start .args in
-    can-cut (a .«data» .now) (a .objects .now) (a .links .now) (a .counts .now) (a .table) (scratch start) (a .opened) (start .pre) (clear .clear-u32 .ensures) (look .on-cycle .ensures (a .«data» .now))
+    can-cut (a .«data» .now) (a .objects .now) (a .links .now) (a .counts .now) (a .table) (scratch start) (a .opened) (start .pre) (first .prepare .ensures) (look .on-cycle .ensures (a .«data» .now))
 
 same-length-2 : tie.Need-same-length-2
 same-length-2 c = search needs
@@ -58,16 +61,16 @@ returns-2 c =
     let cut = c .before .before .before .before .before .before .before .before .before .before in
     let test = cut .before .before .before .before .before .before in
     let look = test .before .before .before in
-    let clear = look .before .before .before .before in
-    let start = clear .before .before .before .before .before .before .before .before .before .before in
+    let first = look .before .before .before .before in
+    let start = first .before .before .before .before .before .before .before .before .before .before in
     let a = start .args in
-    decided-cut (a .«data» .now) (a .objects .now) (a .links .now) (a .counts .now) (a .table) (scratch start) (a .opened) (start .pre) (clear .clear-u32 .ensures) (look .on-cycle .ensures (a .«data» .now)) (test .if1 .left) (cut .cut-table .ensures)
+    decided-cut (a .«data» .now) (a .objects .now) (a .links .now) (a .counts .now) (a .table) (scratch start) (a .opened) (start .pre) (first .prepare .ensures) (look .on-cycle .ensures (a .«data» .now)) (test .if1 .left) (cut .cut-table .ensures)
 
 pub decide-cuts-spec : {M : Type 1} → statement M
 decide-cuts-spec =
     tie.close
     (tie.spec
-    clear-u32-requires
+    prepare-requires
     on-cycle-requires
     same-length
     returns

@@ -1,36 +1,35 @@
--- `walk::subgraph_size` meets its contract: marked are objects that had the mark or can be reached, and what a marked object leads to is marked or
--- still to come. The measure is the objects that the queue may yet give, and the rows left of the one before them. Assumes nothing.
-use Prim.Native.Nat.{_+_, _-_, _*_, _<_, _≤_}
+-- `walk::subgraph_size` meets its contract: found are objects that had the mark or can be reached, and what an object with the mark leads to was found
+-- or is still to come. The measure is the objects that have not the mark, and the rows left of the one before them. Assumes nothing.
+use Prim.Native.Nat.{ℕ, _+_, _-_, _*_, _<_, _≤_}
+use mathlib.Core.Path.{ap, _∙_}
 use native.Mathlib.Omega.{arith}
-use lib.ListN.{getD, length-set}
+use lib.ListN.{getD, set, length-set}
 use denote.Ref.{now}
 use borrow.Author.Needs.{needs}
-use Rattle.folds.specs.Folds.{sum}
+use Rattle.folds.specs.Folds.{sum, before}
+use Rattle.folds.proofs.Tally.{count}
 use Rattle.rules.specs.Store.{lent}
 use Rattle.rules.proofs.Sound.{Fits, sound-fits, sizes-most}
-use Rattle.object_store.specs.Rows.{InOrder}
-use Rattle.object_store.proofs.Rows.{in-order}
+use Rattle.object_store.specs.Rows.{keyOf, FirstRow}
+use Rattle.walk.proofs.Ends.{rows-start}
 use Rattle.walk.proofs.Marks.{marks-closed, walked, marks-bytes, walked-bytes}
-use Rattle.walk.proofs.Turns.{Inv, Used, used, reach-used, rowChild, sizeAt, enter, start, skip, push, pop, done, total-most, falls}
+use Rattle.walk.proofs.Turns.{Inv, Used, used, rowChild, sizeAt, unread, start, skip, push, push-unread, pop, pop-ends, pop-unread, top-used, top-high, top-few, done, total-most, falls}
 use Rattle.walk.proofs.subgraph_size.Statement.{statement}
 use Rattle.walk.proofs.subgraph_size.Tie as tie
 
 abbrev Inv-loop : tie.InvT-loop
-Inv-loop objects links counts lo hi epoch walk₀ n m sum₀ row₀ stop₀ head₀ tail₀ walk sum row stop head tail = Inv objects links (getD counts 1 0) (getD counts 2 0) lo hi epoch walk₀ walk sum row stop head tail
+Inv-loop objects links counts lo hi epoch walk₀ n sum₀ row₀ stop₀ top₀ walk sum row stop top = Inv objects links (getD counts 1 0) (getD counts 2 0) lo hi epoch walk₀ walk sum row stop top
 
 abbrev μ-loop : tie.MeasureT-loop
-μ-loop objects links counts lo hi epoch walk₀ n m sum₀ row₀ stop₀ head₀ tail₀ walk sum row stop head tail = (getD counts 1 0 - head) * (getD counts 2 0 + 1) + (stop - row)
+μ-loop objects links counts lo hi epoch walk₀ n sum₀ row₀ stop₀ top₀ walk sum row stop top = count (unread epoch walk) (getD counts 1 0) * (getD counts 2 0 + 1) + (stop - row)
 
 -- the function's start, from the loop's head
 abbrev begin : tie.At-loop Inv-loop μ-loop → tie.Start Inv-loop μ-loop
-begin a = a .before .before .before .before .before .before
+begin a = a .before .before .before .before .before
 
 -- what the store has, as it is sound
 fit : (s : tie.Start Inv-loop μ-loop) → Fits (lent (s .pre .1 .1 .bytes) (now (s .args .objects)) (now (s .args .links)) (now (s .args .counts)))
 fit s = sound-fits (lent (s .pre .1 .1 .bytes) (now (s .args .objects)) (now (s .args .links)) (now (s .args .counts))) (s .pre .1 .1 .is-sound)
-
-ordered : (s : tie.Start Inv-loop μ-loop) → InOrder (now (s .args .links)) (getD (now (s .args .counts)) 2 0)
-ordered s = in-order (lent (s .pre .1 .1 .bytes) (now (s .args .objects)) (now (s .args .links)) (now (s .args .counts))) (fit s)
 
 use-of : (s : tie.Start Inv-loop μ-loop) → Used (now (s .args .links)) (getD (now (s .args .counts)) 2 0) (getD (now (s .args .counts)) 1 0)
 use-of s = used (lent (s .pre .1 .1 .bytes) (now (s .args .objects)) (now (s .args .links)) (now (s .args .counts))) (fit s)
@@ -42,25 +41,50 @@ child c = use-of (begin (c .before)) .children (c .before .loop .row) (omega ari
 abbrev then1 : tie.Then2 Inv-loop μ-loop → tie.Then1 Inv-loop μ-loop
 then1 c = c .before .before .before
 
--- what holds once the row's child, which has not the mark, has entered the queue
+-- what holds once the row's child, which was not found yet, stands in the stack
 entered : (c : tie.Then2 Inv-loop μ-loop) → (let a = then1 c .before in let x = begin a .args in let d = rowChild (now (x .links)) (a .loop .row) in
     Inv (now (x .objects)) (now (x .links)) (getD (now (x .counts)) 1 0) (getD (now (x .counts)) 2 0) (x .lo) (x .hi) (x .epoch) (now (x .walk))
-    (enter (a .loop .walk) d (x .epoch) (getD (now (x .counts)) 1 0 + a .loop .tail)) (a .loop .sum + sizeAt (now (x .objects)) d) (a .loop .row + 1) (a .loop .stop) (a .loop .head) (a .loop .tail + 1))
+    (set (a .loop .walk) d (x .epoch + 1 + a .loop .top)) (a .loop .sum + sizeAt (now (x .objects)) d) (a .loop .row + 1) (a .loop .stop) (d + 1))
 entered c =
     let t = then1 c in
     let a = t .before in
     let s = begin a in
-    push (a .loop .inv) (use-of s) (s .pre .0) (s .pre .1 .1 .marks .room) (t .if1 .taken) (c .if2 .taken)
+    push (s .pre .1 .1 .marks .latest) (a .loop .inv) (use-of s) (s .pre .0) (s .pre .1 .1 .marks .room) (t .if1 .taken) (c .if2 .taken)
 
 -- the lengths of all objects add up to no more than the data
 sizes : (s : tie.Start Inv-loop μ-loop) → sum (sizeAt (now (s .args .objects))) (getD (now (s .args .counts)) 1 0) ≤ 16777216
 sizes s = sizes-most (lent (s .pre .1 .1 .bytes) (now (s .args .objects)) (now (s .args .links)) (now (s .args .counts))) (fit s)
 
--- the queue's next object
-next : (c : tie.After-slice-known3 Inv-loop μ-loop) → (let a = c .before .before .before in getD (a .loop .walk) (getD (now (begin a .args .counts)) 1 0 + a .loop .head) 0 < getD (now (begin a .args .counts)) 1 0)
-next c =
-    let a = c .before .before .before in
-    reach-used (use-of (begin a)) (a .loop .inv .queued (a .loop .head) (omega arith) (omega arith))
+-- the stack's last object
+parent-used : (c : tie.Else3 Inv-loop μ-loop) → (let a = c .before .before in a .loop .top - 1 < getD (now (begin a .args .counts)) 1 0)
+parent-used c =
+    let a = c .before .before in
+    let m = begin a .pre .1 .1 .marks in
+    top-used (m .latest) (a .loop .inv) (use-of (begin a)) (m .room) (omega arith)
+
+parent-high : (c : tie.Else3 Inv-loop μ-loop) → (let a = c .before .before in begin a .args .epoch < getD (a .loop .walk) (a .loop .top - 1) 0)
+parent-high c =
+    let a = c .before .before in
+    let m = begin a .pre .1 .1 .marks in
+    top-high (m .latest) (a .loop .inv) (use-of (begin a)) (m .room) (omega arith)
+
+-- its rows end where the scratch says, with its own mark set
+ends : (c : tie.Else3 Inv-loop μ-loop) → (let a = c .before .before in let x = begin a .args in
+    (i : ℕ) → i < getD (now (x .counts)) 1 0 → FirstRow (now (x .links)) (getD (now (x .counts)) 2 0) (keyOf (i + 1) 0) (getD (set (a .loop .walk) (a .loop .top - 1) (x .epoch)) (getD (now (x .counts)) 1 0 + i) 0))
+ends c =
+    let a = c .before .before in
+    let m = begin a .pre .1 .1 .marks in
+    pop-ends (m .latest) (a .loop .inv) (use-of (begin a)) (m .room) (omega arith) (m .ends)
+
+-- and start where those of the object before it end
+starts : (c : tie.After-first-row-of Inv-loop μ-loop) → (let a = c .before .before .before .before .before in let x = begin a .args in
+    FirstRow (now (x .links)) (getD (now (x .counts)) 2 0) (keyOf (a .loop .top - 1) 0) (c .first-row-of .result))
+starts c =
+    let b = c .before .before .before in
+    let a = b .before .before in
+    let x = begin a .args in
+    rw (c .first-row-of .ensures)
+    (rows-start (now (x .links)) (getD (now (x .counts)) 2 0) (getD (now (x .counts)) 1 0) (set (a .loop .walk) (a .loop .top - 1) (x .epoch)) (ends b) (a .loop .top - 1) (parent-used b))
 
 element-copy-out-n : tie.Need-element-copy-out-n Inv-loop μ-loop
 element-copy-out-n c = search needs
@@ -68,16 +92,10 @@ element-copy-out-n c = search needs
 cast-n : tie.Need-cast-n Inv-loop μ-loop
 cast-n c = search needs
 
-element-copy-out-m : tie.Need-element-copy-out-m Inv-loop μ-loop
-element-copy-out-m c = search needs
-
-cast-m : tie.Need-cast-m Inv-loop μ-loop
-cast-m c = omega (arith, fit (c .before .before .before .before .before) .linksMost)
-
 loop-holds : tie.Need-loop-holds Inv-loop μ-loop
 loop-holds c =
-    let s = c .before .before .before .before .before in
-    start (s .pre .0) (marks-closed (fit s) (s .pre .1 .1 .marks))
+    let s = c .before .before .before .before in
+    start (s .pre .1 .1 .marks .latest) (s .pre .0) (marks-closed (fit s) (s .pre .1 .1 .marks))
 
 mul-child : tie.Need-mul-child Inv-loop μ-loop
 mul-child c = omega (arith, fit (begin (c .before)) .linksMost)
@@ -103,23 +121,23 @@ mul-if2 c = omega (arith, child (c .before), fit (begin (c .before .before)) .ob
 slice-read-if2 : tie.Need-slice-read-if2 Inv-loop μ-loop
 slice-read-if2 c = omega (arith, child (c .before .before))
 
+add-walk : tie.Need-add-walk Inv-loop μ-loop
+add-walk c = omega (arith, begin (then1 c .before) .pre .1 .1 .early)
+
+add-walk-2 : tie.Need-add-walk-2 Inv-loop μ-loop
+add-walk-2 c =
+    let a = then1 c .before in
+    let s = begin a in
+    omega (arith, s .pre .1 .1 .early, top-few (s .pre .1 .1 .marks .latest) (a .loop .inv) (use-of s), fit s .objectsMost)
+
 mul-walk : tie.Need-mul-walk Inv-loop μ-loop
 mul-walk c = omega (arith, child (then1 c), fit (begin (then1 c .before)) .objectsMost)
 
 slice-write-walk : tie.Need-slice-write-walk Inv-loop μ-loop
 slice-write-walk c = omega (arith, child (then1 c))
 
-add-walk : tie.Need-add-walk Inv-loop μ-loop
-add-walk c = omega (arith, fit (begin (then1 c .before)) .objectsMost)
-
-mul-walk-2 : tie.Need-mul-walk-2 Inv-loop μ-loop
-mul-walk-2 c = omega (arith, fit (begin (then1 c .before)) .objectsMost)
-
-slice-write-walk-2 : tie.Need-slice-write-walk-2 Inv-loop μ-loop
-slice-write-walk-2 c = simp length-set (omega (arith, entered c .tail-le))
-
-add-tail : tie.Need-add-tail Inv-loop μ-loop
-add-tail c = omega (arith, fit (begin (then1 c .before)) .objectsMost)
+add-top : tie.Need-add-top Inv-loop μ-loop
+add-top c = omega (arith, child (then1 c), fit (begin (then1 c .before)) .objectsMost)
 
 size-of-requires : tie.Need-size-of-requires Inv-loop μ-loop
 size-of-requires c κs =
@@ -132,10 +150,17 @@ cast-sum : tie.Need-cast-sum Inv-loop μ-loop
 cast-sum c = search needs
 
 add-sum : tie.Need-add-sum Inv-loop μ-loop
-add-sum c = omega (arith, total-most (entered (c .before)) (sizes (begin (then1 (c .before) .before))), c .size-of .ensures)
+add-sum c =
+    let s = begin (then1 (c .before) .before) in
+    omega (arith, total-most (s .pre .1 .1 .marks .latest) (entered (c .before)) (sizes s), c .size-of .ensures)
 
 loop-less : tie.Need-loop-less Inv-loop μ-loop
-loop-less c = omega arith
+loop-less c =
+    let t = then1 (c .before) in
+    let a = t .before in
+    let s = begin a in
+    let m = getD (now (s .args .counts)) 2 0 in
+    omega (arith, ap (λ (x : ℕ). x * (m + 1)) (push-unread (s .pre .1 .1 .marks .latest) (a .loop .inv) (use-of s) (s .pre .0) (s .pre .1 .1 .marks .room) (t .if1 .taken) (c .before .if2 .taken)))
 
 loop-again : tie.Need-loop-again Inv-loop μ-loop
 loop-again c = rw (c .size-of .ensures) (entered (c .before))
@@ -144,10 +169,12 @@ loop-less-2 : tie.Need-loop-less-2 Inv-loop μ-loop
 loop-less-2 c = omega arith
 
 loop-again-2 : tie.Need-loop-again-2 Inv-loop μ-loop
-loop-again-2 c = skip (c .before .before .before .before .loop .inv) (c .if2 .left)
+loop-again-2 c =
+    let a = c .before .before .before .before in
+    skip (begin a .pre .1 .1 .marks .latest) (a .loop .inv) (omega arith)
 
 same-length : tie.Need-same-length Inv-loop μ-loop
-same-length c = omega arith
+same-length c = c .before .before .loop .inv .long
 
 returns : tie.Need-returns Inv-loop μ-loop
 returns c =
@@ -158,54 +185,76 @@ returns c =
     let k = now (s .args .counts) in
     λ b from v.
     walked-bytes (s .pre .1 .1 .bytes) b o l k
-    (walked (fit s) (marks-bytes b (s .pre .1 .1 .bytes) o l k v) (done (a .loop .inv) (c .before .if1 .left) (c .if3 .taken)))
+    (walked (fit s) (marks-bytes b (s .pre .1 .1 .bytes) o l k v) (done (s .pre .1 .1 .marks .latest) (a .loop .inv) (use-of s) (s .pre .0) (c .before .if1 .left) (c .if3 .taken)))
 
-add-parent : tie.Need-add-parent Inv-loop μ-loop
-add-parent c = omega (arith, fit (begin (c .before .before)) .objectsMost)
+sub-parent : tie.Need-sub-parent Inv-loop μ-loop
+sub-parent c = omega arith
 
-mul-parent : tie.Need-mul-parent Inv-loop μ-loop
-mul-parent c = omega (arith, fit (begin (c .before .before)) .objectsMost)
+cast-parent : tie.Need-cast-parent Inv-loop μ-loop
+cast-parent c = omega (arith, parent-used c, fit (begin (c .before .before)) .objectsMost)
 
-slice-read-parent : tie.Need-slice-read-parent Inv-loop μ-loop
-slice-read-parent c = omega arith
+mul-top : tie.Need-mul-top Inv-loop μ-loop
+mul-top c = omega (arith, parent-used c, fit (begin (c .before .before)) .objectsMost)
 
-add-walk-2 : tie.Need-add-walk-2 Inv-loop μ-loop
-add-walk-2 c = omega (arith, fit (begin (c .before .before .before)) .objectsMost)
+slice-read-top : tie.Need-slice-read-top Inv-loop μ-loop
+slice-read-top c = omega (arith, parent-used (c .before))
 
-mul-walk-3 : tie.Need-mul-walk-3 Inv-loop μ-loop
-mul-walk-3 c = omega (arith, fit (begin (c .before .before .before)) .objectsMost)
+sub-top : tie.Need-sub-top Inv-loop μ-loop
+sub-top c = omega (arith, parent-high (c .before))
 
-slice-write-walk-3 : tie.Need-slice-write-walk-3 Inv-loop μ-loop
-slice-write-walk-3 c = omega arith
+sub-top-2 : tie.Need-sub-top-2 Inv-loop μ-loop
+sub-top-2 c = omega (arith, parent-high (c .before))
 
-add-head : tie.Need-add-head Inv-loop μ-loop
-add-head c = omega (arith, fit (begin (c .before .before .before)) .objectsMost)
+mul-walk-2 : tie.Need-mul-walk-2 Inv-loop μ-loop
+mul-walk-2 c = omega (arith, parent-used (c .before), fit (begin (c .before .before .before)) .objectsMost)
 
-row-near-requires : tie.Need-row-near-requires Inv-loop μ-loop
-row-near-requires c κs =
-    let a = c .before .before .before in
-    (ordered (begin a), a .loop .inv .stop-le)
+slice-write-walk-2 : tie.Need-slice-write-walk-2 Inv-loop μ-loop
+slice-write-walk-2 c = omega (arith, parent-used (c .before))
 
-add-next-row : tie.Need-add-next-row Inv-loop μ-loop
-add-next-row c = omega (arith, next (c .before), fit (begin (c .before .before .before .before)) .objectsMost)
+first-row-of-requires : tie.Need-first-row-of-requires Inv-loop μ-loop
+first-row-of-requires c κs =
+    let b = c .before .before in
+    let a = b .before .before in
+    let s = begin a in
+    (simp length-set (omega (arith, parent-used b, a .loop .inv .long, s .pre .1 .1 .marks .room)), omega (arith, parent-used b, fit s .objectsMost))
 
-next-row-requires : tie.Need-next-row-requires Inv-loop μ-loop
-next-row-requires c κs =
-    let f = c .row-near .ensures in
-    (ordered (begin (c .before .before .before .before)), f .within, λ k h. omega (arith, f .below k h))
+cast-row : tie.Need-cast-row Inv-loop μ-loop
+cast-row c = omega (arith, starts c .within, fit (begin (c .before .before .before .before .before)) .linksMost)
+
+add-stop : tie.Need-add-stop Inv-loop μ-loop
+add-stop c = omega (arith, parent-used (c .before .before .before), fit (begin (c .before .before .before .before .before)) .objectsMost)
+
+mul-stop : tie.Need-mul-stop Inv-loop μ-loop
+mul-stop c = omega (arith, parent-used (c .before .before .before), fit (begin (c .before .before .before .before .before)) .objectsMost)
+
+slice-read-stop : tie.Need-slice-read-stop Inv-loop μ-loop
+slice-read-stop c =
+    let b = c .before .before .before .before in
+    let a = b .before .before in
+    simp length-set (omega (arith, parent-used b, a .loop .inv .long, begin a .pre .1 .1 .marks .room))
+
+cast-stop : tie.Need-cast-stop Inv-loop μ-loop
+cast-stop c =
+    let b = c .before .before .before .before in
+    omega (arith, ends b (b .before .before .loop .top - 1) (parent-used b) .within, fit (begin (b .before .before)) .linksMost)
 
 loop-less-3 : tie.Need-loop-less-3 Inv-loop μ-loop
 loop-less-3 c =
-    let a = c .before .before .before .before .before in
-    let k = now (begin a .args .counts) in
-    falls (getD k 1 0) (getD k 2 0) (a .loop .head) (c .before .row-near .result) (c .next-row .result) (a .loop .stop - a .loop .row) (omega arith) (c .next-row .ensures .within)
+    let b = c .before .before .before .before in
+    let a = b .before .before in
+    let x = begin a .args in
+    let p = begin a .pre .1 .1 .marks in
+    let n = getD (now (x .counts)) 1 0 in
+    let w = set (a .loop .walk) (a .loop .top - 1) (x .epoch) in
+    falls (getD (now (x .counts)) 2 0) (count (unread (x .epoch) (a .loop .walk)) n) (count (unread (x .epoch) w) n) (c .before .first-row-of .result) (getD w (n + (a .loop .top - 1)) 0) (a .loop .stop - a .loop .row)
+    (pop-unread (p .latest) (a .loop .inv) (use-of (begin a)) (p .room) (omega arith)) (ends b (a .loop .top - 1) (parent-used b) .within)
 
 loop-again-3 : tie.Need-loop-again-3 Inv-loop μ-loop
 loop-again-3 c =
-    let a = c .before .before .before .before .before in
-    let s = begin a in
-    pop (a .loop .inv) (use-of s) (s .pre .0) (s .pre .1 .1 .marks .room) (s .pre .1 .1 .marks .queue)
-    (c .before .before .before .if3 .left) (c .before .before .before .before .if1 .left) (c .before .row-near .ensures) (c .next-row .ensures)
+    let b = c .before .before .before .before in
+    let a = b .before .before in
+    let p = begin a .pre .1 .1 .marks in
+    pop (p .latest) (a .loop .inv) (use-of (begin a)) (p .room) (omega arith) (b .before .if1 .left) (starts (c .before)) (ends b (a .loop .top - 1) (parent-used b))
 
 pub subgraph-size-spec : {M : Type 1} → statement M
 subgraph-size-spec =
@@ -215,8 +264,6 @@ subgraph-size-spec =
     μ-loop
     element-copy-out-n
     cast-n
-    element-copy-out-m
-    cast-m
     loop-holds
     mul-child
     add-child
@@ -226,12 +273,11 @@ subgraph-size-spec =
     add-row
     mul-if2
     slice-read-if2
+    add-walk
+    add-walk-2
     mul-walk
     slice-write-walk
-    add-walk
-    mul-walk-2
-    slice-write-walk-2
-    add-tail
+    add-top
     size-of-requires
     cast-sum
     add-sum
@@ -241,15 +287,19 @@ subgraph-size-spec =
     loop-again-2
     same-length
     returns
-    add-parent
-    mul-parent
-    slice-read-parent
-    add-walk-2
-    mul-walk-3
-    slice-write-walk-3
-    add-head
-    row-near-requires
-    add-next-row
-    next-row-requires
+    sub-parent
+    cast-parent
+    mul-top
+    slice-read-top
+    sub-top
+    sub-top-2
+    mul-walk-2
+    slice-write-walk-2
+    first-row-of-requires
+    cast-row
+    add-stop
+    mul-stop
+    slice-read-stop
+    cast-stop
     loop-less-3
     loop-again-3)
