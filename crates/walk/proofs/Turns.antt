@@ -1,5 +1,5 @@
 -- What holds at each turn of a walk, and what it leaves, on plain lists and numbers. Assumes nothing.
-use Prim.Native.Nat.{ℕ, zero, suc, _+_, _-_, _*_, _≤_, _<_}
+use Prim.Native.Nat.{ℕ, suc, _+_, _-_, _*_, _≤_, _<_}
 use mathlib.Core.Bool.{Bool, not}
 use mathlib.Core.List.{List, [], _∷_}
 use mathlib.Core.Logic.{_⊎_, inl, inr, ⊎-elim}
@@ -20,6 +20,7 @@ use Rattle.rules.proofs.Sound.{Fits}
 use Rattle.object_store.specs.Rows.{keyOf, FirstRow}
 use Rattle.object_store.proofs.Rows.{position-most}
 use Rattle.walk.specs.Marks.{between}
+use Rattle.walk.proofs.Ends.{zero-or}
 
 -- a store of m link rows, for what can be reached along them
 abbrev pub graph : List ℕ → ℕ → Store
@@ -253,11 +254,7 @@ module _ {o l : List ℕ} {n m lo hi e : ℕ} {w₀ : List ℕ} (latest : (i : �
 
     -- the stack's last is an object
     pub top-few : Used l m n → top ≤ n
-    top-few u = ⊎-elim (λ q. omega arith) (λ h. omega (arith, reach-used u (v .reaches (top - 1) (stack-pop e w top (v .stack) h (v .stacked) .is-in)))) (either-none top)
-      where
-        either-none : (x : ℕ) → (x ≡ 0) ⊎ (0 < x)
-        either-none zero = inl refl
-        either-none (suc x) = inr (omega arith)
+    top-few u = ⊎-elim (λ q. omega arith) (λ h. omega (arith, reach-used u (v .reaches (top - 1) (stack-pop e w top (v .stack) h (v .stacked) .is-in)))) (zero-or top)
 
     -- a row whose child was not found
     module _ (u : Used l m n) (him : hi ≤ m) (big : 2 * n ≤ length w₀) (h : row < stop) (low : getD w (rowChild l row) 0 < e) where

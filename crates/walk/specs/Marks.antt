@@ -1,12 +1,13 @@
 -- The walk's scratch, "two numbers an object in use": a mark for each object, then the row where each object's link rows end. A mark is the
 -- number of an epoch, so that a new epoch forgets all that was seen with nothing to clear. Assumes nothing.
-use Prim.Native.Nat.{ℕ, zero, suc, _+_, _*_, _≤_, _<_}
+use Prim.Native.Nat.{ℕ, zero, suc, _+_, _-_, _*_, _≤_, _<_}
 use mathlib.Core.Bool.{Bool, true, false, cond, _&&_, _||_}
 use mathlib.Core.List.{List}
+use mathlib.Core.Logic.{_⊎_}
 use mathlib.Core.Path.{_≡_}
 use lib.Dec.{leb, ltb, eqb}
 use lib.ListN.{length, getD, set}
-use Rattle.rules.specs.Store.{Store, lent, linkAt, sound}
+use Rattle.rules.specs.Store.{Store, lent, perLink, linkAt, sound}
 use Rattle.rules.specs.Walk.{marked, reached, reachSize, ofTable, onCycle}
 use Rattle.object_store.specs.Rows.{keyOf, FirstRow}
 
@@ -43,6 +44,16 @@ pub record Blank (l c w : List ℕ) : Type 0 where
   pub objects : List ℕ
   pub is-sound : sound (lent bytes objects l c) ≡ true
   pub room : 2 * getD c 1 0 ≤ length w
+
+-- v is one more than the last of the first k rows that are object i's, 0 where none is
+pub record LastOf (l : List ℕ) (k i v : ℕ) : Type 0 where
+  pub all : (j : ℕ) → j < k → getD l (perLink * j + 0) 0 ≡ i → j < v
+  pub last : (v ≡ 0) ⊎ ((v ≤ k) × (getD l (perLink * (v - 1) + 0) 0 ≡ i))
+
+-- no object has a mark, and the last of its rows is written down
+pub record Lasts (l c w : List ℕ) : Type 0 where
+  pub unmarked : (i : ℕ) → i < getD c 1 0 → getD w i 0 ≡ 0
+  pub lasts : (i : ℕ) → i < getD c 1 0 → LastOf l (getD c 2 0) i (getD w (getD c 1 0 + i) 0)
 
 -- the first epoch, in which nothing has been walked yet, whatever the bytes and objects of the store
 abbrev pub Prepared : List ℕ → List ℕ → List ℕ → Type 0

@@ -1,27 +1,53 @@
 // What can be reached along the link rows of a sound store: how many bytes it has, each object counted once, and whether a table is among it.
-use object_store::next_row;
+use buffers::clear_u32;
 ghost use Prim.Native.Nat.{ℕ, _+_, _≤_, _<_};
 ghost use mathlib.Core.Bool.{Bool};
 ghost use mathlib.Core.Path.{_≡_};
 ghost use mathlib.Core.List.{List};
-ghost use lib.ListN.{length, getD};
+ghost use lib.ListN.{length, getD, replicate};
 ghost use Rattle.folds.specs.Folds.{before};
 ghost use Rattle.rules.specs.Store.{lent};
-ghost use Rattle.walk.specs.Marks.{noRow, Blank, Prepared, Ready, Walks, Looked};
+ghost use Rattle.walk.specs.Marks.{noRow, Blank, Lasts, Prepared, Ready, Walks, Looked};
 
 // Prepares the scratch, which may hold anything: no object has a mark, and the row where each object's rows end is at hand.
 pub fn prepare(links: &[u32], counts: &[u32; 3], walk: &mut [u32])
     requires { ⌜ Blank (now links) (now counts) (now walk) ⌝ }
     ensures { λ _. ⌜ Prepared (now (links .entry)) (now (counts .entry)) (now (walk .exit)) ⌝ }
 {
+    clear_u32(walk);
+    last_rows(links, counts, walk);
+    row_ends(links, counts, walk);
+}
+
+// For each object one more than the last of its rows, 0 where it has none.
+fn last_rows(links: &[u32], counts: &[u32; 3], walk: &mut [u32])
+    requires { ⌜ Blank (now links) (now counts) (now walk) × (now walk ≡ replicate (length (now walk)) 0) ⌝ }
+    ensures { λ _. ⌜ Lasts (now (links .entry)) (now (counts .entry)) (now (walk .exit)) ⌝ }
+{
     let n = counts[1] as usize;
     let m = counts[2] as usize;
-    let mut end: usize = 0;
+    let mut k: usize = 0;
+    while k < m {
+        let parent = links[object_store::PER_LINK * k + object_store::PARENT] as usize;
+        k += 1;
+        walk[n + parent] = k as u32;
+    }
+}
+
+// Where each object's rows end: those of an object with none where those of the object before it do.
+fn row_ends(links: &[u32], counts: &[u32; 3], walk: &mut [u32])
+    requires { ⌜ Blank (now links) (now counts) (now walk) × Lasts (now links) (now counts) (now walk) ⌝ }
+    ensures { λ _. ⌜ Prepared (now (links .entry)) (now (counts .entry)) (now (walk .exit)) ⌝ }
+{
+    let n = counts[1] as usize;
+    let mut end: u32 = 0;
     let mut i: usize = 0;
     while i < n {
-        end = next_row(links, m, end, i as u32 + 1, 0);
-        walk[i] = 0;
-        walk[n + i] = end as u32;
+        let last = walk[n + i];
+        if end < last {
+            end = last;
+        }
+        walk[n + i] = end;
         i += 1;
     }
 }
