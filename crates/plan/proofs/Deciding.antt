@@ -1,24 +1,23 @@
--- What the decision rests on: the checks that need no scratch, the look for a cycle, and the cut places. Assumes nothing.
-use Prim.Native.Nat.{ℕ, _<_}
+-- What the decision rests on: the checks that need no scratch, the cut places, and whether there is a cycle. Assumes nothing.
+use Prim.Native.Nat.{ℕ, _*_, _≤_, _<_}
 use mathlib.Core.Path.{_≡_, refl, sym, ap, ap₂, subst, _∙_}
 use mathlib.Core.Bool.{Bool, true, false}
 use mathlib.Core.List.{List}
 use mathlib.Core.Option.{some}
 use native.Mathlib.Omega.{arith}
-use lib.ListN.{getD}
+use lib.ListN.{length, getD}
+use borrow.Author.Tests.{lt-ltb, le-ltb}
 use Rattle.rules.specs.declared.Answer.{Answer}
 use Rattle.rules.specs.declared.Answer.the-variants.{BadLinks}
 use Rattle.rules.specs.Store.{Store, lent}
 use Rattle.rules.specs.Walk.{onCycle}
 use Rattle.rules.specs.Answers.{Scratch, number, firstCase, cutCases}
-use Rattle.rules.proofs.Sound.{Fits, sound-fits}
-use Rattle.walk.specs.Marks.{noRow, Marks, Blank, Prepared, Ready}
-use Rattle.walk.specs.Marks as Walk
-use Rattle.walk.proofs.Marks.{marks-next}
-use Rattle.walk.proofs.Cycles.{marks-looked}
+use Rattle.walk.specs.Marks.{Begun}
+use Rattle.split_points.specs.Filled.{TellsCycle}
 use Rattle.checks.specs.declared.PairTable.{PairTable}
 use Rattle.checks.specs.declared.Checked.{Checked}
 use Rattle.checks.specs.declared.Checked.the-variants as Checked
+use Rattle.checks.proofs.Refusals.{Opens}
 use Rattle.plan.specs.declared.Plan.{Plan}
 use Rattle.plan.specs.declared.Decision.the-variants.{Cut, Refused}
 use Rattle.plan.specs.Called.{lengthsOf, calledOf}
@@ -40,38 +39,33 @@ module _ (b o l c : List ℕ) (t : ℕ) (w : Scratch) (p : PairTable) (e : calle
   pass : Passed (lent b o l c) t (lengthsOf w) p
   pass = passed (lent b o l c) t (lengthsOf w) p e
 
-  fits : Fits (lent b o l c)
-  fits = sound-fits (lent b o l c) (pass .opens .reads .sounds)
-
   last : {cycle : Bool} → cycle ≡ onCycle (lent b o l c) t → firstCase (cutCases (lent b o l c) t w) ≡ lookedLast (Checked.Open p) cycle
   last h = called (lent b o l c) t w ∙ ap₂ lookedLast e (sym h)
 
-  pub can-prepare : Blank l c (w .walk)
-  can-prepare = record { bytes = b; objects = o; is-sound = pass .opens .reads .sounds; room = pass .walk }
+  -- the table is open, and the walk's scratch long enough
+  pub can-begin : ((x : List ℕ) × Opens (lent x o l c) t p) × (2 * getD c 1 0 ≤ length (w .walk))
+  can-begin = ((b, pass .opens), pass .walk)
 
-  module _ {z : List ℕ} (q : Prepared l c z) where
-    first : Marks (lent b o l c) noRow 1 z
-    first = q b o (pass .opens .reads .sounds)
+  -- the table has a mark there
+  pub table-marked : t < length (w .walk)
+  table-marked = omega (arith, pass .opens .reads .used, pass .walk)
 
-    pub can-look : (t < getD c 1 0) × Ready o l c noRow 1 z
-    can-look = (pass .opens .reads .used, record { bytes = b; is-sound = pass .opens .reads .sounds; marks = first; early = omega arith })
+  pub can-cut : {z : List ℕ} → Begun (lent b o l c) t (p .layout .header) z → Looked (lent b o l c) t p z (w .set) (w .glyphs) (w .classes) (w .cuts)
+  can-cut d =
+      record {
+        walked = record { opens = pass .opens; slots = pass .slots; begun = d; room = pass .cuts };
+        long = pass .set;
+        glyphs = pass .glyphs;
+        classes = pass .classes;
+      }
 
-    module _ {z′ : List ℕ} {cycle : Bool} (d : Walk.Looked (lent b o l c) t 1 z z′ cycle) where
-      pub decided-cycle : {gs ks cuts : List ℕ} → cycle ≡ true → Decided (lent b o l c) t w (Refused BadLinks) gs ks cuts
-      decided-cycle h = refused (lent b o l c) t w BadLinks (last (sym h ∙ d .answer))
+  module _ {z : List ℕ} (d : TellsCycle (lent b o l c) t z) where
+    pub decided-cycle : {gs ks cuts : List ℕ} → (getD z t 0 ≡ 0 → ⊥) → Decided (lent b o l c) t w (Refused BadLinks) gs ks cuts
+    decided-cycle ne = refused (lent b o l c) t w BadLinks (last (sym (lt-ltb 0 (getD z t 0) (omega arith)) ∙ d .tells))
 
-      pub can-cut : Looked (lent b o l c) t p z′ (w .set) (w .glyphs) (w .classes) (w .cuts)
-      can-cut =
-          record {
-            walked = record { opens = pass .opens; slots = pass .slots; marks = marks-next fits (marks-looked fits first d) (λ k h. refl); room = pass .cuts };
-            long = pass .set;
-            glyphs = pass .glyphs;
-            classes = pass .classes;
-          }
-
-      pub decided-cut : {gs ks cuts : List ℕ} {n : ℕ} → cycle ≡ false → CutsTable (lent b o l c) t p (w .glyphs) (w .classes) (w .cuts) gs ks cuts n → Decided (lent b o l c) t w (Cut (record { table = p; cuts = n })) gs ks cuts
-      decided-cut {gs} {ks} {cuts} {n} h x =
-          record {
-            answers = last (sym h ∙ d .answer);
-            plans = λ q y. let same : record { table = p; cuts = n } ≡ q = cc in subst (λ (r : Plan). Planned (lent b o l c) t w r gs ks cuts) same (record { opens = pass .opens; cut = x });
-          }
+    pub decided-cut : {gs ks cuts : List ℕ} {n : ℕ} → getD z t 0 ≡ 0 → CutsTable (lent b o l c) t p (w .glyphs) (w .classes) (w .cuts) gs ks cuts n → Decided (lent b o l c) t w (Cut (record { table = p; cuts = n })) gs ks cuts
+    decided-cut {gs} {ks} {cuts} {n} h x =
+        record {
+          answers = last (sym (le-ltb 0 (getD z t 0) (omega arith)) ∙ d .tells);
+          plans = λ q y. let same : record { table = p; cuts = n } ≡ q = cc in subst (λ (r : Plan). Planned (lent b o l c) t w r gs ks cuts) same (record { opens = pass .opens; cut = x });
+        }

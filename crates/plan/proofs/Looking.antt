@@ -1,33 +1,34 @@
 -- What the cut rules ask of a table, from what the checks hold of it. Assumes nothing.
-use Prim.Native.Nat.{ℕ, _*_, _<_}
+use Prim.Native.Nat.{ℕ, _*_, _≤_, _<_}
 use mathlib.Core.Path.{_≡_, sym, ap, subst}
 use mathlib.Core.Bool.{true}
 use mathlib.Core.List.{List}
 use mathlib.Core.Logic.{⊎-elim}
 use native.Mathlib.Omega.{arith}
-use lib.ListN.{length, replicate, length-replicate, getD-replicate, List·getD-eq-default}
+use lib.ListN.{length, getD, replicate, length-replicate, getD-replicate, List·getD-eq-default}
 use lib.Dec.{eqb}
 use Rattle.folds.proofs.Tests.{either}
 use Rattle.opentype.specs.PairPos.{shape1, shape2}
 use Rattle.opentype.specs.declared.Reading.{Reading}
 use Rattle.opentype.proofs.Octets.{Bytes, bytes-u16}
 use Rattle.opentype.proofs.Shapes as Shapes
-use Rattle.opentype.proofs.Shapes.{by-format}
+use Rattle.opentype.proofs.Shapes.{by-format, items-rise}
 use Rattle.pair_pos.specs.declared.Layout.{Layout}
 use Rattle.pair_pos.specs.Layout.{layoutOf}
-use Rattle.rules.specs.Store.{Store, bytesOf, sizeOf}
+use Rattle.rules.specs.Store.{Store, lent, bytesOf, sizeOf}
 use Rattle.rules.specs.Table.{shape, linkedAt}
 use Rattle.rules.proofs.Sound.{Fits, sound-fits, size-bytes}
 use Rattle.rules.proofs.Lookups.{child-used}
 use Rattle.rules.proofs.Checks.{object-bytes}
 use Rattle.object_store.specs.Rows.{Inside}
 use Rattle.object_store.proofs.Bytes.{inside}
+use Rattle.walk.specs.Marks.{noRow, Prepared, Ready}
 use Rattle.checks.specs.declared.Part.{Part}
 use Rattle.checks.specs.declared.PairTable.{PairTable}
 use Rattle.checks.proofs.Refusals.{LinkedPart, Opens, format-one, format-two}
 use Rattle.glyph_set.proofs.Emptied.{Empty}
 use Rattle.split_points.specs.declared.«table_info».TableInfo.{TableInfo}
-use Rattle.split_points.specs.Filled.{Described, Unseen, Placed}
+use Rattle.split_points.specs.Filled.{Described, Unseen, TellsCycle, Placed}
 use Rattle.split_points.specs.Format1.{Ready1}
 use Rattle.split_points.specs.Format2.{Ready2}
 use Rattle.split_points.proofs.Callers.{described}
@@ -57,6 +58,19 @@ module _ {s : Store} {t : ℕ} {p : PairTable} (o : Opens s t p) where
   unfolding layoutOf
   info-described c few = described (o .reads) (ap (λ (x : Layout). x .header) (o .layout)) (ap (λ (x : Layout). x .item) (o .layout)) same-count (omega (arith, same-count))
 
+  pub header-small : p .layout .header ≤ 16777216
+  unfolding layoutOf
+  header-small =
+      omega (
+        arith,
+        ap (λ (x : Layout). x .header) (o .layout),
+        items-rise (shape s t) 0 (shape s t .count) (omega arith),
+        o .reads .exactly,
+        size-bytes s fits t (o .reads .used),
+        fits .object t (o .reads .used) .inside,
+        fits .bytesMost,
+      )
+
   -- a table of format 1 is no longer than the data
   sets-few : eqb (shape s t .format) 1 ≡ true → shape s t .count < 16777216
   sets-few e =
@@ -71,8 +85,13 @@ module _ {s : Store} {t : ℕ} {p : PairTable} (o : Opens s t p) where
       let b = bytes-u16 (bytesOf s t) (object-bytes s octets t) in
       by-format (λ sh. sh .count < 16777216) (bytesOf s t) (λ e. omega (arith, b 8)) (λ e. omega (arith, b 12))
 
+-- before the walk of the header's links
+pub can-walk : (b o l c : List ℕ) {t : ℕ} {p : PairTable} → Opens (lent b o l c) t p → {z : List ℕ} → Prepared l c z → (t < getD c 1 0) × Ready o l c noRow 1 z
+can-walk b o l c k q = (k .reads .used, record { bytes = b; is-sound = k .reads .sounds; marks = q b o (k .reads .sounds); early = omega arith })
+
+-- and after it
 walked-unseen : {s : Store} {t : ℕ} {p : PairTable} {w cuts : List ℕ} (c : ℕ) → Walked s t p w cuts → Unseen s (infoOf (s .objects) t p c) w cuts
-walked-unseen c k = record { marks = k .marks; room = k .room }
+walked-unseen c k = record { marks = k .begun .marks; begun = omega arith; back = k .begun .back; room = k .room }
 
 -- ---- format 1
 
@@ -95,6 +114,9 @@ module _ {s : Store} {t : ℕ} {p : PairTable} {w cuts : List ℕ} (k : Looked1 
 
     pub sets-placed : {cuts′ : List ℕ} {r : ℕ} → (Ready1 s x w cuts → Placed s (x .table) cuts cuts′ r) → Placed s t cuts cuts′ r
     sets-placed {cuts′} {r} f = subst (λ (y : TableInfo). Placed s (y .table) cuts cuts′ r) e (f sets-ready)
+
+    pub sets-tell : {w′ : List ℕ} → (Ready1 s x w cuts → TellsCycle s (x .table) w′) → TellsCycle s t w′
+    sets-tell {w′} f = subst (λ (y : TableInfo). TellsCycle s (y .table) w′) e (f sets-ready)
 
 -- ---- format 2
 
@@ -123,3 +145,6 @@ module _ {s : Store} {t : ℕ} {p : PairTable} {gs ks w set cuts : List ℕ} (k 
 
     pub rows-placed : {cuts′ : List ℕ} {r : ℕ} → (Ready2 s x gs ks w set′ cuts → Placed s (x .table) cuts cuts′ r) → Placed s t cuts cuts′ r
     rows-placed {cuts′} {r} f = subst (λ (y : TableInfo). Placed s (y .table) cuts cuts′ r) e (f rows-ready)
+
+    pub rows-tell : {w′ : List ℕ} → (Ready2 s x gs ks w set′ cuts → TellsCycle s (x .table) w′) → TellsCycle s t w′
+    rows-tell {w′} f = subst (λ (y : TableInfo). TellsCycle s (y .table) w′) e (f rows-ready)

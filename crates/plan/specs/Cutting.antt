@@ -9,13 +9,13 @@ use Rattle.opentype.proofs.Octets.{Bytes}
 use Rattle.rules.specs.Store.{Store, lent}
 use Rattle.rules.specs.Table.{entriesOf, allAtSlots}
 use Rattle.class_order.specs.Pairs.{keysOf, besideOf}
-use Rattle.walk.specs.Marks.{noRow, Marks}
+use Rattle.walk.specs.Marks.{Begun}
 use Rattle.checks.specs.declared.PairTable.{PairTable}
 use Rattle.checks.proofs.Refusals.{Opens}
 use Rattle.split_points.specs.declared.«table_info».TableInfo.{TableInfo}
 use Rattle.class_order.specs.ByClass.{classPairs}
 use Rattle.split_points.specs.Classes.{Ordered}
-use Rattle.split_points.specs.Filled.{Placed}
+use Rattle.split_points.specs.Filled.{TellsCycle, Placed}
 
 -- ---- the object beside the items
 
@@ -30,11 +30,11 @@ infoOf o t p c =
 
 -- ---- format 1
 
--- the table has passed the checks up to 7, whose look for a cycle has left its marks, and there is an entry for each cut
+-- the table has passed the checks but for the look for a cycle, which the walk of its header's links has begun, and there is an entry for each cut
 pub record Walked (s : Store) (t : ℕ) (p : PairTable) (w cuts : List ℕ) : Type 0 where
   pub opens : Opens s t p
   pub slots : allAtSlots s t ≡ true
-  pub marks : Marks s noRow 2 w
+  pub begun : Begun s t (p .layout .header) w
   pub room : p .layout .count ≤ length cuts
 
 -- of a table of format 1
@@ -45,6 +45,10 @@ pub record Looked1 (s : Store) (t : ℕ) (p : PairTable) (w cuts : List ℕ) : T
 -- its places are found, whatever the bytes of the store
 abbrev pub Places1 : List ℕ → List ℕ → List ℕ → ℕ → PairTable → List ℕ → List ℕ → List ℕ → ℕ → Type 0
 Places1 o l c t p w cuts cuts′ r = (b : List ℕ) → Looked1 (lent b o l c) t p w cuts → Placed (lent b o l c) t cuts cuts′ r
+
+-- and the walk tells of a cycle
+abbrev pub Tells1 : List ℕ → List ℕ → List ℕ → ℕ → PairTable → List ℕ → List ℕ → List ℕ → Type 0
+Tells1 o l c t p w cuts w′ = (b : List ℕ) → Looked1 (lent b o l c) t p w cuts → TellsCycle (lent b o l c) t w′
 
 -- ---- format 2
 
@@ -71,9 +75,13 @@ pub record Looked2 (s : Store) (t : ℕ) (p : PairTable) (gs ks w set cuts : Lis
 abbrev pub Places2 : List ℕ → List ℕ → List ℕ → ℕ → PairTable → List ℕ → List ℕ → List ℕ → List ℕ → List ℕ → List ℕ → ℕ → Type 0
 Places2 o l c t p gs ks w set cuts cuts′ r = (b : List ℕ) → Looked2 (lent b o l c) t p gs ks w set cuts → Placed (lent b o l c) t cuts cuts′ r
 
+-- and the walk tells of a cycle
+abbrev pub Tells2 : List ℕ → List ℕ → List ℕ → ℕ → PairTable → List ℕ → List ℕ → List ℕ → List ℕ → List ℕ → List ℕ → Type 0
+Tells2 o l c t p gs ks w set cuts w′ = (b : List ℕ) → Looked2 (lent b o l c) t p gs ks w set cuts → TellsCycle (lent b o l c) t w′
+
 -- ---- both
 
--- the table has passed the checks up to 7, and no scratch is too short
+-- the table has passed the checks but for the look for a cycle, and no scratch is too short
 pub record Looked (s : Store) (t : ℕ) (p : PairTable) (w set gs ks cuts : List ℕ) : Type 0 where
   pub walked : Walked s t p w cuts
   pub long : 8192 ≤ length set

@@ -1,4 +1,4 @@
-// The cut places of a table that has passed the checks. In format 2 the covered glyphs are put in the order of their classes on the way.
+// The cut places of a table that has passed the checks, but for the look for a cycle, which the walks of its items make on the way. In format 2 the covered glyphs are put in the order of their classes on the way.
 use buffers::clear_u8;
 use checks::PairTable;
 use class_def::classes_into;
@@ -13,9 +13,10 @@ ghost use mathlib.Core.Path.{_≡_};
 ghost use mathlib.Core.List.{List};
 ghost use Prim.Native.Nat.{ℕ};
 ghost use Rattle.rules.specs.Store.{lent};
-ghost use Rattle.plan.specs.Cutting.{Gathering, Gathers, Beside, infoOf, Looked1, Places1, Looked2, Places2, Looked, CutsByClass, CutsTable};
+ghost use Rattle.split_points.specs.Filled.{TellsCycle};
+ghost use Rattle.plan.specs.Cutting.{Gathering, Gathers, Beside, infoOf, Looked1, Places1, Tells1, Looked2, Places2, Tells2, Looked, CutsByClass, CutsTable};
 
-// What the cut rules ask of the table; object `beside` is the one whose length they ask. The marks of their walks come after that of the look for a cycle.
+// What the cut rules ask of the table; object `beside` is the one whose length they ask. The marks of their walks come after that of the walk of the header's links.
 fn info_of(objects: &[u32], table: u32, opened: PairTable, beside: u32) -> TableInfo
     requires { ⌜ Beside (now objects) beside ⌝ }
     ensures { λ r. ⌜ r ≡ infoOf (now (objects .entry)) table opened beside ⌝ }
@@ -43,6 +44,7 @@ fn cut_sets(
 ) -> usize
     requires { ⌜ ((b : List ℕ) × Looked1 (lent b (now objects) (now links) (now counts)) table opened (now walk) (now cuts)) ⌝ }
     ensures { λ r. ⌜ Places1 (now (objects .entry)) (now (links .entry)) (now (counts .entry)) table opened (now (walk .entry)) (now (cuts .entry)) (now (cuts .exit)) r ⌝ }
+    ensures { λ _. ⌜ Tells1 (now (objects .entry)) (now (links .entry)) (now (counts .entry)) table opened (now (walk .entry)) (now (cuts .entry)) (now (walk .exit)) ⌝ }
 {
     let coverage = opened.coverage;
     let info = info_of(objects, table, opened, coverage.object);
@@ -85,6 +87,7 @@ fn cut_rows(
 ) -> usize
     requires { ⌜ ((b : List ℕ) × Looked2 (lent b (now objects) (now links) (now counts)) table opened (now glyphs) (now classes) (now walk) (now «glyph_set») (now cuts)) ⌝ }
     ensures { λ r. ⌜ Places2 (now (objects .entry)) (now (links .entry)) (now (counts .entry)) table opened (now (glyphs .entry)) (now (classes .entry)) (now (walk .entry)) (now («glyph_set» .entry)) (now (cuts .entry)) (now (cuts .exit)) r ⌝ }
+    ensures { λ _. ⌜ Tells2 (now (objects .entry)) (now (links .entry)) (now (counts .entry)) table opened (now (glyphs .entry)) (now (classes .entry)) (now (walk .entry)) (now («glyph_set» .entry)) (now (cuts .entry)) (now (walk .exit)) ⌝ }
 {
     let class2 = opened.class2;
     let info = info_of(objects, table, opened, class2.object);
@@ -119,6 +122,7 @@ fn cut_by_class(
     requires { ⌜ Looked (lent (now «data») (now objects) (now links) (now counts)) table opened (now walk) (now «glyph_set») (now glyphs) (now classes) (now cuts) ⌝ }
     requires { ⌜ (opened .layout .format ≡ 1 → ⊥) ⌝ }
     ensures { λ r. ⌜ CutsByClass (lent (now («data» .entry)) (now (objects .entry)) (now (links .entry)) (now (counts .entry))) table (now (glyphs .entry)) (now (classes .entry)) (now (cuts .entry)) (now (glyphs .exit)) (now (classes .exit)) (now (cuts .exit)) r ⌝ }
+    ensures { λ _. ⌜ TellsCycle (lent (now («data» .entry)) (now (objects .entry)) (now (links .entry)) (now (counts .entry))) table (now (walk .exit)) ⌝ }
 {
     let count = opened.glyphs;
     gather(
@@ -142,7 +146,7 @@ fn cut_by_class(
     )
 }
 
-// The cut places, at the front of `cuts`, and how many there are.
+// The cut places, at the front of `cuts`, and how many there are. The table then has a mark exactly if it can be reached from itself.
 pub fn cut_table(
     data: &[u8],
     objects: &[u32],
@@ -158,6 +162,7 @@ pub fn cut_table(
 ) -> usize
     requires { ⌜ Looked (lent (now «data») (now objects) (now links) (now counts)) table opened (now walk) (now «glyph_set») (now glyphs) (now classes) (now cuts) ⌝ }
     ensures { λ r. ⌜ CutsTable (lent (now («data» .entry)) (now (objects .entry)) (now (links .entry)) (now (counts .entry))) table opened (now (glyphs .entry)) (now (classes .entry)) (now (cuts .entry)) (now (glyphs .exit)) (now (classes .exit)) (now (cuts .exit)) r ⌝ }
+    ensures { λ _. ⌜ TellsCycle (lent (now («data» .entry)) (now (objects .entry)) (now (links .entry)) (now (counts .entry))) table (now (walk .exit)) ⌝ }
 {
     let layout = opened.layout;
     if layout.format == 1 {

@@ -12,16 +12,18 @@ use rules::number_of;
 use scratch::Lengths;
 use scratch::clear_scratch;
 use scratch::is_short;
-use walk::on_cycle;
 use walk::prepare;
+use walk::walk_before;
 ghost use mathlib.Core.Path.{_≡_};
 ghost use mathlib.Core.List.{List};
-ghost use Prim.Native.Nat.{ℕ, _≤_};
-ghost use lib.ListN.{length};
+ghost use Prim.Native.Nat.{ℕ, _*_, _≤_};
+ghost use lib.ListN.{length, getD};
 ghost use Rattle.folds.specs.Lists.{put};
 ghost use Rattle.rules.specs.Store.{lent};
 ghost use Rattle.rules.specs.Answers.{scratchOf, outcome, planCall};
 ghost use Rattle.checks.specs.Checked.{checkedOf};
+ghost use Rattle.checks.proofs.Refusals.{Opens};
+ghost use Rattle.walk.specs.Marks.{Begun};
 ghost use Rattle.plan.specs.Called.{lengthsOf, lentBy, calledOf};
 ghost use Rattle.plan.specs.Decided.{Decided, handed, handedOut, HandingOut};
 
@@ -76,7 +78,25 @@ fn check_call(
     }
 }
 
-// The rest of check 7, and the cut places. The scratch may hold anything.
+// Walks what the links of the table's header lead to. The scratch may hold anything.
+fn begin_walk(
+    objects: &[u32],
+    links: &[u32],
+    counts: &[u32; 3],
+    table: u32,
+    opened: PairTable,
+    walk: &mut [u32],
+)
+    requires { ⌜ ((b : List ℕ) × Opens (lent b (now objects) (now links) (now counts)) table opened) ⌝ }
+    requires { ⌜ 2 * getD (now counts) 1 0 ≤ length (now walk) ⌝ }
+    ensures { λ _. ⌜ ((b : List ℕ) → Begun (lent b (now (objects .entry)) (now (links .entry)) (now (counts .entry))) table (opened .layout .header) (now (walk .exit))) ⌝ }
+{
+    let layout = opened.layout;
+    prepare(links, counts, walk);
+    walk_before(objects, links, counts, table, layout.header as u32, walk);
+}
+
+// The cut places, and the rest of check 7: what finds them has walked all that the table leads to. The scratch may hold anything.
 fn decide_cuts(
     data: &[u8],
     objects: &[u32],
@@ -93,10 +113,7 @@ fn decide_cuts(
     requires { ⌜ calledOf (lent (now «data») (now objects) (now links) (now counts)) table (lengthsOf (scratchOf (now walk) (now «glyph_set») (now glyphs) (now classes) (now cuts))) ≡ Checked.Open opened ⌝ }
     ensures { λ r. ⌜ Decided (lent (now («data» .entry)) (now (objects .entry)) (now (links .entry)) (now (counts .entry))) table (scratchOf (now (walk .entry)) (now («glyph_set» .entry)) (now (glyphs .entry)) (now (classes .entry)) (now (cuts .entry))) r (now (glyphs .exit)) (now (classes .exit)) (now (cuts .exit)) ⌝ }
 {
-    prepare(links, counts, walk);
-    if on_cycle(objects, links, counts, table, 1, walk) {
-        return Decision::Refused(Answer::BadLinks);
-    }
+    begin_walk(objects, links, counts, table, opened, walk);
     let count = cut_table(
         data,
         objects,
@@ -110,6 +127,9 @@ fn decide_cuts(
         classes,
         cuts,
     );
+    if walk[table as usize] != 0 {
+        return Decision::Refused(Answer::BadLinks);
+    }
     Decision::Cut(Plan {
         table: opened,
         cuts: count,

@@ -26,10 +26,10 @@ use Rattle.split_points.specs.declared.classes.Classes.{Classes}
 use Rattle.split_points.specs.declared.format2.Rows.{Rows}
 use Rattle.split_points.specs.Filling.{Fills, Weighed, Listed}
 use Rattle.split_points.specs.Measuring.{Measures}
-use Rattle.split_points.specs.Filled.{Described, cuttingAt, Placed}
+use Rattle.split_points.specs.Filled.{Described, cuttingAt, TellsCycle, Placed}
 use Rattle.split_points.specs.Classes.{Holds, Begins}
 use Rattle.split_points.specs.Format2.{Ready2, Below2}
-use Rattle.split_points.proofs.Turns.{item-ends, filled-start, filled-stop, added, cut}
+use Rattle.split_points.proofs.Turns.{item-ends, filled-start, filled-stop, filled-back, added, cut}
 
 -- ---- the rule of a table of format 2
 
@@ -136,6 +136,9 @@ module _ {s : Store} {x : TableInfo} {gs cs d : List ℕ} {i : ℕ} {p : Rows} {
 
 pub rows-stop : {s : Store} {x : TableInfo} {gs cs d : List ℕ} {i : ℕ} {p : Rows} {w set l : List ℕ} → Below2 s x gs cs d i p w set l → i ≡ x .count → Placed s (x .table) d l (p .filling .cuts)
 rows-stop v e = filled-stop (v .table .described) (v .filled) e
+
+pub rows-back : {s : Store} {x : TableInfo} {gs cs d : List ℕ} {i : ℕ} {p : Rows} {w set l : List ℕ} → Below2 s x gs cs d i p w set l → i ≡ x .count → TellsCycle s (x .table) w
+rows-back v e = filled-back (v .table .described) (v .filled) e
 
 -- ---- the loop, whatever the bytes of the store
 

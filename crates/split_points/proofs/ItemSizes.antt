@@ -12,6 +12,7 @@ use Rattle.object_store.proofs.Rows.{in-order, rows-rise}
 use Rattle.walk.specs.Marks.{Walked}
 use Rattle.walk.proofs.Marks.{marks-next}
 use Rattle.walk.proofs.Items.{items, items-none, ItemRows, item-size, item-seen}
+use Rattle.walk.proofs.Cycles.{item-back}
 use Rattle.split_points.specs.Measuring.{At, Measures}
 
 module _ {s : Store} {t : ℕ} {sh : Shape} {a i row e : ℕ} {w : List ℕ} (x : At s t sh a i row e w) where
@@ -34,9 +35,20 @@ module _ {s : Store} {t : ℕ} {sh : Shape} {a i row e : ℕ} {w : List ℕ} (x 
         record {
           size = item-size at-fits item-rows (x .order) (x .marks) d;
           most = d .most;
-          later = rows-rise (x .first) (item-rows .next) (omega (arith, items-rise sh i (i + 1) (omega arith)));
-          after = record { is-sound = x .is-sound; order = omega (arith, x .order); first = item-rows .next; marks = item-seen at-fits item-rows (x .order) (x .marks) d };
+          later = later;
+          after = record {
+            is-sound = x .is-sound;
+            order = omega (arith, x .order);
+            first = item-rows .next;
+            marks = item-seen at-fits item-rows (x .order) (x .marks) d;
+            used = x .used;
+            begun = x .begun;
+            back = item-back at-fits item-rows (x .used) (x .begun) a (omega (arith, x .marks .room)) later d (x .back);
+          };
         }
+      where
+        later : row ≤ next
+        later = rows-rise (x .first) (item-rows .next) (omega (arith, items-rise sh i (i + 1) (omega arith)))
 
   -- a cut before item i: the next epoch, in which nothing counts as seen
   pub at-cut : At s t sh i i row (e + 1) w
@@ -46,4 +58,7 @@ module _ {s : Store} {t : ℕ} {sh : Shape} {a i row e : ℕ} {w : List ℕ} (x 
         order = omega arith;
         first = x .first;
         marks = marks-next at-fits (x .marks) (λ k h. items-none s t sh i k);
+        used = x .used;
+        begun = omega arith;
+        back = x .back;
       }

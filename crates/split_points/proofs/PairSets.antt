@@ -33,10 +33,10 @@ use Rattle.split_points.specs.declared.«table_info».TableInfo.{TableIn
 use Rattle.split_points.specs.declared.format1.Sets.{Sets}
 use Rattle.split_points.specs.Filling.{Fills, Weighed, Listed}
 use Rattle.split_points.specs.Measuring.{At, Measures}
-use Rattle.split_points.specs.Filled.{cuttingAt, Filled, Placed}
+use Rattle.split_points.specs.Filled.{cuttingAt, Filled, TellsCycle, Placed}
 use Rattle.split_points.specs.Format1.{Ready1, linked, Below1}
 use Rattle.split_points.proofs.ItemSizes.{at-fits, at-in-order}
-use Rattle.split_points.proofs.Turns.{item-ends, filled-start, filled-stop, passed, added, cut}
+use Rattle.split_points.proofs.Turns.{item-ends, filled-start, filled-stop, filled-back, passed, added, cut}
 
 -- ---- the rule of a table of format 1
 
@@ -188,6 +188,9 @@ module _ {s : Store} {x : TableInfo} {d : List ℕ} {i : ℕ} {p : Sets} {w l : 
 
 pub sets-stop : {s : Store} {x : TableInfo} {d : List ℕ} {i : ℕ} {p : Sets} {w l : List ℕ} → Below1 s x d i p w l → i ≡ x .count → Placed s (x .table) d l (p .filling .cuts)
 sets-stop v e = filled-stop (v .table .described) (v .filled) e
+
+pub sets-back : {s : Store} {x : TableInfo} {d : List ℕ} {i : ℕ} {p : Sets} {w l : List ℕ} → Below1 s x d i p w l → i ≡ x .count → TellsCycle s (x .table) w
+sets-back v e = filled-back (v .table .described) (v .filled) e
 
 -- ---- the loop, whatever the bytes of the store
 

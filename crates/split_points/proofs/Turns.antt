@@ -6,13 +6,14 @@ use mathlib.Core.List.{List, [], _∷_}
 use native.Mathlib.Numerals.{add-one}
 use native.Mathlib.Omega.{arith}
 use lib.ListN.{length, length-append}
-use borrow.Author.Tests.{ltb-false}
+use borrow.Author.Tests.{ltb-false, eqb-true}
 use Rattle.folds.specs.Lists.{put}
 use Rattle.folds.proofs.Tests.{by-test}
 use Rattle.folds.proofs.Put.{put-nil, length-put}
 use Rattle.opentype.specs.PairPos.{itemAt}
 use Rattle.opentype.proofs.Shapes.{items-rise}
-use Rattle.rules.specs.Store.{Store}
+use Rattle.rules.specs.Store.{Store, linkAt, parentOf, sizeOf}
+use Rattle.rules.specs.Walk.{ofTable}
 use Rattle.rules.specs.Cuts.{Rule, Cutting, exceeds, cutHere, goOn, weigh, step, after, cutsOf}
 use Rattle.rules.specs.Table.{shape, ruleOf, cutPlaces}
 use Rattle.rules.proofs.Sound.{Fits, sound-fits, size-bytes}
@@ -20,12 +21,13 @@ use Rattle.rules.proofs.CutPlaces.{rule-count}
 use Rattle.object_store.specs.Rows.{keyOf, FirstRow}
 use Rattle.walk.proofs.Marks.{marks-same}
 use Rattle.walk.proofs.Items.{items-none}
+use Rattle.walk.proofs.Cycles.{back-all}
 use Rattle.split_points.specs.declared.filling.Filling.{Filling}
 use Rattle.split_points.specs.declared.measuring.Measured.{Measured}
 use Rattle.split_points.specs.declared.«table_info».TableInfo.{TableInfo}
 use Rattle.split_points.specs.Filling.{Fills, Listed}
 use Rattle.split_points.specs.Measuring.{Measures}
-use Rattle.split_points.specs.Filled.{Described, Unseen, cuttingAt, Filled, Placed}
+use Rattle.split_points.specs.Filled.{Described, Unseen, cuttingAt, Filled, TellsCycle, Placed}
 use Rattle.split_points.proofs.ItemSizes.{at-cut}
 
 -- ---- document 01's step
@@ -87,6 +89,9 @@ module _ {s : Store} {x : TableInfo} (u : Described s x) where
           order = omega arith;
           first = subst (λ (q : ℕ). FirstRow (s .links) (s .linkCount) (keyOf (x .table) q) row) e g;
           marks = rw y at (marks-same fits (n .marks) (λ k l. sym (items-none s (x .table) (shape s (x .table)) 0 k)));
+          used = u .used;
+          begun = omega (arith, n .begun);
+          back = n .back row (subst (λ (q : ℕ). FirstRow (s .links) (s .linkCount) (keyOf (x .table) q) row) (h ∙ sym (u .header)) g);
         };
         first = omega arith;
         few = omega arith;
@@ -186,3 +191,15 @@ pub filled-stop : {s : Store} {x : TableInfo} {d : List ℕ} {i : ℕ} {f : Fill
 filled-stop {s} {x} {d} {i} {f} {row} {w} {l} u v e =
     let q : after (ruleOf s (x .table)) i .cuts ≡ cutPlaces s (x .table) = all-in s (x .table) i (e ∙ u .count ∙ sym (rule-count s (x .table))) in
     record { count = v .listed .fills .cuts ∙ ap length q; places = v .listed .listed ∙ ap (put d 0) q }
+
+-- all of the table's rows have been walked
+pub filled-back : {s : Store} {x : TableInfo} {d : List ℕ} {i : ℕ} {c : Cutting} {f : Filling} {row : ℕ} {w l : List ℕ} → Described s x → Filled s x d i c f row w l → i ≡ x .count → TellsCycle s (x .table) w
+filled-back {s} {x} {i = i} {row = row} {w = w} u v e = record { tells = back-all w (fits u) (u .used) all (v .at .back) }
+  where
+    all : (k : ℕ) → k < s .linkCount → ofTable (x .table) (linkAt s k) ≡ true → k < row
+    all k h own =
+        let parent : parentOf s k ≡ x .table = eqb-true (parentOf s k) (x .table) own in
+        let end : itemAt (shape s (x .table)) i ≡ sizeOf s (x .table) = ap (itemAt (shape s (x .table))) (e ∙ u .count) ∙ sym (u .exactly) ∙ size-bytes s (fits u) (x .table) (u .used) in
+        let inside = fits u .link k h .inside in
+        let past : row ≤ k → ⊥ = λ z. omega (arith, v .at .first .above k z h, inside, ap (sizeOf s) parent) in
+        omega arith

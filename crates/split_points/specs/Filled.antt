@@ -3,13 +3,16 @@ use Prim.Native.Nat.{ℕ, _+_, _≤_, _<_}
 use mathlib.Core.Path.{_≡_}
 use mathlib.Core.Bool.{true}
 use mathlib.Core.List.{List}
-use lib.ListN.{length}
+use lib.Dec.{ltb}
+use lib.ListN.{length, getD}
 use Rattle.folds.specs.Lists.{put}
 use Rattle.opentype.specs.PairPos.{itemAt}
 use Rattle.rules.specs.Store.{Store, sound, bytesOf}
 use Rattle.rules.specs.Cuts.{Cutting, after}
 use Rattle.rules.specs.Table.{shape, ruleOf, cutPlaces}
-use Rattle.walk.specs.Marks.{noRow, Marks}
+use Rattle.rules.specs.Walk.{onCycle}
+use Rattle.object_store.specs.Rows.{keyOf, FirstRow}
+use Rattle.walk.specs.Marks.{noRow, Back, Marks}
 use Rattle.split_points.specs.declared.filling.Filling.{Filling}
 use Rattle.split_points.specs.declared.«table_info».TableInfo.{TableInfo}
 use Rattle.split_points.specs.Filling.{Listed}
@@ -26,9 +29,12 @@ pub record Described (s : Store) (x : TableInfo) : Type 0 where
   -- an epoch for each table that may come
   pub epochs : x .epoch + x .count < 2147483648
 
--- before the first item: nothing counts as seen, and there is an entry for each cut
+-- before the first item: nothing counts as seen, the table has a mark exactly if the links of its header lead back to it, and there is an entry for
+-- each cut
 pub record Unseen (s : Store) (x : TableInfo) (w l : List ℕ) : Type 0 where
   pub marks : Marks s noRow (x .epoch) w
+  pub begun : 0 < x .epoch
+  pub back : (row : ℕ) → FirstRow (s .links) (s .linkCount) (keyOf (x .table) (x .header)) row → Back s (x .table) row w
   pub room : x .count ≤ length l
 
 -- where document 01 stands once the items below i have been weighed
@@ -44,6 +50,10 @@ pub record Filled (s : Store) (x : TableInfo) (d : List ℕ) (i : ℕ) (c : Cutt
   -- a header and an item at most, as a sum that goes on stays within 65,535
   pub small : f .sum ≤ 67108864
   pub room : x .count ≤ length d
+
+-- after the last item: the table has a mark exactly if it can be reached from itself
+pub record TellsCycle (s : Store) (t : ℕ) (w : List ℕ) : Type 0 where
+  pub tells : ltb 0 (getD w t 0) ≡ onCycle s t
 
 -- the cut places stand at the front of the lent list, which came as d, and r is how many there are
 pub record Placed (s : Store) (t : ℕ) (d l : List ℕ) (r : ℕ) : Type 0 where

@@ -11,7 +11,7 @@ use Rattle.rules.specs.Store.{Store, lent, sizeOf, childAt}
 use Rattle.rules.specs.Table.{shape, linkedAt, allAtSlots}
 use Rattle.split_points.specs.declared.«table_info».TableInfo.{TableInfo}
 use Rattle.split_points.specs.declared.format1.Sets.{Sets}
-use Rattle.split_points.specs.Filled.{Described, Unseen, cuttingAt, Filled, Placed}
+use Rattle.split_points.specs.Filled.{Described, Unseen, cuttingAt, Filled, TellsCycle, Placed}
 
 -- the table is of format 1, and its links stand at slots
 pub record Table1 (s : Store) (x : TableInfo) : Type 0 where
@@ -42,3 +42,7 @@ Weighs1 o l c x i p w cuts p′ w′ cuts′ = (b d : List ℕ) → Below1 (lent
 -- all were
 abbrev pub Places1 : List ℕ → List ℕ → List ℕ → TableInfo → List ℕ → List ℕ → List ℕ → ℕ → Type 0
 Places1 o l c x w cuts cuts′ r = (b : List ℕ) → Ready1 (lent b o l c) x w cuts → Placed (lent b o l c) (x .table) cuts cuts′ r
+
+-- and then the walk tells of a cycle
+abbrev pub Tells1 : List ℕ → List ℕ → List ℕ → TableInfo → List ℕ → List ℕ → List ℕ → Type 0
+Tells1 o l c x w cuts w′ = (b : List ℕ) → Ready1 (lent b o l c) x w cuts → TellsCycle (lent b o l c) (x .table) w′

@@ -10,7 +10,7 @@ use Rattle.rules.specs.Table.{shape, linkedAt, entriesOf}
 use Rattle.glyph_set.proofs.Emptied.{Empty}
 use Rattle.split_points.specs.declared.«table_info».TableInfo.{TableInfo}
 use Rattle.split_points.specs.declared.format2.Rows.{Rows}
-use Rattle.split_points.specs.Filled.{Described, Unseen, cuttingAt, Filled, Placed}
+use Rattle.split_points.specs.Filled.{Described, Unseen, cuttingAt, Filled, TellsCycle, Placed}
 use Rattle.split_points.specs.Classes.{Ordered, Holds}
 
 -- the table is of format 2, and the glyphs are those that it covers, by class
@@ -41,3 +41,7 @@ Weighs2 o l c x gs cs i p w set cuts p′ w′ set′ cuts′ =
 -- all were
 abbrev pub Places2 : List ℕ → List ℕ → List ℕ → TableInfo → List ℕ → List ℕ → List ℕ → List ℕ → List ℕ → List ℕ → ℕ → Type 0
 Places2 o l c x gs cs w set cuts cuts′ r = (b : List ℕ) → Ready2 (lent b o l c) x gs cs w set cuts → Placed (lent b o l c) (x .table) cuts cuts′ r
+
+-- and then the walk tells of a cycle
+abbrev pub Tells2 : List ℕ → List ℕ → List ℕ → TableInfo → List ℕ → List ℕ → List ℕ → List ℕ → List ℕ → List ℕ → Type 0
+Tells2 o l c x gs cs w set cuts w′ = (b : List ℕ) → Ready2 (lent b o l c) x gs cs w set cuts → TellsCycle (lent b o l c) (x .table) w′

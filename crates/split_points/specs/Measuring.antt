@@ -1,5 +1,5 @@
 -- The items of a table measured one after another: where their link rows start, and what counts as seen. Assumes nothing.
-use Prim.Native.Nat.{ℕ, _+_, _≤_}
+use Prim.Native.Nat.{ℕ, _+_, _≤_, _<_}
 use mathlib.Core.Path.{_≡_}
 use mathlib.Core.Bool.{true}
 use mathlib.Core.List.{List}
@@ -7,15 +7,19 @@ use Rattle.opentype.specs.PairPos.{Shape, itemAt}
 use Rattle.rules.specs.Store.{Store, lent, linkAt, sound}
 use Rattle.rules.specs.Walk.{ofItems, itemSize}
 use Rattle.object_store.specs.Rows.{keyOf, FirstRow}
-use Rattle.walk.specs.Marks.{Marks}
+use Rattle.walk.specs.Marks.{Back, Marks}
 use Rattle.split_points.specs.declared.measuring.Measured.{Measured}
 
--- before item i of table t: its link rows start at `row`, and what the items from a on reach has the epoch's mark
+-- before item i of table t: its link rows start at `row`, what the items from a on reach has the epoch's mark, and the table itself has one exactly if
+-- its rows so far lead back to it
 pub record At (s : Store) (t : ℕ) (sh : Shape) (a i row epoch : ℕ) (w : List ℕ) : Type 0 where
   pub is-sound : sound s ≡ true
   pub order : a ≤ i
   pub first : FirstRow (s .links) (s .linkCount) (keyOf t (itemAt sh i)) row
   pub marks : Marks s (λ k. ofItems t sh a i (linkAt s k)) epoch w
+  pub used : t < s .objectCount
+  pub begun : 0 < epoch
+  pub back : Back s t row w
 
 -- item i was measured: its size is S(i) where objects count as seen from item a on, and the next item is at hand
 pub record Measures (s : Store) (t : ℕ) (sh : Shape) (a i row epoch : ℕ) (w : List ℕ) (m : Measured) (w′ : List ℕ) : Type 0 where

@@ -7,7 +7,7 @@ ghost use mathlib.Core.Path.{_≡_};
 ghost use mathlib.Core.List.{List};
 ghost use Prim.Native.Nat.{ℕ, _<_, min};
 ghost use Rattle.rules.specs.Store.{lent};
-ghost use Rattle.split_points.specs.Format1.{Ready1, Below1, Weighs1, Places1};
+ghost use Rattle.split_points.specs.Format1.{Ready1, Below1, Weighs1, Places1, Tells1};
 
 // The table that is being filled, the row at which the next pair set's link stands or would stand, and the length of the coverage of the
 // pair sets in the table.
@@ -28,6 +28,7 @@ pub fn compute_format1_split_points(
 ) -> usize
     requires { ⌜ ((b : List ℕ) × Ready1 (lent b (now objects) (now links) (now counts)) info (now walk) (now cuts)) ⌝ }
     ensures { λ r. ⌜ Places1 (now (objects .entry)) (now (links .entry)) (now (counts .entry)) info (now (walk .entry)) (now (cuts .entry)) (now (cuts .exit)) r ⌝ }
+    ensures { λ _. ⌜ Tells1 (now (objects .entry)) (now (links .entry)) (now (counts .entry)) info (now (walk .entry)) (now (cuts .entry)) (now (walk .exit)) ⌝ }
 {
     let count = counts[2] as usize;
     let mut sets = Sets {

@@ -7,7 +7,7 @@ use object_store::first_row;
 ghost use mathlib.Core.List.{List};
 ghost use Prim.Native.Nat.{ℕ, _<_};
 ghost use Rattle.rules.specs.Store.{lent};
-ghost use Rattle.split_points.specs.Format2.{Ready2, Below2, Weighs2, Places2};
+ghost use Rattle.split_points.specs.Format2.{Ready2, Below2, Weighs2, Places2, Tells2};
 
 // The table that is being filled, the link row at which the next class-1 row's links start, and the classes of the rows in the table.
 pub struct Rows {
@@ -30,6 +30,7 @@ pub fn compute_format2_split_points(
 ) -> usize
     requires { ⌜ ((b : List ℕ) × Ready2 (lent b (now objects) (now links) (now counts)) info (now glyphs) (now classes) (now walk) (now set) (now cuts)) ⌝ }
     ensures { λ r. ⌜ Places2 (now (objects .entry)) (now (links .entry)) (now (counts .entry)) info (now (glyphs .entry)) (now (classes .entry)) (now (walk .entry)) (now (set .entry)) (now (cuts .entry)) (now (cuts .exit)) r ⌝ }
+    ensures { λ _. ⌜ Tells2 (now (objects .entry)) (now (links .entry)) (now (counts .entry)) info (now (glyphs .entry)) (now (classes .entry)) (now (walk .entry)) (now (set .entry)) (now (cuts .entry)) (now (walk .exit)) ⌝ }
 {
     let count = counts[2] as usize;
     let mut rows = Rows {

@@ -1,4 +1,4 @@
--- A sound store can be walked, once and again. Assumes nothing.
+-- A sound store can be walked. Assumes nothing.
 use Prim.Native.Nat.{ℕ, _*_, _≤_}
 use mathlib.Core.Path.{_≡_, refl, sym, _∙_}
 use mathlib.Core.Bool.{Bool, true, false, not}
@@ -9,9 +9,7 @@ use Rattle.object_store.specs.Rows.{InOrder}
 use Rattle.object_store.proofs.Rows.{in-order}
 use Rattle.rules.specs.Store.{lent, sound}
 use Rattle.rules.proofs.Sound.{Fits, sound-fits}
-use Rattle.walk.specs.Marks.{noRow, Marks, Blank, Prepared, Ready, Looked}
-use Rattle.walk.proofs.Marks.{marks-next}
-use Rattle.walk.proofs.Cycles.{marks-looked}
+use Rattle.walk.specs.Marks.{noRow, Blank, Prepared, Ready}
 use Rattle.store_runs.specs.Looks.{Looks}
 
 module _ {o l c w : List ℕ} (p : Looks o l c w) where
@@ -27,15 +25,8 @@ module _ {o l c w : List ℕ} (p : Looks o l c w) where
   pub blank : Blank l c w
   blank = record { bytes = p .bytes; objects = o; is-sound = p .is-sound; room = p .room }
 
-  module _ {z : List ℕ} (q : Prepared l c z) where
-    first : Marks (lent (p .bytes) o l c) noRow 1 z
-    first = q (p .bytes) o (p .is-sound)
-
-    pub first-ready : Ready o l c noRow 1 z
-    first-ready = record { bytes = p .bytes; is-sound = p .is-sound; marks = first; early = omega arith }
-
-    pub then-ready : {z′ : List ℕ} {r : Bool} → Looked (lent (p .bytes) o l c) 0 1 z z′ r → Ready o l c noRow 2 z′
-    then-ready d = record { bytes = p .bytes; is-sound = p .is-sound; marks = marks-next fits (marks-looked fits first d) (λ k h. refl); early = omega arith }
+  pub ready : {z : List ℕ} → Prepared l c z → Ready o l c noRow 1 z
+  ready q = record { bytes = p .bytes; is-sound = p .is-sound; marks = q (p .bytes) o (p .is-sound); early = omega arith }
 
 is-true : (b : Bool) → not b ≡ false → b ≡ true
 is-true true h = refl

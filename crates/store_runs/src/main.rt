@@ -2,7 +2,6 @@
 use libc::STDOUT_FILENO;
 use object_store::first_row;
 use object_store::is_sound;
-use walk::on_cycle;
 use walk::prepare;
 use walk::subgraph_size;
 ghost use Rattle.store_runs.specs.Looks.{Looks};
@@ -115,19 +114,18 @@ fn print(what: &[u8], r: Report) {
     io::write_all(STDOUT_FILENO, b" bytes\n");
 }
 
-// The walk from object 0 of a sound store: for a way back, then for its size.
+// The walk from object 0 of a sound store: it has a mark then if there is a way back.
 fn walk_from_first(objects: &[u32], links: &[u32], counts: &[u32; 3], walk: &mut [u32]) -> Report
     requires { ⌜ Looks (now objects) (now links) (now counts) (now walk) ⌝ }
 {
     prepare(links, counts, walk);
-    let cycle = on_cycle(objects, links, counts, 0, 1, walk);
     let count = counts[2] as usize;
     let first = first_row(links, count, 0, 0);
     let after = first_row(links, count, 1, 0);
-    let reach = subgraph_size(objects, links, counts, first, after, 2, walk);
+    let reach = subgraph_size(objects, links, counts, first, after, 1, walk);
     Report {
         sound: 1,
-        cycle: cycle as u64,
+        cycle: (walk[0] != 0) as u64,
         reach,
     }
 }

@@ -59,7 +59,7 @@ pub record ItemRows (s : Store) (t : ℕ) (sh : Shape) (i lo hi : ℕ) : Type 0 
   pub short : itemAt sh (i + 1) ≤ 4294967296
 
 module _ {s : Store} {t : ℕ} {sh : Shape} {i lo hi : ℕ} (f : Fits s) (r : ItemRows s t sh i lo hi) where
-  item-rows : (k : ℕ) → k < s .linkCount → between lo hi k ≡ items s t sh i (i + 1) k
+  pub item-rows : (k : ℕ) → k < s .linkCount → between lo hi k ≡ items s t sh i (i + 1) k
   item-rows k h = rows-between t (itemAt sh i) (itemAt sh (i + 1)) (r .first) (r .next) (r .short) k h (omega (arith, position-most s f k h))
 
   module _ {a e : ℕ} {w : List ℕ} (from : a ≤ i) (v : Marks s (items s t sh a i) e w) where

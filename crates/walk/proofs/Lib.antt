@@ -1,5 +1,5 @@
 pub mod Ends
 pub mod Turns
 pub mod Marks
-pub mod Cycles
 pub mod Items
+pub mod Cycles

@@ -8,7 +8,7 @@ use mathlib.Core.Path.{_≡_}
 use lib.Dec.{leb, ltb, eqb}
 use lib.ListN.{length, getD, set}
 use Rattle.rules.specs.Store.{Store, lent, perLink, linkAt, sound}
-use Rattle.rules.specs.Walk.{marked, reached, reachSize, ofTable, onCycle}
+use Rattle.rules.specs.Walk.{marked, reached, reachSize, ofTable}
 use Rattle.object_store.specs.Rows.{keyOf, FirstRow}
 
 -- row k is one of those from lo up to hi, hi left out
@@ -76,7 +76,15 @@ pub record Walked (s : Store) (from : ℕ → Bool) (lo hi e : ℕ) (w w′ : Li
 abbrev pub Walks : List ℕ → List ℕ → List ℕ → ℕ → ℕ → ℕ → List ℕ → List ℕ → ℕ → Type 0
 Walks o l c lo hi e w w′ r = (b : List ℕ) (from : ℕ → Bool) → Marks (lent b o l c) from e w → Walked (lent b o l c) from lo hi e w w′ r
 
--- after the look for a way from table t back to it: what it reaches has the mark
-pub record Looked (s : Store) (t e : ℕ) (w w′ : List ℕ) (r : Bool) : Type 0 where
-  pub answer : r ≡ onCycle s t
-  pub walk : w′ ≡ stamp e (reached s (λ k. ofTable t (linkAt s k))) w (s .objectCount)
+-- row k is table t's own, and stands before row `row`
+abbrev pub ownBefore : Store → ℕ → ℕ → ℕ → Bool
+ownBefore s t row k = ofTable t (linkAt s k) && ltb k row
+
+-- table t has a mark, of whatever epoch, exactly if its own rows before `row` lead back to it
+abbrev pub Back : Store → ℕ → ℕ → List ℕ → Type 0
+Back s t row w = ltb 0 (getD w t 0) ≡ marked (reached s (ownBefore s t row)) t
+
+-- after the walk of table t's links before position q: a later epoch has seen nothing yet
+pub record Begun (s : Store) (t q : ℕ) (w : List ℕ) : Type 0 where
+  pub marks : Marks s noRow 2 w
+  pub back : (row : ℕ) → FirstRow (s .links) (s .linkCount) (keyOf t q) row → Back s t row w

@@ -1,5 +1,6 @@
 // What can be reached along the link rows of a sound store: how many bytes it has, each object counted once, and whether a table is among it.
 use buffers::clear_u32;
+use object_store::next_row;
 ghost use Prim.Native.Nat.{ℕ, _+_, _≤_, _<_};
 ghost use mathlib.Core.Bool.{Bool};
 ghost use mathlib.Core.Path.{_≡_};
@@ -7,7 +8,7 @@ ghost use mathlib.Core.List.{List};
 ghost use lib.ListN.{length, getD, replicate};
 ghost use Rattle.folds.specs.Folds.{before};
 ghost use Rattle.rules.specs.Store.{lent};
-ghost use Rattle.walk.specs.Marks.{noRow, Blank, Lasts, Prepared, Ready, Walks, Looked};
+ghost use Rattle.walk.specs.Marks.{noRow, Blank, Lasts, Prepared, Ready, Walks, Begun};
 
 // Prepares the scratch, which may hold anything: no object has a mark, and the row where each object's rows end is at hand.
 pub fn prepare(links: &[u32], counts: &[u32; 3], walk: &mut [u32])
@@ -106,22 +107,22 @@ pub fn subgraph_size(
     }
 }
 
-// Whether `table` can be reached from itself, by one link or more. No object has the mark `epoch` yet; what `table` reaches gets it.
-pub fn on_cycle(
+// Walks what the links of `table` before position `end` lead to, in the first epoch: so that from then on, as its other links are walked, the
+// table has a mark exactly if those walked so far lead back to it.
+pub fn walk_before(
     objects: &[u32],
     links: &[u32],
     counts: &[u32; 3],
     table: u32,
-    epoch: u32,
+    end: u32,
     walk: &mut [u32],
-) -> bool
-    requires { ⌜ (table < getD (now counts) 1 0) × Ready (now objects) (now links) (now counts) noRow epoch (now walk) ⌝ }
-    ensures { λ r. ⌜ ((b : List ℕ) → Looked (lent b (now (objects .entry)) (now (links .entry)) (now (counts .entry))) table epoch (now (walk .entry)) (now (walk .exit)) r) ⌝ }
+)
+    requires { ⌜ (table < getD (now counts) 1 0) × Ready (now objects) (now links) (now counts) noRow 1 (now walk) ⌝ }
+    ensures { λ _. ⌜ ((b : List ℕ) → Begun (lent b (now (objects .entry)) (now (links .entry)) (now (counts .entry))) table end (now (walk .exit))) ⌝ }
 {
     let n = counts[1] as usize;
-    let t = table as usize;
-    let lo = first_row_of(walk, n, t) as usize;
-    let hi = walk[n + t] as usize;
-    subgraph_size(objects, links, counts, lo, hi, epoch, walk);
-    walk[t] == epoch
+    let m = counts[2] as usize;
+    let lo = first_row_of(walk, n, table as usize) as usize;
+    let hi = next_row(links, m, lo, table, end);
+    subgraph_size(objects, links, counts, lo, hi, 1, walk);
 }

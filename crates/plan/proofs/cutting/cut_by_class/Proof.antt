@@ -78,8 +78,11 @@ returns c =
     let known = fronts .before .before .before .before .before .before .before .before .before .before in
     let start = known .before in
     let kept = fronts .gather .kept .1 .1 .1 in
-    fronts-cut (start .pre .0) (start .pre .1) (kept .0) (kept .1 .0) (fronts .gather .ensures _ (start .args .counts .now) _) (λ i. omega (arith, known .shared-slice-known .given i))
-    (rows .cut-rows .ensures (start .args .«data» .now))
+    let gathered = fronts .gather .ensures (start .args .links .now) (start .args .counts .now) (start .args .table) in
+    let found = rows .cut-rows .ensures in (
+      fronts-cut (start .pre .0) (start .pre .1) (kept .0) (kept .1 .0) gathered (λ i. omega (arith, known .shared-slice-known .given i)) (found .0 (start .args .«data» .now)),
+      found .1 (start .args .«data» .now) (fronts-looked (start .pre .0) (start .pre .1) (kept .0) (kept .1 .0) gathered (λ i. omega (arith, known .shared-slice-known .given i))),
+    )
 
 pub cut-by-class-spec : {M : Type 1} → statement M
 cut-by-class-spec =

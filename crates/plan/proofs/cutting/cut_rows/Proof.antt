@@ -1,6 +1,6 @@
 -- `plan::cutting::cut_rows` meets its contract: what is asked of the table, and of its places, goes by what the checks hold, with the set emptied. Assumes nothing.
 use borrow.Author.Needs.{needs}
-use Rattle.plan.proofs.Looking.{class2-beside, rows-ready, rows-placed}
+use Rattle.plan.proofs.Looking.{class2-beside, rows-ready, rows-placed, rows-tell}
 use Rattle.plan.proofs.cutting.cut_rows.Statement.{statement}
 use Rattle.plan.proofs.cutting.cut_rows.Tie as tie
 
@@ -27,11 +27,13 @@ same-length-3 : tie.Need-same-length-3
 same-length-3 c = search needs
 
 returns : tie.Need-returns
-returns c b k =
+returns c =
     let places = c .before .before .before .before .before .before in
     let cleared = places .before .before .before .before .before .before in
     let info = cleared .before .before in
-    rows-placed k (info .info-of .ensures) (cleared .clear-u8 .ensures) (places .compute-format2-split-points .ensures b)
+    let found = places .compute-format2-split-points .ensures in
+    let empty = cleared .clear-u8 .ensures in
+    (λ b k. rows-placed k (info .info-of .ensures) empty (found .0 b), λ b k. rows-tell k (info .info-of .ensures) empty (found .1 b))
 
 pub cut-rows-spec : {M : Type 1} → statement M
 cut-rows-spec =

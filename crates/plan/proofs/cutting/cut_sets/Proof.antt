@@ -1,6 +1,6 @@
 -- `plan::cutting::cut_sets` meets its contract: what is asked of the table, and of its places, goes by what the checks hold. Assumes nothing.
 use borrow.Author.Needs.{needs}
-use Rattle.plan.proofs.Looking.{coverage-beside, sets-ready, sets-placed}
+use Rattle.plan.proofs.Looking.{coverage-beside, sets-ready, sets-placed, sets-tell}
 use Rattle.plan.proofs.cutting.cut_sets.Statement.{statement}
 use Rattle.plan.proofs.cutting.cut_sets.Tie as tie
 
@@ -20,10 +20,11 @@ same-length-2 : tie.Need-same-length-2
 same-length-2 c = search needs
 
 returns : tie.Need-returns
-returns c b k =
+returns c =
     let places = c .before .before .before .before in
     let info = places .before .before .before in
-    sets-placed k (info .info-of .ensures) (places .compute-format1-split-points .ensures b)
+    let found = places .compute-format1-split-points .ensures in
+    (λ b k. sets-placed k (info .info-of .ensures) (found .0 b), λ b k. sets-tell k (info .info-of .ensures) (found .1 b))
 
 pub cut-sets-spec : {M : Type 1} → statement M
 cut-sets-spec =

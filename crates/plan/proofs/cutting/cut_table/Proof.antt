@@ -1,5 +1,6 @@
 -- `plan::cutting::cut_table` meets its contract: the format decides. Assumes nothing.
 use borrow.Author.Needs.{needs}
+use Rattle.plan.specs.Cutting.{Looked1}
 use Rattle.plan.proofs.cutting.cut_table.Statement.{statement}
 use Rattle.plan.proofs.cutting.cut_table.Tie as tie
 
@@ -20,10 +21,11 @@ returns c =
     let format = sets .before .before .before in
     let start = format .before .before .before .before .before .before .before .before .before .before .before in
     let one = format .if1 .taken in
-    record {
-      placed = sets .cut-sets .ensures (start .args .«data» .now) (record { walked = start .pre .walked; one = one });
-      fronted = λ two. absurd (two one);
-    }
+    let looked : Looked1 _ _ _ _ _ = record { walked = start .pre .walked; one = one } in
+    let found = sets .cut-sets .ensures in (
+      record { placed = found .0 (start .args .«data» .now) looked; fronted = λ two. absurd (two one) },
+      found .1 (start .args .«data» .now) looked,
+    )
 
 cut-by-class-requires : tie.Need-cut-by-class-requires
 cut-by-class-requires c κs = search needs

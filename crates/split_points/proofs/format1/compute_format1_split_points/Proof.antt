@@ -5,7 +5,7 @@ use native.Mathlib.Omega.{arith}
 use borrow.Author.Needs.{needs}
 use Rattle.rules.proofs.Sound.{sound-fits}
 use Rattle.object_store.proofs.Rows.{in-order}
-use Rattle.split_points.proofs.PairSets.{Going1, sets-start, sets-stop}
+use Rattle.split_points.proofs.PairSets.{Going1, sets-start, sets-stop, sets-back}
 use Rattle.split_points.proofs.format1.compute_format1_split_points.Statement.{statement}
 use Rattle.split_points.proofs.format1.compute_format1_split_points.Tie as tie
 
@@ -64,7 +64,8 @@ same-length-2 c = search needs
 
 returns : tie.Need-returns Inv-loop μ-loop
 returns c =
-    λ b r. sets-stop (c .before .before .loop .inv .below b r) (search needs)
+    let below = c .before .before .loop .inv .below in
+    (λ b r. sets-stop (below b r) (search needs), λ b r. sets-back (below b r) (search needs))
 
 pub compute-format1-split-points-spec : {M : Type 1} → statement M
 compute-format1-split-points-spec =

@@ -5,7 +5,7 @@ use native.Mathlib.Omega.{arith}
 use borrow.Author.Needs.{needs}
 use Rattle.rules.proofs.Sound.{sound-fits}
 use Rattle.object_store.proofs.Rows.{in-order}
-use Rattle.split_points.proofs.ClassRows.{Going2, rows-start, rows-stop}
+use Rattle.split_points.proofs.ClassRows.{Going2, rows-start, rows-stop, rows-back}
 use Rattle.split_points.proofs.format2.compute_format2_split_points.Statement.{statement}
 use Rattle.split_points.proofs.format2.compute_format2_split_points.Tie as tie
 
@@ -72,7 +72,8 @@ same-length-3 c = search needs
 
 returns : tie.Need-returns Inv-loop μ-loop
 returns c =
-    λ b r. rows-stop (c .before .before .loop .inv .below b r) (search needs)
+    let below = c .before .before .loop .inv .below in
+    (λ b r. rows-stop (below b r) (search needs), λ b r. rows-back (below b r) (search needs))
 
 pub compute-format2-split-points-spec : {M : Type 1} → statement M
 compute-format2-split-points-spec =
