@@ -1,5 +1,5 @@
 -- A table's own rows are walked one part after another: it has a mark exactly if a way leads back to it from those that were. Assumes nothing.
-use Prim.Native.Nat.{ℕ, _+_, _*_, _≤_, _<_}
+use Prim.Native.Nat.{ℕ, _+_, _≤_, _<_}
 use mathlib.Core.Bool.{Bool, true, false, cond, _&&_}
 use mathlib.Core.List.{List}
 use mathlib.Core.Logic.{_⊎_, inl, inr, ⊎-elim}
@@ -9,7 +9,7 @@ use lib.Dec.{leb, ltb, eqb}
 use lib.ListN.{length, getD}
 use borrow.Author.Tests.{leb-true, ltb-true, eqb-true, eqb-false, le-leb, lt-ltb, le-ltb, eq-eqb, ne-eqb}
 use Rattle.folds.proofs.Agree.{both-ways}
-use Rattle.folds.proofs.Joined.{or-either, or-first, or-second}
+use Rattle.folds.proofs.Joined.{or-either, or-second}
 use Rattle.folds.proofs.Tests.{and-both, and-intro, and-first, and-second, by-test, either, true-false}
 use Rattle.opentype.specs.PairPos.{Shape, itemAt}
 use Rattle.rules.specs.Store.{Store, lent, linkAt, parentOf, positionOf}
@@ -19,7 +19,7 @@ use Rattle.rules.proofs.Reaching.{reached-bytes, reached-more, reached-same, re
 use Rattle.rules.proofs.Sound.{Fits}
 use Rattle.object_store.specs.Rows.{keyOf, FirstRow}
 use Rattle.object_store.proofs.Rows.{position-most, rows-rise}
-use Rattle.walk.specs.Marks.{between, noRow, alsoBetween, ownBefore, Back, Marks, stamp, Walked, Begun}
+use Rattle.walk.specs.Marks.{between, noRow, alsoBetween, ownBefore, Back, Marks, Walked, Begun}
 use Rattle.walk.proofs.Items.{items, ItemRows, item-rows}
 use Rattle.walk.proofs.Marks.{stamp-below, marks-after, marks-next, marks-bytes}
 

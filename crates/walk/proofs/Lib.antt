@@ -1,4 +1,5 @@
 pub mod Ends
+pub mod Stack
 pub mod Turns
 pub mod Marks
 pub mod Items

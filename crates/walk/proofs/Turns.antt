@@ -21,6 +21,7 @@ use Rattle.object_store.specs.Rows.{keyOf, FirstRow}
 use Rattle.object_store.proofs.Rows.{position-most}
 use Rattle.walk.specs.Marks.{between}
 use Rattle.walk.proofs.Ends.{zero-or}
+use Rattle.walk.proofs.Stack.{In, Stacked, Popped, stack-push, stack-pop, stack-empty}
 
 -- a store of m link rows, for what can be reached along them
 abbrev pub graph : List ℕ → ℕ → Store
@@ -57,16 +58,6 @@ found e w i = leb e (getD w i 0)
 -- object i has not the mark e: its rows are still to come, if they come at all
 abbrev pub unread : ℕ → List ℕ → ℕ → Bool
 unread e w i = not (eqb (getD w i 0) e)
-
--- i is one of the list
-unfoldable pub In : ℕ → List ℕ → Type 0
-In i [] = ⊥
-In i (x ∷ xs) = (i ≡ x) ⊎ In i xs
-
--- the stack below `top`: each object of the list, once, and in its place one more than the epoch and the `top` that it found
-unfoldable pub Stacked : ℕ → List ℕ → ℕ → List ℕ → Type 0
-Stacked e w top [] = top ≡ 0
-Stacked e w top (x ∷ xs) = (top ≡ x + 1) × (e < getD w x 0) × (In x xs → ⊥) × Stacked e w (getD w x 0 - e - 1) xs
 
 -- m link rows name objects below n, at positions of 32 bits
 pub record Used (l : List ℕ) (m n : ℕ) : Type 0 where
@@ -120,53 +111,6 @@ module _ {l : List ℕ} {m n x row stop : ℕ} (u : Used l m n) (f : FirstRow l 
       let b : stop ≤ k → ⊥ = λ z. omega (arith, g .above k z h, u .short k h) in
       omega arith
 
--- ---- the stack
-
--- no object of a stack has a number at or below the epoch
-stack-high : (e : ℕ) (w : List ℕ) (top : ℕ) (xs : List ℕ) → Stacked e w top xs → (i : ℕ) → In i xs → e < getD w i 0
-unfolding In Stacked
-stack-high e w top [] s i h = absurd h
-stack-high e w top (x ∷ xs) (a, b, d, s) i h = ⊎-elim (λ q. rw q b) (stack-high e w (getD w x 0 - e - 1) xs s i) h
-
--- a change elsewhere is none to the stack
-stack-other : (e : ℕ) (w : List ℕ) (c v top : ℕ) (xs : List ℕ) → (In c xs → ⊥) → Stacked e w top xs → Stacked e (set w c v) top xs
-unfolding In Stacked
-stack-other e w c v top [] out s = s
-stack-other e w c v top (x ∷ xs) out (a, b, d, s) =
-    let same : getD (set w c v) x 0 ≡ getD w x 0 = getD-set-other w c x v 0 (λ q. out (inl (sym q))) in
-    (a, rw same b, d, rw same (stack-other e w c v (getD w x 0 - e - 1) xs (λ h. out (inr h)) s))
-
-stack-push : (e : ℕ) (w : List ℕ) (c top : ℕ) (xs : List ℕ) → c < length w → getD w c 0 < e → Stacked e w top xs → Stacked e (set w c (e + 1 + top)) (c + 1) (c ∷ xs)
-unfolding In Stacked
-stack-push e w c top xs h low s =
-    let out : In c xs → ⊥ = λ i. omega (arith, stack-high e w top xs s c i) in
-    let here : getD (set w c (e + 1 + top)) c 0 ≡ e + 1 + top = getD-set-same w c (e + 1 + top) 0 h in
-    let next : top ≡ getD (set w c (e + 1 + top)) c 0 - e - 1 = omega arith in
-    (refl, omega arith, out, subst (λ (t : ℕ). Stacked e (set w c (e + 1 + top)) t xs) next (stack-other e w c (e + 1 + top) top xs out s))
-
-stack-empty : (e : ℕ) (w : List ℕ) (top : ℕ) (xs : List ℕ) → top ≡ 0 → Stacked e w top xs → (i : ℕ) → In i xs → ⊥
-unfolding In Stacked
-stack-empty e w top [] z s i h = h
-stack-empty e w top (x ∷ xs) z (a, b, d, s) i h = omega arith
-
--- the stack's last object, and the stack without it
-record Popped (e : ℕ) (w : List ℕ) (top : ℕ) (xs : List ℕ) : Type 0 where
-  rest : List ℕ
-  high : e < getD w (top - 1) 0
-  is-in : In (top - 1) xs
-  below : Stacked e (set w (top - 1) e) (getD w (top - 1) 0 - e - 1) rest
-  others : (i : ℕ) → In i xs → (i ≡ top - 1) ⊎ In i rest
-  fewer : (i : ℕ) → In i rest → In i xs
-
-stack-pop : (e : ℕ) (w : List ℕ) (top : ℕ) (xs : List ℕ) → 0 < top → Stacked e w top xs → Popped e w top xs
-unfolding In Stacked
-stack-pop e w top [] h s = absurd (omega arith)
-stack-pop e w top (x ∷ xs) h (a, b, d, s) =
-    let q : x ≡ top - 1 = omega arith in
-    subst (λ (y : ℕ). Popped e w top (y ∷ xs)) (sym q) record { rest = xs; high = rw (← q) b; is-in = inl refl; below = rw (← q) (stack-other e w x e (getD w x 0 - e - 1) xs d s); others = λ i z. z; fewer = λ i z. inr z }
-
--- ---- the turns
-
 module _ {o l : List ℕ} {n m lo hi e : ℕ} {w₀ : List ℕ} (latest : (i : ℕ) → i < n → getD w₀ i 0 ≤ e) where
   pub start : hi ≤ m → ((k : ℕ) → k < m → Has e w₀ (rowParent l k) → Has e w₀ (rowChild l k)) → Inv o l n m lo hi e w₀ w₀ 0 lo hi 0
   unfolding In Stacked
@@ -209,18 +153,21 @@ module _ {o l : List ℕ} {n m lo hi e : ℕ} {w₀ : List ℕ} (latest : (i : �
         past k a = ⊎-elim (λ q. inl (rw (← q) t)) (λ b. inr (omega arith)) (eq-or-lt-of-le (a .0))
 
     -- an object that can be reached and was not found goes onto the stack
-    module _ {c : ℕ} (u : Used l m n) (him : hi ≤ m) (big : 2 * n ≤ length w₀) (c< : c < n) (rc : Reach (graph l m) (between lo hi) c) (low : getD w c 0 < e) where
-      here : getD (set w c (e + 1 + top)) c 0 ≡ e + 1 + top
+    module _ {c : ℕ} (big : 2 * n ≤ length w₀) (c< : c < n) (rc : Reach (graph l m) (between lo hi) c) (low : getD w c 0 < e) where
+      abbrev marked : List ℕ
+      marked = set w c (e + 1 + top)
+
+      here : getD marked c 0 ≡ e + 1 + top
       here = getD-set-same w c (e + 1 + top) 0 (omega (arith, v .long))
 
       -- an object is c, or has the number that it had
-      at : (i : ℕ) → (i ≡ c) ⊎ (getD (set w c (e + 1 + top)) i 0 ≡ getD w i 0)
+      at : (i : ℕ) → (i ≡ c) ⊎ (getD marked i 0 ≡ getD w i 0)
       at i = elim (ℕ-discrete i c) [ yes q ↦ inl q | no d ↦ inr (getD-set-other w c i (e + 1 + top) 0 d) ]
 
-      more : (i : ℕ) → Found e w i → Found e (set w c (e + 1 + top)) i
+      more : (i : ℕ) → Found e w i → Found e marked i
       more i t = ⊎-elim (λ q. rw q (omega (arith, here))) (λ q. omega arith) (at i)
 
-      mark : Inv o l n m lo hi e w₀ (set w c (e + 1 + top)) (total + sizeAt o c) row stop (c + 1)
+      mark : Inv o l n m lo hi e w₀ marked (total + sizeAt o c) row stop (c + 1)
       unfolding In
       mark = record {
         long = simp length-set (v .long);
@@ -233,39 +180,42 @@ module _ {o l : List ℕ} {n m lo hi e : ℕ} {w₀ : List ℕ} (latest : (i : �
         only = λ i a t. ⊎-elim (λ q. inr (rw q rc)) (λ q. v .only i a (omega arith)) (at i);
         current = v .current;
         seeds = λ k a b. ⊎-elim (λ t. inl (more (rowChild l k) t)) inr (v .seeds k a b);
-        pending = λ k a t. ⊎-elim (λ q. absurd (omega (arith, here, ap (λ (i : ℕ). getD (set w c (e + 1 + top)) i 0) q))) (λ q. ⊎-elim (λ p. inl (more (rowChild l k) p)) inr (v .pending k a (sym q ∙ t))) (at (rowParent l k));
+        pending = λ k a t. ⊎-elim (λ q. absurd (omega (arith, here, ap (λ (i : ℕ). getD marked i 0) q))) (λ q. ⊎-elim (λ p. inl (more (rowChild l k) p)) inr (v .pending k a (sym q ∙ t))) (at (rowParent l k));
         outside = λ i a. getD-set-other w c i (e + 1 + top) 0 (omega arith) ∙ v .outside i a;
         total-is = omega (arith, grown, v .total-is);
       }
         where
-          same : (i : ℕ) → i < n → (i ≡ c → ⊥) → found e (set w c (e + 1 + top)) i ≡ found e w i
+          same : (i : ℕ) → i < n → (i ≡ c → ⊥) → found e marked i ≡ found e w i
           same i a d = ⊎-elim (λ q. absurd (d q)) (λ q. rw q) (at i)
 
-          grown : tally (sizeAt o) (found e (set w c (e + 1 + top))) n ≡ tally (sizeAt o) (found e w) n + sizeAt o c
+          grown : tally (sizeAt o) (found e marked) n ≡ tally (sizeAt o) (found e w) n + sizeAt o c
           grown =
-              tally-one (sizeAt o) (found e w) (found e (set w c (e + 1 + top))) c n c< (lt-leb e (getD w c 0) low)
-              (le-leb e (getD (set w c (e + 1 + top)) c 0) (omega (arith, here))) same
+              tally-one (sizeAt o) (found e w) (found e marked) c n c< (lt-leb e (getD w c 0) low)
+              (le-leb e (getD marked c 0) (omega (arith, here))) same
 
       -- it has no mark yet, as before
-      mark-unread : count (unread e (set w c (e + 1 + top))) n ≡ count (unread e w) n
+      mark-unread : count (unread e marked) n ≡ count (unread e w) n
       mark-unread =
-          tally-same (λ i. 1) (unread e (set w c (e + 1 + top))) (unread e w) n
-          (λ i a. ⊎-elim (λ q. rw q (ap not (ne-eqb (getD (set w c (e + 1 + top)) c 0) e (omega (arith, here)) ∙ sym (ne-eqb (getD w c 0) e (omega arith))))) (λ q. rw q) (at i))
+          tally-same (λ i. 1) (unread e marked) (unread e w) n
+          (λ i a. ⊎-elim (λ q. rw q (ap not (ne-eqb (getD marked c 0) e (omega (arith, here)) ∙ sym (ne-eqb (getD w c 0) e (omega arith))))) (λ q. rw q) (at i))
 
     -- the stack's last is an object
     pub top-few : Used l m n → top ≤ n
     top-few u = ⊎-elim (λ q. omega arith) (λ h. omega (arith, reach-used u (v .reaches (top - 1) (stack-pop e w top (v .stack) h (v .stacked) .is-in)))) (zero-or top)
 
     -- a row whose child was not found
-    module _ (u : Used l m n) (him : hi ≤ m) (big : 2 * n ≤ length w₀) (h : row < stop) (low : getD w (rowChild l row) 0 < e) where
+    module _ (u : Used l m n) (big : 2 * n ≤ length w₀) (h : row < stop) (low : getD w (rowChild l row) 0 < e) where
       child< : rowChild l row < n
       child< = u .children row (omega (arith, v .stop-le))
 
       pub push-unread : count (unread e (set w (rowChild l row) (e + 1 + top))) n ≡ count (unread e w) n
-      push-unread = mark-unread u him big child< (v .current row (omega arith) h) low
+      push-unread = mark-unread big child< (v .current row (omega arith) h) low
 
     -- the last of the stack leaves it and gets the mark, and its rows are walked
     module _ (u : Used l m n) (big : 2 * n ≤ length w₀) (some : 0 < top) where
+      abbrev popped : List ℕ
+      popped = set w (top - 1) e
+
       p : Popped e w top (v .stack)
       p = stack-pop e w top (v .stack) some (v .stacked)
 
@@ -278,31 +228,31 @@ module _ {o l : List ℕ} {n m lo hi e : ℕ} {w₀ : List ℕ} (latest : (i : �
       pub top-high : e < getD w (top - 1) 0
       top-high = p .high
 
-      at-top : getD (set w (top - 1) e) (top - 1) 0 ≡ e
+      at-top : getD popped (top - 1) 0 ≡ e
       at-top = getD-set-same w (top - 1) e 0 (omega (arith, v .long, top-used))
 
       -- the ends of the rows are as they came
-      pub pop-ends : ((i : ℕ) → i < n → FirstRow l m (keyOf (i + 1) 0) (getD w₀ (n + i) 0)) → (i : ℕ) → i < n → FirstRow l m (keyOf (i + 1) 0) (getD (set w (top - 1) e) (n + i) 0)
+      pub pop-ends : ((i : ℕ) → i < n → FirstRow l m (keyOf (i + 1) 0) (getD w₀ (n + i) 0)) → (i : ℕ) → i < n → FirstRow l m (keyOf (i + 1) 0) (getD popped (n + i) 0)
       pop-ends ends i h = subst (FirstRow l m (keyOf (i + 1) 0)) (sym (getD-set-other w (top - 1) (n + i) e 0 (omega (arith, top-used)) ∙ v .outside (n + i) (omega arith))) (ends i h)
 
       -- an object is the last, or has the number that it had
-      apart : (i : ℕ) → (i ≡ top - 1) ⊎ (getD (set w (top - 1) e) i 0 ≡ getD w i 0)
+      apart : (i : ℕ) → (i ≡ top - 1) ⊎ (getD popped i 0 ≡ getD w i 0)
       apart i = elim (ℕ-discrete i (top - 1)) [ yes q ↦ inl q | no d ↦ inr (getD-set-other w (top - 1) i e 0 d) ]
 
-      kept : (i : ℕ) → Found e w i → Found e (set w (top - 1) e) i
+      kept : (i : ℕ) → Found e w i → Found e popped i
       kept i t = ⊎-elim (λ q. rw q (omega (arith, at-top))) (λ q. omega arith) (apart i)
 
-      was : (i : ℕ) → Found e (set w (top - 1) e) i → Found e w i
+      was : (i : ℕ) → Found e popped i → Found e w i
       was i t = ⊎-elim (λ q. rw q (omega (arith, top-high))) (λ q. omega arith) (apart i)
 
       pub pop : {row′ stop′ : ℕ} → stop ≤ row → FirstRow l m (keyOf (top - 1) 0) row′ → FirstRow l m (keyOf (top - 1 + 1) 0) stop′
-          → Inv o l n m lo hi e w₀ (set w (top - 1) e) total row′ stop′ (getD w (top - 1) 0 - e - 1)
+          → Inv o l n m lo hi e w₀ popped total row′ stop′ (getD w (top - 1) 0 - e - 1)
       pop end f g = record {
         long = simp length-set (v .long);
         stop-le = g .within;
         stack = p .rest;
         stacked = p .below;
-        waiting = λ i a h. ⊎-elim (λ q. absurd (omega (arith, at-top, ap (λ (j : ℕ). getD (set w (top - 1) e) j 0) q))) (λ q. ⊎-elim (λ z. absurd (omega (arith, at-top, ap (λ (j : ℕ). getD (set w (top - 1) e) j 0) z))) (λ z. z) (p .others i (v .waiting i a (omega arith)))) (apart i);
+        waiting = λ i a h. ⊎-elim (λ q. absurd (omega (arith, at-top, ap (λ (j : ℕ). getD popped j 0) q))) (λ q. ⊎-elim (λ z. absurd (omega (arith, at-top, ap (λ (j : ℕ). getD popped j 0) z))) (λ z. z) (p .others i (v .waiting i a (omega arith)))) (apart i);
         reaches = λ i z. v .reaches i (p .fewer i z);
         other = λ i a. ⊎-elim (λ q. inr (rw q (omega (arith, at-top)))) (λ q. ⊎-elim (λ z. inl (q ∙ z)) (λ t. inr (kept i t)) (v .other i a)) (apart i);
         only = λ i a t. v .only i a (was i t);
@@ -311,17 +261,17 @@ module _ {o l : List ℕ} {n m lo hi e : ℕ} {w₀ : List ℕ} (latest : (i : �
         pending = λ k a t. ⊎-elim (λ q. inr (parent-in u f g k a (sym q)))
             (λ q. ⊎-elim (λ z. inl (kept (rowChild l k) z)) (λ z. absurd (omega arith)) (v .pending k a (sym q ∙ t))) (apart (rowParent l k));
         outside = λ i a. getD-set-other w (top - 1) i e 0 (omega (arith, top-used)) ∙ v .outside i a;
-        total-is = omega (arith, v .total-is, tally-same (sizeAt o) (found e (set w (top - 1) e)) (found e w) n same);
+        total-is = omega (arith, v .total-is, tally-same (sizeAt o) (found e popped) (found e w) n same);
       }
         where
-          same : (i : ℕ) → i < n → found e (set w (top - 1) e) i ≡ found e w i
-          same i a = ⊎-elim (λ q. rw q (le-leb e (getD (set w (top - 1) e) (top - 1) 0) (omega (arith, at-top)) ∙ sym (le-leb e (getD w (top - 1) 0) (omega (arith, top-high))))) (λ q. rw q) (apart i)
+          same : (i : ℕ) → i < n → found e popped i ≡ found e w i
+          same i a = ⊎-elim (λ q. rw q (le-leb e (getD popped (top - 1) 0) (omega (arith, at-top)) ∙ sym (le-leb e (getD w (top - 1) 0) (omega (arith, top-high))))) (λ q. rw q) (apart i)
 
       -- one object less is without the mark
-      pub pop-unread : count (unread e w) n ≡ count (unread e (set w (top - 1) e)) n + 1
+      pub pop-unread : count (unread e w) n ≡ count (unread e popped) n + 1
       pop-unread =
-          tally-one (λ i. 1) (unread e (set w (top - 1) e)) (unread e w) (top - 1) n top-used
-          (ap not (eq-eqb (getD (set w (top - 1) e) (top - 1) 0) e at-top)) (ap not (ne-eqb (getD w (top - 1) 0) e (omega (arith, top-high))))
+          tally-one (λ i. 1) (unread e popped) (unread e w) (top - 1) n top-used
+          (ap not (eq-eqb (getD popped (top - 1) 0) e at-top)) (ap not (ne-eqb (getD w (top - 1) 0) e (omega (arith, top-high))))
           (λ i a d. ⊎-elim (λ q. absurd (d q)) (λ q. rw q) (apart i))
 
     -- nothing is left to look at
@@ -355,11 +305,11 @@ module _ {o l : List ℕ} {n m lo hi e : ℕ} {w₀ : List ℕ} (latest : (i : �
     pub total-most : sum (sizeAt o) n ≤ 16777216 → total ≤ 16777216
     total-most h = omega (arith, v .total-is, tally-le (sizeAt o) (found e w) n)
 
-  pub push : {w : List ℕ} {total row stop top : ℕ} → (v : Inv o l n m lo hi e w₀ w total row stop top) → Used l m n → hi ≤ m → 2 * n ≤ length w₀ → row < stop → getD w (rowChild l row) 0 < e
+  pub push : {w : List ℕ} {total row stop top : ℕ} → Inv o l n m lo hi e w₀ w total row stop top → Used l m n → 2 * n ≤ length w₀ → row < stop → getD w (rowChild l row) 0 < e
       → Inv o l n m lo hi e w₀ (set w (rowChild l row) (e + 1 + top)) (total + sizeAt o (rowChild l row)) (row + 1) stop (rowChild l row + 1)
-  push {w} {row = row} {top = top} v u him big h low =
-      let c< : rowChild l row < n = child< v u him big h low in
-      skip (mark v u him big c< (v .current row (omega arith) h) low)
+  push {w} {row = row} {top = top} v u big h low =
+      let c< : rowChild l row < n = child< v u big h low in
+      skip (mark v big c< (v .current row (omega arith) h) low)
       (omega (arith, getD-set-same w (rowChild l row) (e + 1 + top) 0 (omega (arith, v .long))))
 
 -- the measure falls when the stack gives its last object

@@ -1,7 +1,7 @@
 -- `walk::subgraph_size` meets its contract: found are objects that had the mark or can be reached, and what an object with the mark leads to was found
 -- or is still to come. The measure is the objects that have not the mark, and the rows left of the one before them. Assumes nothing.
 use Prim.Native.Nat.{ℕ, _+_, _-_, _*_, _<_, _≤_}
-use mathlib.Core.Path.{ap, _∙_}
+use mathlib.Core.Path.{ap}
 use native.Mathlib.Omega.{arith}
 use lib.ListN.{getD, set, length-set}
 use denote.Ref.{now}
@@ -49,7 +49,7 @@ entered c =
     let t = then1 c in
     let a = t .before in
     let s = begin a in
-    push (s .pre .1 .1 .marks .latest) (a .loop .inv) (use-of s) (s .pre .0) (s .pre .1 .1 .marks .room) (t .if1 .taken) (c .if2 .taken)
+    push (s .pre .1 .1 .marks .latest) (a .loop .inv) (use-of s) (s .pre .1 .1 .marks .room) (t .if1 .taken) (c .if2 .taken)
 
 -- the lengths of all objects add up to no more than the data
 sizes : (s : tie.Start Inv-loop μ-loop) → sum (sizeAt (now (s .args .objects))) (getD (now (s .args .counts)) 1 0) ≤ 16777216
@@ -160,7 +160,7 @@ loop-less c =
     let a = t .before in
     let s = begin a in
     let m = getD (now (s .args .counts)) 2 0 in
-    omega (arith, ap (λ (x : ℕ). x * (m + 1)) (push-unread (s .pre .1 .1 .marks .latest) (a .loop .inv) (use-of s) (s .pre .0) (s .pre .1 .1 .marks .room) (t .if1 .taken) (c .before .if2 .taken)))
+    omega (arith, ap (λ (x : ℕ). x * (m + 1)) (push-unread (s .pre .1 .1 .marks .latest) (a .loop .inv) (use-of s) (s .pre .1 .1 .marks .room) (t .if1 .taken) (c .before .if2 .taken)))
 
 loop-again : tie.Need-loop-again Inv-loop μ-loop
 loop-again c = rw (c .size-of .ensures) (entered (c .before))
