@@ -1,6 +1,6 @@
 -- The demands speak of something: a store of bytes with a table that a call splits. And bytes are needed: without them a new table may be unreadable. Assumes nothing.
 use Prim.Native.Nat.{ℕ}
-use mathlib.Core.Path.{_≡_, refl, sym, _∙_}
+use mathlib.Core.Path.{_≡_, refl}
 use mathlib.Core.Bool.{true}
 use mathlib.Core.List.{List, [], _∷_, _++_}
 use mathlib.Core.Logic.{⊎-elim}
@@ -15,7 +15,7 @@ use Rattle.opentype.specs.Numbers.{words, be16}
 use Rattle.opentype.proofs.Octets.{bytes-append, bytes-zeros, Bytes}
 use Rattle.rules.specs.Store.{Store}
 use Rattle.rules.specs.Table.{cutPlaces}
-use Rattle.rules.specs.Answers.{Scratch, scratchOf, splitCall, firstCase, readCases}
+use Rattle.rules.specs.Answers.{Scratch, Outcome, scratchOf, splitCall, firstCase, readCases}
 use Rattle.rules.specs.Computing.{computes}
 use Rattle.promises.specs.Demands.{Octets, Splits, storeThen, AllAfresh}
 
@@ -45,16 +45,24 @@ large-octets = bytes-append front (replicate 65618 0) (below front refl) (bytes-
     below : (xs : List ℕ) → every (λ i x. ltb x 256) 0 xs ≡ true → Bytes xs
     below xs e i = ⊎-elim (λ lt. ltb-true (getD xs i 0) 256 (rule-at (λ i x. ltb x 256) 0 xs e i lt)) (λ ge. omega (arith, List·getD-eq-default xs 0 ge)) (either i (length xs))
 
-large-answer : splitCall largeSet 0 scratch (0 ∷ []) .answer ≡ 0
-unfolding largeSet front scratch computes
-large-answer = refl
+-- answer, count, and what a reading of table t then refuses by: in one list, so that the call is computed once
+unfoldable pub seen : ℕ → Outcome → List (Option ℕ)
+seen t o = some (o .answer) ∷ some (o .count) ∷ firstCase (readCases (o .store) t) ∷ []
 
-large-count : splitCall largeSet 0 scratch (0 ∷ []) .count ≡ 1
-unfolding largeSet front scratch computes
-large-count = refl
+splits-once :
+    (s : Store) (t : ℕ) (w : Scratch) (list : List ℕ) (refusal : Option ℕ)
+    → seen t (splitCall s t w list) ≡ some 0 ∷ some 1 ∷ refusal ∷ [] → Splits s t w list
+unfolding seen
+splits-once s t w list refusal e =
+    let answer : splitCall s t w list .answer ≡ 0 = cc in
+    let count : splitCall s t w list .count ≡ 1 = cc in record { answers = answer; cuts = omega arith }
+
+large-seen : seen 0 (splitCall largeSet 0 scratch (0 ∷ [])) ≡ some 0 ∷ some 1 ∷ none ∷ []
+unfolding largeSet front scratch computes seen
+large-seen = refl
 
 pub large-splits : Splits largeSet 0 scratch (0 ∷ [])
-large-splits = record { answers = large-answer; cuts = omega (arith, large-count) }
+large-splits = splits-once largeSet 0 scratch (0 ∷ []) none large-seen
 
 -- ---- no bytes, no promise: a table whose coverage has the one glyph 65,536, of class 1
 
@@ -76,21 +84,14 @@ wild =
 unfoldable pub wildScratch : Scratch
 wildScratch = scratchOf (replicate 8 0) (replicate 8192 0) (0 ∷ []) (0 ∷ []) (replicate 170 0)
 
-wild-answer : splitCall wild 3 wildScratch (0 ∷ []) .answer ≡ 0
-unfolding wild wildFront wildScratch computes
-wild-answer = refl
-
-wild-count : splitCall wild 3 wildScratch (0 ∷ []) .count ≡ 1
-unfolding wild wildFront wildScratch computes
-wild-count = refl
-
 -- the kept table's class definition 1 is unreadable
-wild-unreadable : firstCase (readCases (storeThen wild 3 wildScratch (0 ∷ [])) 3) ≡ some 4
-unfolding wild wildFront wildScratch computes
-wild-unreadable = refl
+wild-seen : seen 3 (splitCall wild 3 wildScratch (0 ∷ [])) ≡ some 0 ∷ some 1 ∷ some 4 ∷ []
+unfolding wild wildFront wildScratch computes seen
+wild-seen = refl
 
 pub not-without-bytes : ((s : Store) (t : ℕ) (w : Scratch) (list : List ℕ) → Splits s t w list → AllAfresh s t (storeThen s t w list) (cutPlaces s t)) → ⊥
+unfolding seen
 not-without-bytes h =
-    let r : firstCase (readCases (storeThen wild 3 wildScratch (0 ∷ [])) 3) ≡ none = h wild 3 wildScratch (0 ∷ []) (record { answers = wild-answer; cuts = omega (arith, wild-count) }) .kept .readable in
-    let z : _≡_ {A = Option ℕ} (some 4) none = sym wild-unreadable ∙ r in
-    let y : _≡_ {A = ℕ} 0 1 = cc in omega arith
+    let splits : Splits wild 3 wildScratch (0 ∷ []) = splits-once wild 3 wildScratch (0 ∷ []) (some 4) wild-seen in
+    let r : firstCase (readCases (storeThen wild 3 wildScratch (0 ∷ [])) 3) ≡ none = h wild 3 wildScratch (0 ∷ []) splits .kept .readable in
+    let y : _≡_ {A = ℕ} 0 1 = cc wild-seen in omega arith
