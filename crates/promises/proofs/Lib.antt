@@ -14,6 +14,5 @@ pub mod ReadingsKept
 pub mod SameReach
 pub mod AgainNothing
 pub mod StaysOctets
-pub mod CallsThatSplit
 pub mod Calls
 pub mod Unique

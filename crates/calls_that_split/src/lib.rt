@@ -1,0 +1,1 @@
+// No code: calls that split, computed from the definitions, so that the demands speak of something.
