@@ -1,19 +1,12 @@
 // One number for many: two lists that differ have, but for rare chance, different digests.
-ghost use Prim.Native.Nat.{_<_};
 
 // The digest with one number more.
-fn mix(digest: u64, number: u32) -> u64
-    requires { ⌜ digest < 4294967291 ⌝ }
-    ensures { λ r. ⌜ r < 4294967291 ⌝ }
-{
-    (65599 * digest + number as u64 + 1) % 4294967291
+fn mix(digest: u64, number: u32) -> u64 {
+    (65599 * (digest % 4294967291) + number as u64 + 1) % 4294967291
 }
 
 // The digest with the bytes of a slice more.
-pub fn mix_u8(digest: u64, s: &[u8]) -> u64
-    requires { ⌜ digest < 4294967291 ⌝ }
-    ensures { λ r. ⌜ r < 4294967291 ⌝ }
-{
+pub fn mix_u8(digest: u64, s: &[u8]) -> u64 {
     let mut all = digest;
     let mut k: usize = 0;
     while k < s.len() {
@@ -24,10 +17,7 @@ pub fn mix_u8(digest: u64, s: &[u8]) -> u64
 }
 
 // The same, of 16-bit numbers.
-pub fn mix_u16(digest: u64, s: &[u16]) -> u64
-    requires { ⌜ digest < 4294967291 ⌝ }
-    ensures { λ r. ⌜ r < 4294967291 ⌝ }
-{
+pub fn mix_u16(digest: u64, s: &[u16]) -> u64 {
     let mut all = digest;
     let mut k: usize = 0;
     while k < s.len() {
@@ -38,10 +28,7 @@ pub fn mix_u16(digest: u64, s: &[u16]) -> u64
 }
 
 // The same, of 32-bit numbers.
-pub fn mix_u32(digest: u64, s: &[u32]) -> u64
-    requires { ⌜ digest < 4294967291 ⌝ }
-    ensures { λ r. ⌜ r < 4294967291 ⌝ }
-{
+pub fn mix_u32(digest: u64, s: &[u32]) -> u64 {
     let mut all = digest;
     let mut k: usize = 0;
     while k < s.len() {
@@ -58,9 +45,7 @@ pub fn of_scratch(
     glyphs: &[u16],
     classes: &[u16],
     cuts: &[u16],
-) -> u64
-    ensures { λ r. ⌜ r < 4294967291 ⌝ }
-{
+) -> u64 {
     let d = mix_u32(0, walk);
     let d = mix_u8(d, glyph_set);
     let d = mix_u16(d, glyphs);
@@ -69,10 +54,13 @@ pub fn of_scratch(
 }
 
 // The digest with a store more: all that is lent, in use or not.
-pub fn mix_store(digest: u64, data: &[u8], objects: &[u32], links: &[u32], counts: &[u32; 3]) -> u64
-    requires { ⌜ digest < 4294967291 ⌝ }
-    ensures { λ r. ⌜ r < 4294967291 ⌝ }
-{
+pub fn mix_store(
+    digest: u64,
+    data: &[u8],
+    objects: &[u32],
+    links: &[u32],
+    counts: &[u32; 3],
+) -> u64 {
     let d = mix_u8(digest, data);
     let d = mix_u32(d, objects);
     let d = mix_u32(d, links);

@@ -29,7 +29,7 @@ fn main() {
 // The text says how long it is, and how many cases it has; then come the cases.
 fn replay(text: &[u8]) {
     let length = read_number(text, 0);
-    if length.value as usize != text.len() {
+    if !is_whole(text, length.value) {
         io::write_all(STDOUT_FILENO, b"the stored answers are cut off\n");
         return;
     }
@@ -41,12 +41,20 @@ fn replay(text: &[u8]) {
     print_line(b"not as stored", differing as u64);
 }
 
-// Replays case after case; answers how many are not as stored.
+// The text is as long as it says; with no text nothing is said.
+fn is_whole(text: &[u8], length: u32) -> bool {
+    text.len() > 0 && text.len() == length as usize
+}
+
+// Replays case after case; answers how many are not as stored, or not there.
 fn replay_cases(text: &[u8], from: usize, count: u32, kinds: &mut [u64; 10]) -> u32 {
     let mut at = from;
     let mut differing: u32 = 0;
     let mut k: u32 = 0;
     while k < count {
+        if at >= text.len() {
+            return differing + (count - k);
+        }
         let case = replay_case(text, at, k as u64 + 1);
         add_kind(kinds, case.answer, case.count);
         at = case.at;

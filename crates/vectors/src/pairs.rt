@@ -13,7 +13,7 @@ struct Reading {
     found: u32,
 }
 
-// Each of some stored pairs is what a table and so many new tables after it give.
+// Each of some stored pairs is there, and is what a table and so many new tables after it give.
 pub fn pairs_agree(
     text: &[u8],
     from: usize,
@@ -31,6 +31,9 @@ pub fn pairs_agree(
     let mut agrees = true;
     let mut k: u32 = 0;
     while k < count.value {
+        if at >= text.len() {
+            return Seen { at, agrees: false };
+        }
         let pair = pair_agrees(
             text,
             at,

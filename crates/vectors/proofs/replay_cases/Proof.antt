@@ -13,6 +13,15 @@ abbrev μ-loop : tie.MeasureT-loop
 loop-holds : tie.Need-loop-holds Inv-loop μ-loop
 loop-holds c = search needs
 
+sub-result : tie.Need-sub-result Inv-loop μ-loop
+sub-result c = search needs
+
+add-result : tie.Need-add-result Inv-loop μ-loop
+add-result c = search needs
+
+returns : tie.Need-returns Inv-loop μ-loop
+returns c = search needs
+
 cast-replay-case : tie.Need-cast-replay-case Inv-loop μ-loop
 cast-replay-case c = search needs
 
@@ -43,8 +52,8 @@ loop-less-2 c = search needs
 loop-again-2 : tie.Need-loop-again-2 Inv-loop μ-loop
 loop-again-2 c = search needs
 
-returns : tie.Need-returns Inv-loop μ-loop
-returns c = search needs
+returns-2 : tie.Need-returns-2 Inv-loop μ-loop
+returns-2 c = search needs
 
 pub replay-cases-spec : {M : Type 1} → statement M
 replay-cases-spec =
@@ -53,6 +62,9 @@ replay-cases-spec =
     Inv-loop
     μ-loop
     loop-holds
+    sub-result
+    add-result
+    returns
     cast-replay-case
     add-replay-case
     replay-case-requires
@@ -63,4 +75,4 @@ replay-cases-spec =
     loop-again
     loop-less-2
     loop-again-2
-    returns)
+    returns-2)

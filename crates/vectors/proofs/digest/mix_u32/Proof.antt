@@ -1,12 +1,12 @@
--- `vectors::digest::mix_u32` stays below the modulus. Assumes nothing.
-use Prim.Native.Nat.{_≤_, _<_, _-_}
+-- `vectors::digest::mix_u32` ends with the slice. Assumes nothing.
+use Prim.Native.Nat.{_≤_, _-_}
 use lib.ListN.{length}
 use borrow.Author.Needs.{needs}
 use Rattle.vectors.proofs.digest.mix_u32.Statement.{statement}
 use Rattle.vectors.proofs.digest.mix_u32.Tie as tie
 
 abbrev Inv-loop : tie.InvT-loop
-Inv-loop digest s all₀ k₀ all k = (k ≤ length s) × (all < 4294967291)
+Inv-loop digest s all₀ k₀ all k = k ≤ length s
 
 abbrev μ-loop : tie.MeasureT-loop
 μ-loop digest s all₀ k₀ all k = length s - k

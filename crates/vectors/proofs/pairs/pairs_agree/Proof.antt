@@ -16,6 +16,9 @@ read-number-requires c κs = search needs
 loop-holds : tie.Need-loop-holds Inv-loop μ-loop
 loop-holds c = search needs
 
+returns : tie.Need-returns Inv-loop μ-loop
+returns c = search needs
+
 pair-agrees-requires : tie.Need-pair-agrees-requires Inv-loop μ-loop
 pair-agrees-requires c κs = search needs
 
@@ -31,8 +34,8 @@ loop-less c = search needs
 loop-again : tie.Need-loop-again Inv-loop μ-loop
 loop-again c = search needs
 
-returns : tie.Need-returns Inv-loop μ-loop
-returns c = search needs
+returns-2 : tie.Need-returns-2 Inv-loop μ-loop
+returns-2 c = search needs
 
 pub pairs-agree-spec : {M : Type 1} → statement M
 pairs-agree-spec =
@@ -42,9 +45,10 @@ pairs-agree-spec =
     μ-loop
     read-number-requires
     loop-holds
+    returns
     pair-agrees-requires
     both-requires
     add-k
     loop-less
     loop-again
-    returns)
+    returns-2)
