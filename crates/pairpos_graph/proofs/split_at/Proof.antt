@@ -1,4 +1,5 @@
 -- `pairpos_graph::split_at` meets its contract: the glyphs are arranged, the room is told, and there is enough or not. Assumes nothing.
+use mathlib.Core.Path.{refl}
 use borrow.Author.Needs.{needs}
 use Rattle.pairpos_graph.proofs.SplitAt.{planned, counted, no-room, can-carry, carried}
 use Rattle.pairpos_graph.proofs.split_at.Statement.{statement}
@@ -22,16 +23,16 @@ is-short-requires c κs =
     counted (a .counts .now) (known .before .pre) (λ i. known .slice-known .given i .fits) (arranging .arrange .ensures (a .links .now) (a .counts .now) (a .table)) (a .new-tables .now)
 
 same-length : tie.Need-same-length
-same-length c = search needs
+same-length c = refl
 
 same-length-2 : tie.Need-same-length-2
-same-length-2 c = search needs
+same-length-2 c = refl
 
 same-length-3 : tie.Need-same-length-3
-same-length-3 c = search needs
+same-length-3 c = c .before .before .before .before .before .before .before .before .before .glyphs .given
 
 same-length-4 : tie.Need-same-length-4
-same-length-4 c = search needs
+same-length-4 c = c .before .before .before .before .before .before .before .classes .given
 
 returns : tie.Need-returns
 returns c =
@@ -53,22 +54,22 @@ carry-out-requires c κs =
     can-carry (a .counts .now) (known .before .pre) (λ i. known .slice-known .given i .fits) (arranging .arrange .ensures (a .links .now) (a .counts .now) (a .table)) (a .new-tables .now) (long .new-length .ensures) (short .is-short .ensures) (enough .if1 .left)
 
 same-length-5 : tie.Need-same-length-5
-same-length-5 c = search needs
+same-length-5 c = c .before .before .before .before .before .before .before .«data» .given
 
 same-length-6 : tie.Need-same-length-6
-same-length-6 c = search needs
+same-length-6 c = c .before .before .before .before .before .objects .given
 
 same-length-7 : tie.Need-same-length-7
-same-length-7 c = search needs
+same-length-7 c = c .before .before .before .links .given
 
 same-length-8 : tie.Need-same-length-8
-same-length-8 c = search needs
+same-length-8 c = c .before .before .before .before .before .before .before .before .before .before .before .before .before .before .before .before .before .before .before .before .before .before .before .before .before .glyphs .given
 
 same-length-9 : tie.Need-same-length-9
-same-length-9 c = search needs
+same-length-9 c = c .before .before .before .before .before .before .before .before .before .before .before .before .before .before .before .before .before .before .before .before .before .before .before .classes .given
 
 same-length-10 : tie.Need-same-length-10
-same-length-10 c = search needs
+same-length-10 c = c .before .new-tables .given
 
 returns-2 : tie.Need-returns-2
 returns-2 c =

@@ -25,10 +25,10 @@ number-places-requires c κs =
     few-places k (coverage .bytes-of .ensures l n) (glyphs .glyphs-into .ensures) (λ i. c .before .slice-known3 .given i .fits)
 
 same-length : tie.Need-same-length
-same-length c = search needs
+same-length c = c .before .before .before .before .before .glyphs .given
 
 same-length-2 : tie.Need-same-length-2
-same-length-2 c = search needs
+same-length-2 c = c .before .classes .given
 
 returns : tie.Need-returns
 returns c l n t k =
@@ -46,10 +46,10 @@ order-parts-requires c κs =
     by-class k (c .before .before .if1 .left) (λ i. start .shared-slice-known .given i .fits)
 
 same-length-3 : tie.Need-same-length-3
-same-length-3 c = search needs
+same-length-3 c = c .before .before .before .glyphs2 .given
 
 same-length-4 : tie.Need-same-length-4
-same-length-4 c = search needs
+same-length-4 c = c .before .classes2 .given
 
 returns-2 : tie.Need-returns-2
 returns-2 c l n t k =

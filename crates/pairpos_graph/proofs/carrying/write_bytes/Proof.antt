@@ -1,4 +1,5 @@
 -- `carrying::write_bytes` meets its contract: the new objects come behind those in use, and the table is then shortened. Assumes nothing.
+use mathlib.Core.Path.{_∙_}
 use borrow.Author.Needs.{needs}
 use Prim.Native.Nat.{_*_}
 use native.Mathlib.Omega.{arith}
@@ -40,10 +41,10 @@ keep-items-requires : tie.Need-keep-items-requires
 keep-items-requires c κs = keep-ready (c .before .before .before .before .before .before .before .before .before .before .before .before .before .before .before .before .before .before .pre .1) (c .before .before .before .before .before .before .before .write-objects .ensures)
 
 same-length : tie.Need-same-length
-same-length c = search needs
+same-length c = c .before .before .before .data2 .given ∙ c .before .before .before .before .before .before .before .before .before .before .before .«data» .given
 
 same-length-2 : tie.Need-same-length-2
-same-length-2 c = search needs
+same-length-2 c = c .before .objects2 .given ∙ c .before .before .before .before .before .before .before .before .before .objects .given
 
 returns : tie.Need-returns
 returns c l w = keep-wrote w (c .before .before .before .before .before .before .before .before .before .before .before .before .write-objects .ensures) (c .before .before .before .before .keep-items .ensures .0) (c .before .before .before .before .keep-items .ensures .1)
