@@ -20,7 +20,7 @@ use Rattle.plan.specs.declared.Plan.{Plan}
 use Rattle.plan.specs.declared.Decision.{Decision}
 use Rattle.plan.specs.declared.Decision.the-variants.{Refused}
 use Rattle.plan.specs.Decided.{refusalOf, Decided}
-use Rattle.plan.proofs.Cleared.{SameLengths, same-cleared}
+use Rattle.scratch.proofs.Cleared.{SameLengths, same-cleared}
 use Rattle.pairpos_graph.specs.Splitting.{Ready, SplitAt, lastCall}
 
 -- ---- what is left of the call

@@ -26,8 +26,9 @@ use Rattle.checks.specs.declared.Checked.{Checked}
 use Rattle.checks.specs.declared.Checked.the-variants.{Open, Refused}
 use Rattle.checks.specs.Checked.{checkedOf, refusal}
 use Rattle.checks.proofs.Refusals.{Opens, opens, refusals}
-use Rattle.plan.specs.declared.scratch.Lengths.{Lengths}
-use Rattle.plan.specs.Called.{lengthsOf, lengthsShort, lentBy, calledBy, calledOf}
+use Rattle.scratch.specs.declared.Lengths.{Lengths}
+use Rattle.scratch.specs.Lengths.{lengthsOf, lengthsShort}
+use Rattle.plan.specs.Called.{lentBy, calledBy, calledOf}
 
 -- ---- 6 and the slots of 7, of a table that is open
 

@@ -20,7 +20,8 @@ use Rattle.checks.specs.declared.Checked.the-variants as Checked
 use Rattle.checks.proofs.Refusals.{Opens}
 use Rattle.plan.specs.declared.Plan.{Plan}
 use Rattle.plan.specs.declared.Decision.the-variants.{Cut, Refused}
-use Rattle.plan.specs.Called.{lengthsOf, calledOf}
+use Rattle.scratch.specs.Lengths.{lengthsOf}
+use Rattle.plan.specs.Called.{calledOf}
 use Rattle.plan.specs.Cutting.{Looked, CutsTable}
 use Rattle.plan.specs.Decided.{Planned, Decided}
 use Rattle.plan.proofs.Called.{lookedLast, called, Passed, passed}

@@ -3,7 +3,6 @@ pub mod Gathering
 pub mod Fronting
 pub mod Copying
 pub mod Called
-pub mod Cleared
 pub mod Planning
 pub mod Deciding
 pub mod Counting

@@ -21,7 +21,7 @@ use Rattle.plan.specs.declared.Plan.{Plan}
 use Rattle.plan.specs.declared.Decision.{Decision}
 use Rattle.plan.specs.declared.Decision.the-variants.{Cut, Refused}
 use Rattle.plan.specs.Decided.{Decided, Handed, handed, handedOut}
-use Rattle.plan.proofs.Cleared.{SameLengths, same-cleared}
+use Rattle.scratch.proofs.Cleared.{SameLengths, same-cleared}
 
 -- ---- what is handed out
 

@@ -1,27 +1,15 @@
 -- What the checks say that need no scratch but its lengths: 1 to 6, and the slots of 7. Assumes nothing.
-use Prim.Native.Nat.{ℕ, _*_}
-use mathlib.Core.Bool.{Bool, cond, not, _||_}
-use lib.ListN.{length}
-use lib.Dec.{ltb}
+use Prim.Native.Nat.{ℕ}
+use mathlib.Core.Bool.{cond, not}
 use Rattle.rules.specs.declared.Answer.the-variants.{ShortScratch, BadLinks}
 use Rattle.rules.specs.Store.{Store}
 use Rattle.rules.specs.Table.{allAtSlots}
-use Rattle.rules.specs.Answers.{Scratch}
 use Rattle.checks.specs.declared.PairTable.{PairTable}
 use Rattle.checks.specs.declared.Checked.{Checked}
 use Rattle.checks.specs.declared.Checked.the-variants.{Open, Refused}
 use Rattle.checks.specs.Checked.{checkedOf}
-use Rattle.plan.specs.declared.scratch.Lengths.{Lengths}
-
--- how long each scratch is
-abbrev pub lengthsOf : Scratch → Lengths
-lengthsOf w =
-    record { walk = length (w .walk); «glyph_set» = length (w .set); glyphs = length (w .glyphs); classes = length (w .classes); cuts = length (w .cuts) }
-
--- 6: "walk, two numbers an object in use; glyph set, 8,192 bytes; glyphs and classes, one entry each per covered glyph; cuts, one entry per item"
-unfoldable pub lengthsShort : Lengths → ℕ → ℕ → ℕ → Bool
-lengthsShort n objects glyphs items =
-    ltb (n .walk) (2 * objects) || ltb (n .«glyph_set») 8192 || ltb (n .glyphs) glyphs || ltb (n .classes) glyphs || ltb (n .cuts) items
+use Rattle.scratch.specs.declared.Lengths.{Lengths}
+use Rattle.scratch.specs.Lengths.{lengthsShort}
 
 -- 6 and the slots of 7, for a table that is open
 unfoldable pub lentBy : Store → ℕ → Lengths → PairTable → Checked

@@ -1,6 +1,5 @@
 // What a split and a cut plan decide before anything is written: the checks 1 to 7, in document 01's order, and the cut places. Then the cut plan itself.
 pub mod cutting;
-pub mod scratch;
 
 use checks::Checked;
 use checks::PairTable;
@@ -24,7 +23,8 @@ ghost use Rattle.rules.specs.Answers.{scratchOf, outcome, planCall};
 ghost use Rattle.checks.specs.Checked.{checkedOf};
 ghost use Rattle.checks.proofs.Refusals.{Opens};
 ghost use Rattle.walk.specs.Marks.{Begun};
-ghost use Rattle.plan.specs.Called.{lengthsOf, lentBy, calledOf};
+ghost use Rattle.scratch.specs.Lengths.{lengthsOf};
+ghost use Rattle.plan.specs.Called.{lentBy, calledOf};
 ghost use Rattle.plan.specs.Decided.{Decided, handed, handedOut, HandingOut};
 
 // A table that is not refused, and how many cuts it gets; they stand at the front of the scratch.

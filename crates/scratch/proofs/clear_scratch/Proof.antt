@@ -1,8 +1,8 @@
--- `plan::scratch::clear_scratch` meets its contract: one after another. Assumes nothing.
+-- `scratch::clear_scratch` meets its contract: one after another. Assumes nothing.
 use Rattle.rules.specs.Answers.{scratchOf, cleared}
 use borrow.Author.Needs.{needs}
-use Rattle.plan.proofs.scratch.clear_scratch.Statement.{statement}
-use Rattle.plan.proofs.scratch.clear_scratch.Tie as tie
+use Rattle.scratch.proofs.clear_scratch.Statement.{statement}
+use Rattle.scratch.proofs.clear_scratch.Tie as tie
 
 clear-u32-requires : tie.Need-clear-u32-requires
 clear-u32-requires c κs = search needs

@@ -1,9 +1,9 @@
--- `plan::scratch::is_short` meets its contract: test by test. Assumes nothing.
+-- `scratch::is_short` meets its contract: test by test. Assumes nothing.
 use borrow.Author.Needs.{needs}
 use borrow.Author.Tests.{lt-ltb, le-ltb}
-use Rattle.plan.specs.Called.{lengthsShort}
-use Rattle.plan.proofs.scratch.is_short.Statement.{statement}
-use Rattle.plan.proofs.scratch.is_short.Tie as tie
+use Rattle.scratch.specs.Lengths.{lengthsShort}
+use Rattle.scratch.proofs.is_short.Statement.{statement}
+use Rattle.scratch.proofs.is_short.Tie as tie
 
 mul-if1 : tie.Need-mul-if1
 mul-if1 c = search needs

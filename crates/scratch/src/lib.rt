@@ -4,7 +4,7 @@ use buffers::clear_u16;
 use buffers::clear_u32;
 ghost use mathlib.Core.Path.{_≡_};
 ghost use Rattle.rules.specs.Answers.{scratchOf, cleared};
-ghost use Rattle.plan.specs.Called.{lengthsShort};
+ghost use Rattle.scratch.specs.Lengths.{lengthsShort};
 
 // How long each scratch is.
 pub struct Lengths {
