@@ -19,12 +19,12 @@ use Rattle.rules.proofs.Lookups.{child-used}
 use Rattle.object_store.specs.Rows.{keyOf, FirstRow}
 use Rattle.estimator.specs.declared.Estimator.{Estimator}
 use Rattle.estimator.specs.States.{valuesOf, Small}
-use Rattle.split_points.specs.declared.filling.Filling.{Filling}
+use Rattle.filling.specs.declared.Filling.{Filling}
 use Rattle.split_points.specs.declared.measuring.Measured.{Measured}
 use Rattle.split_points.specs.declared.«table_info».TableInfo.{TableInfo}
 use Rattle.split_points.specs.declared.classes.Classes.{Classes}
 use Rattle.split_points.specs.declared.format2.Rows.{Rows}
-use Rattle.split_points.specs.Filling.{Fills, Weighed, Listed}
+use Rattle.filling.specs.Filling.{Fills, Weighed, Listed}
 use Rattle.split_points.specs.Measuring.{Measures}
 use Rattle.split_points.specs.Filled.{Described, cuttingAt, TellsCycle, Placed}
 use Rattle.split_points.specs.Classes.{Holds, Begins}

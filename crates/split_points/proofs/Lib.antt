@@ -1,4 +1,3 @@
-pub mod Weighing
 pub mod ItemSizes
 pub mod Turns
 pub mod PairSets

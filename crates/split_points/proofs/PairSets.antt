@@ -27,11 +27,11 @@ use Rattle.object_store.specs.Children.{asChild}
 use Rattle.object_store.specs.declared.Child.the-variants.{Of}
 use Rattle.object_store.proofs.Rows.{position-most, rows-between}
 use Rattle.object_store.proofs.Children.{child-found}
-use Rattle.split_points.specs.declared.filling.Filling.{Filling}
+use Rattle.filling.specs.declared.Filling.{Filling}
 use Rattle.split_points.specs.declared.measuring.Measured.{Measured}
 use Rattle.split_points.specs.declared.«table_info».TableInfo.{TableInfo}
 use Rattle.split_points.specs.declared.format1.Sets.{Sets}
-use Rattle.split_points.specs.Filling.{Fills, Weighed, Listed}
+use Rattle.filling.specs.Filling.{Fills, Weighed, Listed}
 use Rattle.split_points.specs.Measuring.{At, Measures}
 use Rattle.split_points.specs.Filled.{cuttingAt, Filled, TellsCycle, Placed}
 use Rattle.split_points.specs.Format1.{Ready1, linked, Below1}

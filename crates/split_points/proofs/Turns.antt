@@ -22,10 +22,10 @@ use Rattle.object_store.specs.Rows.{keyOf, FirstRow}
 use Rattle.walk.proofs.Marks.{marks-same}
 use Rattle.walk.proofs.Items.{items-none}
 use Rattle.walk.proofs.Cycles.{back-all}
-use Rattle.split_points.specs.declared.filling.Filling.{Filling}
+use Rattle.filling.specs.declared.Filling.{Filling}
 use Rattle.split_points.specs.declared.measuring.Measured.{Measured}
 use Rattle.split_points.specs.declared.«table_info».TableInfo.{TableInfo}
-use Rattle.split_points.specs.Filling.{Fills, Listed}
+use Rattle.filling.specs.Filling.{Fills, Listed}
 use Rattle.split_points.specs.Measuring.{Measures}
 use Rattle.split_points.specs.Filled.{Described, Unseen, cuttingAt, Filled, TellsCycle, Placed}
 use Rattle.split_points.proofs.ItemSizes.{at-cut}

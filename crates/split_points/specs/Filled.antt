@@ -13,9 +13,9 @@ use Rattle.rules.specs.Table.{shape, ruleOf, cutPlaces}
 use Rattle.rules.specs.Walk.{onCycle}
 use Rattle.object_store.specs.Rows.{keyOf, FirstRow}
 use Rattle.walk.specs.Marks.{noRow, Back, Marks}
-use Rattle.split_points.specs.declared.filling.Filling.{Filling}
+use Rattle.filling.specs.declared.Filling.{Filling}
 use Rattle.split_points.specs.declared.«table_info».TableInfo.{TableInfo}
-use Rattle.split_points.specs.Filling.{Listed}
+use Rattle.filling.specs.Filling.{Listed}
 use Rattle.split_points.specs.Measuring.{At}
 
 -- the numbers are those of the table, which has passed the checks up to 3

@@ -1,4 +1,3 @@
-pub mod Filling
 pub mod Measuring
 pub mod Filled
 pub mod Format1

@@ -1,7 +1,7 @@
 // The cut places of a table of format 1: the counterpart of `compute_format1_split_points`.
-use crate::filling::Filling;
 use crate::measuring::measure;
 use crate::table_info::TableInfo;
+use filling::Filling;
 use object_store::first_row;
 ghost use mathlib.Core.Path.{_≡_};
 ghost use mathlib.Core.List.{List};

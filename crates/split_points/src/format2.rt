@@ -1,8 +1,8 @@
 // The cut places of a table of format 2: the counterpart of `compute_format2_split_points`.
 use crate::classes::Classes;
-use crate::filling::Filling;
 use crate::measuring::measure;
 use crate::table_info::TableInfo;
+use filling::Filling;
 use object_store::first_row;
 ghost use mathlib.Core.List.{List};
 ghost use Prim.Native.Nat.{ℕ, _<_};

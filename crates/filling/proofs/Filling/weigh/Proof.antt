@@ -1,8 +1,8 @@
--- `split_points::Filling::weigh` meets its contract: both branches are document 01's. Assumes nothing.
-use Rattle.split_points.proofs.Weighing.{weighed-cut, weighed-on}
+-- `filling::Filling::weigh` meets its contract: both branches are document 01's. Assumes nothing.
+use Rattle.filling.proofs.Weighing.{weighed-cut, weighed-on}
 use borrow.Author.Needs.{needs}
-use Rattle.split_points.proofs.filling.Filling.weigh.Statement.{statement}
-use Rattle.split_points.proofs.filling.Filling.weigh.Tie as tie
+use Rattle.filling.proofs.Filling.weigh.Statement.{statement}
+use Rattle.filling.proofs.Filling.weigh.Tie as tie
 
 add-if1 : tie.Need-add-if1
 add-if1 c = search needs

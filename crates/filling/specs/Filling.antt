@@ -5,7 +5,7 @@ use mathlib.Core.List.{List}
 use lib.ListN.{length}
 use Rattle.folds.specs.Lists.{put}
 use Rattle.rules.specs.Cuts.{Rule, Cutting, weigh}
-use Rattle.split_points.specs.declared.filling.Filling.{Filling}
+use Rattle.filling.specs.declared.Filling.{Filling}
 
 -- f is the code's account of c
 pub record Fills (f : Filling) (c : Cutting) : Type 0 where

@@ -8,8 +8,8 @@ use borrow.Author.Tests.{lt-ltb, le-ltb}
 use Rattle.folds.specs.Lists.{put}
 use Rattle.folds.proofs.Put.{put-set}
 use Rattle.rules.specs.Cuts.{Rule, Cutting, after, exceeds, cutHere, goOn, weigh}
-use Rattle.split_points.specs.Filling.{Fills, Listed}
-use Rattle.split_points.specs.declared.filling.Filling.{Filling}
+use Rattle.filling.specs.Filling.{Fills, Listed}
+use Rattle.filling.specs.declared.Filling.{Filling}
 
 pub nothing-yet : (r : Rule) (start : ℕ) → r .start ≡ start → Fills (record { first = 0; sum = start; cuts = 0 }) (after r 0)
 unfolding after

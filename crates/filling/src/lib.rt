@@ -3,7 +3,7 @@ ghost use mathlib.Core.Path.{_≡_};
 ghost use Prim.Native.Nat.{_≤_, _<_};
 ghost use lib.ListN.{length};
 ghost use Rattle.rules.specs.Cuts.{Rule, after};
-ghost use Rattle.split_points.specs.Filling.{Fills, Weighed};
+ghost use Rattle.filling.specs.Filling.{Fills, Weighed};
 
 // The table that is being filled: its first item, the sum of its items so far, and how many cuts stand before it.
 pub struct Filling {
