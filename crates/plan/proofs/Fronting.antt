@@ -43,20 +43,21 @@ module _ {s : Store} {t : ℕ} {p : PairTable} {w set gs ks cuts : List ℕ} (k 
     abbrev ks″ : List ℕ
     ks″ = back ks (p .glyphs) ks′
 
-    pub fronts-looked : Looked2 s t p (part gs″ 0 (p .glyphs)) (part ks″ 0 (p .glyphs)) w set cuts
-    fronts-looked =
+    -- the set may have been used on the way
+    pub fronts-looked : {set′ : List ℕ} → length set′ ≡ length set → Looked2 s t p (part gs″ 0 (p .glyphs)) (part ks″ 0 (p .glyphs)) w set′ cuts
+    fronts-looked e =
         record {
           walked = k .walked;
           two = two;
           octets = octets;
           ordered = rw (front-again gs (p .glyphs) (k .glyphs) gs′ a, front-again ks (p .glyphs) (k .classes) ks′ b) (gathers fronts-lent);
-          long = k .long;
+          long = omega (arith, k .long);
         }
 
-    pub fronts-cut : {cuts′ : List ℕ} {r : ℕ} → (Looked2 s t p (part gs″ 0 (p .glyphs)) (part ks″ 0 (p .glyphs)) w set cuts → Placed s t cuts cuts′ r) → CutsByClass s t gs ks cuts gs″ ks″ cuts′ r
-    fronts-cut places =
+    pub fronts-cut : {set′ : List ℕ} → length set′ ≡ length set → {cuts′ : List ℕ} {r : ℕ} → (Looked2 s t p (part gs″ 0 (p .glyphs)) (part ks″ 0 (p .glyphs)) w set′ cuts → Placed s t cuts cuts′ r) → CutsByClass s t gs ks cuts gs″ ks″ cuts′ r
+    fronts-cut e places =
         let d = gathers fronts-lent .byClass in
         record {
-          placed = places fronts-looked;
+          placed = places (fronts-looked e);
           fronted = record { glyphs = front-back gs (p .glyphs) (k .glyphs) gs′ a ∙ ap (put gs 0) (d .glyphs); classes = front-back ks (p .glyphs) (k .classes) ks′ b ∙ ap (put ks 0) (d .classes) };
         }

@@ -2,7 +2,7 @@
 use buffers::clear_u8;
 use checks::PairTable;
 use class_def::classes_into;
-use class_order::sort_pairs;
+use class_ranks::order_by_class;
 use coverage_graph::glyphs_into;
 use object_store::bytes_of;
 use object_store::size_of;
@@ -11,7 +11,8 @@ use split_points::format2::compute_format2_split_points;
 use split_points::table_info::TableInfo;
 ghost use mathlib.Core.Path.{_≡_};
 ghost use mathlib.Core.List.{List};
-ghost use Prim.Native.Nat.{ℕ};
+ghost use Prim.Native.Nat.{ℕ, _≤_};
+ghost use lib.ListN.{length};
 ghost use Rattle.rules.specs.Store.{lent};
 ghost use Rattle.split_points.specs.Filled.{TellsCycle};
 ghost use Rattle.plan.specs.Cutting.{Gathering, Gathers, Beside, infoOf, Looked1, Places1, Tells1, Looked2, Places2, Tells2, Looked, CutsByClass, CutsTable};
@@ -51,9 +52,17 @@ fn cut_sets(
     compute_format1_split_points(objects, links, counts, info, walk, cuts)
 }
 
-// The covered glyphs of a table of format 2 with their classes, in the order of these.
-fn gather(data: &[u8], objects: &[u32], opened: PairTable, glyphs: &mut [u16], classes: &mut [u16])
+// The covered glyphs of a table of format 2 with their classes, in the order of these. The set may hold anything, before and after.
+fn gather(
+    data: &[u8],
+    objects: &[u32],
+    opened: PairTable,
+    glyphs: &mut [u16],
+    classes: &mut [u16],
+    glyph_set: &mut [u8],
+)
     requires { ⌜ ((l c : List ℕ) × (t : ℕ) × Gathering (lent (now «data») (now objects) l c) t opened (now glyphs) (now classes)) ⌝ }
+    requires { ⌜ 8192 ≤ length (now «glyph_set») ⌝ }
     ensures { λ _. ⌜ Gathers (now («data» .entry)) (now (objects .entry)) opened (now (glyphs .entry)) (now (classes .entry)) (now (glyphs .exit)) (now (classes .exit)) ⌝ }
 {
     let coverage = opened.coverage;
@@ -69,7 +78,7 @@ fn gather(data: &[u8], objects: &[u32], opened: PairTable, glyphs: &mut [u16], c
         glyphs,
         classes,
     );
-    sort_pairs(classes, glyphs);
+    order_by_class(classes, glyphs, glyph_set);
 }
 
 // Format 2, with the covered glyphs in the order of their classes.
@@ -131,6 +140,7 @@ fn cut_by_class(
         opened,
         &mut glyphs[0..count],
         &mut classes[0..count],
+        glyph_set,
     );
     cut_rows(
         objects,

@@ -25,8 +25,8 @@ part-gather-end-2 c = search needs
 
 gather-requires : tie.Need-gather-requires
 gather-requires c κs =
-    let start = c .before .before .before .before .before .before .before .before .before .before in
-    (start .args .links .now, start .args .counts .now, start .args .table, fronts-lent (start .pre .0) (start .pre .1))
+    let start = c .before .before .before .before .before .before .before .before .before .before .before in
+    ((start .args .links .now, start .args .counts .now, start .args .table, fronts-lent (start .pre .0) (start .pre .1)), start .pre .0 .long)
 
 sub-cut-rows : tie.Need-sub-cut-rows
 sub-cut-rows c = search needs
@@ -48,12 +48,13 @@ part-cut-rows-end-2 c = search needs
 
 cut-rows-requires : tie.Need-cut-rows-requires
 cut-rows-requires c κs =
-    let fronts = c .before .before .before .before .before .before .before .before .before .before .before in
-    let known = fronts .before .before .before .before .before .before .before .before .before .before in
+    let set = c .before .before .before .before .before .before .before .before in
+    let fronts = set .before .before .before .before .before in
+    let known = fronts .before .before .before .before .before .before .before .before .before .before .before in
     let start = known .before in
     let kept = fronts .gather .kept .1 .1 .1 in (
       start .args .«data» .now,
-      fronts-looked (start .pre .0) (start .pre .1) (kept .0) (kept .1 .0) (fronts .gather .ensures _ (start .args .counts .now) _) (λ i. omega (arith, known .shared-slice-known .given i)),
+      fronts-looked (start .pre .0) (start .pre .1) (kept .0) (kept .1 .0) (fronts .gather .ensures _ (start .args .counts .now) _) (λ i. omega (arith, known .shared-slice-known .given i)) (set .glyph-set .given),
     )
 
 same-length : tie.Need-same-length
@@ -74,14 +75,15 @@ same-length-5 c = search needs
 returns : tie.Need-returns
 returns c =
     let rows = c .before .before .before .before .before .before in
-    let fronts = rows .before .before .before .before .before .before .before .before .before .before .before .before in
-    let known = fronts .before .before .before .before .before .before .before .before .before .before in
+    let set = rows .before .before .before .before .before .before .before .before .before in
+    let fronts = set .before .before .before .before .before in
+    let known = fronts .before .before .before .before .before .before .before .before .before .before .before in
     let start = known .before in
     let kept = fronts .gather .kept .1 .1 .1 in
     let gathered = fronts .gather .ensures (start .args .links .now) (start .args .counts .now) (start .args .table) in
     let found = rows .cut-rows .ensures in (
-      fronts-cut (start .pre .0) (start .pre .1) (kept .0) (kept .1 .0) gathered (λ i. omega (arith, known .shared-slice-known .given i)) (found .0 (start .args .«data» .now)),
-      found .1 (start .args .«data» .now) (fronts-looked (start .pre .0) (start .pre .1) (kept .0) (kept .1 .0) gathered (λ i. omega (arith, known .shared-slice-known .given i))),
+      fronts-cut (start .pre .0) (start .pre .1) (kept .0) (kept .1 .0) gathered (λ i. omega (arith, known .shared-slice-known .given i)) (set .glyph-set .given) (found .0 (start .args .«data» .now)),
+      found .1 (start .args .«data» .now) (fronts-looked (start .pre .0) (start .pre .1) (kept .0) (kept .1 .0) gathered (λ i. omega (arith, known .shared-slice-known .given i)) (set .glyph-set .given)),
     )
 
 pub cut-by-class-spec : {M : Type 1} → statement M
