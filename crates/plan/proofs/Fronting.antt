@@ -12,7 +12,7 @@ use Rattle.rules.specs.Store.{Store}
 use Rattle.rules.specs.Table.{entriesOf}
 use Rattle.checks.specs.declared.PairTable.{PairTable}
 use Rattle.split_points.specs.Filled.{Placed}
-use Rattle.split_points.specs.Classes.{Ordered}
+use Rattle.row_classes.specs.Classes.{Ordered}
 use Rattle.plan.specs.Cutting.{Gathering, Looked2, Looked, CutsByClass}
 
 front-long : (xs : List ℕ) (n : ℕ) → n ≤ length xs → length (part xs 0 n) ≡ n

@@ -27,7 +27,7 @@ use Rattle.object_store.specs.Rows.{Inside}
 use Rattle.class_order.specs.Pairs.{pairs, inOrder, keysOf, besideOf}
 use Rattle.checks.specs.declared.PairTable.{PairTable}
 use Rattle.checks.proofs.Refusals.{Opens, format-two}
-use Rattle.split_points.specs.Classes.{Ordered}
+use Rattle.row_classes.specs.Classes.{Ordered}
 use Rattle.split_points.proofs.Callers.{sorted}
 use Rattle.plan.specs.Cutting.{Gathering}
 use Rattle.plan.proofs.Looking.{part-inside}

@@ -14,7 +14,7 @@ use Rattle.checks.specs.declared.PairTable.{PairTable}
 use Rattle.checks.proofs.Refusals.{Opens}
 use Rattle.split_points.specs.declared.«table_info».TableInfo.{TableInfo}
 use Rattle.class_order.specs.ByClass.{classPairs}
-use Rattle.split_points.specs.Classes.{Ordered}
+use Rattle.row_classes.specs.Classes.{Ordered}
 use Rattle.split_points.specs.Filled.{TellsCycle, Placed}
 
 -- ---- the object beside the items

@@ -10,7 +10,7 @@ use Rattle.class_order.specs.Pairs.{pairs, inOrder, keysOf, besideOf}
 use Rattle.class_order.specs.ByClass.{classPairs}
 use Rattle.split_points.specs.declared.«table_info».TableInfo.{TableInfo}
 use Rattle.split_points.specs.Filled.{Described}
-use Rattle.split_points.specs.Classes.{Ordered}
+use Rattle.row_classes.specs.Classes.{Ordered}
 
 -- the checks up to 5
 pub described : {s : Store} {x : TableInfo} → Reads s (x .table) → x .header ≡ shape s (x .table) .header → x .item ≡ shape s (x .table) .item → x .count ≡ shape s (x .table) .count → x .epoch + x .count < 2147483648 → Described s x

@@ -22,12 +22,12 @@ use Rattle.estimator.specs.States.{valuesOf, Small}
 use Rattle.filling.specs.declared.Filling.{Filling}
 use Rattle.split_points.specs.declared.measuring.Measured.{Measured}
 use Rattle.split_points.specs.declared.«table_info».TableInfo.{TableInfo}
-use Rattle.split_points.specs.declared.classes.Classes.{Classes}
+use Rattle.row_classes.specs.declared.Classes.{Classes}
 use Rattle.split_points.specs.declared.format2.Rows.{Rows}
 use Rattle.filling.specs.Filling.{Fills, Weighed, Listed}
 use Rattle.split_points.specs.Measuring.{Measures}
 use Rattle.split_points.specs.Filled.{Described, cuttingAt, TellsCycle, Placed}
-use Rattle.split_points.specs.Classes.{Holds, Begins}
+use Rattle.row_classes.specs.Classes.{Holds, Begins}
 use Rattle.split_points.specs.Format2.{Ready2, Below2}
 use Rattle.split_points.proofs.Turns.{item-ends, filled-start, filled-stop, filled-back, added, cut}
 

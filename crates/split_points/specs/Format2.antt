@@ -11,7 +11,7 @@ use Rattle.glyph_set.proofs.Emptied.{Empty}
 use Rattle.split_points.specs.declared.«table_info».TableInfo.{TableInfo}
 use Rattle.split_points.specs.declared.format2.Rows.{Rows}
 use Rattle.split_points.specs.Filled.{Described, Unseen, cuttingAt, Filled, TellsCycle, Placed}
-use Rattle.split_points.specs.Classes.{Ordered, Holds}
+use Rattle.row_classes.specs.Classes.{Ordered, Holds}
 
 -- the table is of format 2, and the glyphs are those that it covers, by class
 pub record Table2 (s : Store) (x : TableInfo) (gs cs : List ℕ) : Type 0 where

@@ -1,9 +1,9 @@
 // The cut places of a table of format 2: the counterpart of `compute_format2_split_points`.
-use crate::classes::Classes;
 use crate::measuring::measure;
 use crate::table_info::TableInfo;
 use filling::Filling;
 use object_store::first_row;
+use row_classes::Classes;
 ghost use mathlib.Core.List.{List};
 ghost use Prim.Native.Nat.{ℕ, _<_};
 ghost use Rattle.rules.specs.Store.{lent};

@@ -1,5 +1,4 @@
 // Where to cut a table: the counterpart of `compute_format1_split_points` and `compute_format2_split_points`.
-pub mod classes;
 pub mod format1;
 pub mod format2;
 pub mod measuring;

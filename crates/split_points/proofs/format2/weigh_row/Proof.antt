@@ -3,7 +3,7 @@
 use mathlib.Core.Path.{_∙_}
 use native.Mathlib.Omega.{arith}
 use Rattle.split_points.proofs.Turns.{cuts-room}
-use Rattle.split_points.proofs.ClassesHeld.{held-small}
+use Rattle.row_classes.proofs.ClassesHeld.{held-small}
 use Rattle.split_points.proofs.ClassRows.{linked-most, beside-most, row-ends, row-most, row-added, row-cut}
 use borrow.Author.Needs.{needs}
 use Rattle.split_points.proofs.format2.weigh_row.Statement.{statement}

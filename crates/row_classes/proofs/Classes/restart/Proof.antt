@@ -1,11 +1,11 @@
--- `split_points::classes::Classes::restart` meets its contract: the set is empty again, and the last class is added to it. Assumes nothing.
+-- `row_classes::Classes::restart` meets its contract: the set is empty again, and the last class is added to it. Assumes nothing.
 use Prim.Native.Nat.{_+_}
 use mathlib.Core.Path.{refl}
 use native.Mathlib.Omega.{arith}
-use Rattle.split_points.proofs.ClassesHeld.{part-inside, held-none, held-ready, held-more}
+use Rattle.row_classes.proofs.ClassesHeld.{part-inside, held-none, held-ready, held-more}
 use borrow.Author.Needs.{needs}
-use Rattle.split_points.proofs.classes.Classes.restart.Statement.{statement}
-use Rattle.split_points.proofs.classes.Classes.restart.Tie as tie
+use Rattle.row_classes.proofs.Classes.restart.Statement.{statement}
+use Rattle.row_classes.proofs.Classes.restart.Tie as tie
 
 mul-forget : tie.Need-mul-forget
 mul-forget c =

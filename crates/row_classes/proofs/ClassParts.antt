@@ -22,7 +22,7 @@ use Rattle.class_order.specs.Pairs.{pairAt, pairs, inOrder, keysOf, besideOf}
 use Rattle.class_order.specs.ByClass.{classPairs, ByClass}
 use Rattle.class_order.proofs.Order.{Rises, inOrder-rises, inOrder-alike, inOrder-again, length-inOrder}
 use Rattle.class_order.proofs.Between.{parted, key-part}
-use Rattle.split_points.specs.ClassParts.{startOf, ClassEnd}
+use Rattle.row_classes.specs.ClassParts.{startOf, ClassEnd}
 
 -- ---- lists
 

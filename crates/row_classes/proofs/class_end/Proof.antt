@@ -1,11 +1,11 @@
--- `split_points::classes::class_end` meets its contract: all entries that were passed are of the class. Assumes nothing.
+-- `row_classes::class_end` meets its contract: all entries that were passed are of the class. Assumes nothing.
 use Prim.Native.Nat.{_-_}
 use native.Mathlib.Omega.{arith}
 use lib.ListN.{length}
 use borrow.Author.Needs.{needs}
-use Rattle.split_points.proofs.ClassesHeld.{Scanned, scan-start, scan-turn, scan-stop}
-use Rattle.split_points.proofs.classes.class_end.Statement.{statement}
-use Rattle.split_points.proofs.classes.class_end.Tie as tie
+use Rattle.row_classes.proofs.ClassesHeld.{Scanned, scan-start, scan-turn, scan-stop}
+use Rattle.row_classes.proofs.class_end.Statement.{statement}
+use Rattle.row_classes.proofs.class_end.Tie as tie
 
 abbrev Inv-loop : tie.InvT-loop
 Inv-loop classes from class end₀ end = Scanned classes from class end

@@ -1,10 +1,10 @@
--- `split_points::classes::Classes::add` meets its contract: the class's glyphs stand behind those that are held. Assumes nothing.
+-- `row_classes::Classes::add` meets its contract: the class's glyphs stand behind those that are held. Assumes nothing.
 use Prim.Native.Nat.{_+_}
 use native.Mathlib.Omega.{arith}
-use Rattle.split_points.proofs.ClassesHeld.{part-inside, held-from, held-end, held-ready, held-more}
+use Rattle.row_classes.proofs.ClassesHeld.{part-inside, held-from, held-end, held-ready, held-more}
 use borrow.Author.Needs.{needs}
-use Rattle.split_points.proofs.classes.Classes.add.Statement.{statement}
-use Rattle.split_points.proofs.classes.Classes.add.Tie as tie
+use Rattle.row_classes.proofs.Classes.add.Statement.{statement}
+use Rattle.row_classes.proofs.Classes.add.Tie as tie
 
 class-end-requires : tie.Need-class-end-requires
 class-end-requires c κs =

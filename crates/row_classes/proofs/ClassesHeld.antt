@@ -15,10 +15,10 @@ use Rattle.estimator.specs.declared.Estimator.{Estimator}
 use Rattle.estimator.specs.States.{valuesOf, Ready, Added, Small}
 use Rattle.estimator.proofs.Estimates.{estimates-none, ready, estimates-more, small}
 use Rattle.estimator.proofs.Forgetting.{marked-behind, forgotten}
-use Rattle.split_points.specs.declared.classes.Classes.{Classes}
-use Rattle.split_points.specs.ClassParts.{startOf, ClassEnd}
-use Rattle.split_points.specs.Classes.{Ordered, Holds, Begins}
-use Rattle.split_points.proofs.ClassParts.{starts-rise, starts-most, starts-none, length-glyphs, length-classes, class-part, class-ends}
+use Rattle.row_classes.specs.declared.Classes.{Classes}
+use Rattle.row_classes.specs.ClassParts.{startOf, ClassEnd}
+use Rattle.row_classes.specs.Classes.{Ordered, Holds, Begins}
+use Rattle.row_classes.proofs.ClassParts.{starts-rise, starts-most, starts-none, length-glyphs, length-classes, class-part, class-ends}
 
 -- ---- where a class ends
 

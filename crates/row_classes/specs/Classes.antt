@@ -11,8 +11,8 @@ use Rattle.glyph_set.specs.GlyphSet.{markAll}
 use Rattle.glyph_set.proofs.Emptied.{Empty}
 use Rattle.estimator.proofs.Estimates.{Estimates}
 use Rattle.class_order.specs.ByClass.{ByClass}
-use Rattle.split_points.specs.declared.classes.Classes.{Classes}
-use Rattle.split_points.specs.ClassParts.{startOf}
+use Rattle.row_classes.specs.declared.Classes.{Classes}
+use Rattle.row_classes.specs.ClassParts.{startOf}
 
 -- the glyphs are those of the entries, each once, in the order of their classes
 pub record Ordered (es : List Entry) (gs cs : List ℕ) : Type 0 where

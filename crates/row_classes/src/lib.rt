@@ -7,8 +7,8 @@ ghost use mathlib.Core.List.{List};
 ghost use Prim.Native.Nat.{ℕ, _+_, _≤_};
 ghost use lib.ListN.{length};
 ghost use Rattle.opentype.specs.Coverage.{Entry};
-ghost use Rattle.split_points.specs.ClassParts.{ClassEnd, startOf};
-ghost use Rattle.split_points.specs.Classes.{Ordered, Holds, Begins, Adds, Restarts};
+ghost use Rattle.row_classes.specs.ClassParts.{ClassEnd, startOf};
+ghost use Rattle.row_classes.specs.Classes.{Ordered, Holds, Begins, Adds, Restarts};
 
 // The glyphs from `first` up to `to` are in the estimator and in the set; those of the last class start at `from`.
 pub struct Classes {
