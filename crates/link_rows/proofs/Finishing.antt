@@ -10,11 +10,11 @@ use Rattle.opentype.specs.PairPos.{Shape}
 use Rattle.rules.specs.Store.{Store, Link, lent, linksOf, childAt}
 use Rattle.rules.specs.Written.{perTable, newNumber, tableLinks, newLinks, rowNumbers}
 use Rattle.rules.proofs.LinkRows.{rows-numbers}
-use Rattle.link_rows.specs.Rows.{seg, span, row, rows}
+use Rattle.row_moves.specs.Rows.{seg, span, row, rows}
 use Rattle.link_rows.specs.Blocks.{Plan, plan, newRows, parted, headCount, grown, keptRow, PartedRows}
 use Rattle.link_rows.specs.Parting.{Between, Parted}
-use Rattle.link_rows.proofs.Spans.{seg-ext, span-join, span-ext}
-use Rattle.link_rows.proofs.RowLaws.{rows-long, row-below, row-of-rows, own-rows}
+use Rattle.row_moves.proofs.Spans.{seg-ext, span-join, span-ext}
+use Rattle.row_moves.proofs.RowLaws.{rows-long, row-below, row-of-rows, own-rows}
 use Rattle.link_rows.proofs.Keeping.{kept-is, kept-long}
 use Rattle.link_rows.proofs.Parting.{planOf, header-count}
 use Rattle.link_rows.proofs.Written.{link-numbers}

@@ -6,10 +6,10 @@ use native.Mathlib.Omega.{arith}
 use lib.ListN.{length, getD, length-append}
 use Rattle.folds.specs.Lists.{put}
 use Rattle.folds.proofs.Put.{put-put, length-put, put-over}
-use Rattle.link_rows.specs.Rows.{seg, positionIn, widthIn, childIn, row, rows, Ordered}
+use Rattle.row_moves.specs.Rows.{seg, positionIn, widthIn, childIn, row, rows, Ordered}
 use Rattle.link_rows.specs.Blocks.{Plan, tables, tableId, movedRow, share, heads, tableRows, newRows, grown, Spread, PartedRows}
-use Rattle.link_rows.proofs.Spans.{seg-ext, span-ext}
-use Rattle.link_rows.proofs.RowLaws.{rows-long, row-of-rows}
+use Rattle.row_moves.proofs.Spans.{seg-ext, span-ext}
+use Rattle.row_moves.proofs.RowLaws.{rows-long, row-of-rows}
 
 module _ (ls out : List ℕ) (i k : ℕ) (e : row out k ≡ row ls i) where
   pub position-is : positionIn out k ≡ positionIn ls i

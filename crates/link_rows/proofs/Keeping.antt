@@ -9,10 +9,10 @@ use borrow.Author.Tests.{eq-eqb, ne-eqb}
 use Rattle.folds.specs.Lists.{put}
 use Rattle.folds.proofs.Put.{put-nil, put-put, put-four}
 use Rattle.rules.specs.Written.{keptChild}
-use Rattle.link_rows.specs.Rows.{span, parentIn, positionIn, widthIn, childIn, row}
+use Rattle.row_moves.specs.Rows.{span, parentIn, positionIn, widthIn, childIn, row}
 use Rattle.link_rows.specs.Blocks.{keptRow}
-use Rattle.link_rows.proofs.Spans.{span-empty, span-back}
-use Rattle.link_rows.proofs.RowLaws.{row-above, put-same, length-span}
+use Rattle.row_moves.proofs.Spans.{span-empty, span-back}
+use Rattle.row_moves.proofs.RowLaws.{row-above, put-same, length-span}
 
 length-kept : (ls : List ℕ) (t v k : ℕ) → length (keptRow ls t v k) ≡ 4
 unfolding keptRow

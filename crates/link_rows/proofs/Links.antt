@@ -8,7 +8,7 @@ use Rattle.folds.specs.Lists.{sift}
 use Rattle.folds.proofs.Picked.{sift-append}
 use Rattle.rules.specs.Store.{Link}
 use Rattle.rules.specs.Written.{rowNumbers}
-use Rattle.link_rows.specs.Rows.{four}
+use Rattle.row_moves.specs.Rows.{four}
 
 -- the numbers of one link
 abbrev pub numbers : Link → List ℕ

@@ -8,10 +8,10 @@ use lib.ListN.{length, getD}
 use Rattle.folds.specs.Lists.{put}
 use Rattle.folds.proofs.Tests.{either}
 use Rattle.folds.proofs.Put.{put-nil, put-below, put-before}
-use Rattle.link_rows.specs.Rows.{span, positionIn}
+use Rattle.row_moves.specs.Rows.{span, positionIn}
 use Rattle.link_rows.specs.Blocks.{movedRow, Moved}
-use Rattle.link_rows.proofs.Spans.{span-empty, span-front}
-use Rattle.link_rows.proofs.RowLaws.{length-span}
+use Rattle.row_moves.proofs.Spans.{span-empty, span-front}
+use Rattle.row_moves.proofs.RowLaws.{length-span}
 
 length-moved : (ls : List ℕ) (parent down k : ℕ) → length (movedRow ls parent down k) ≡ 4
 unfolding movedRow

@@ -17,7 +17,7 @@ use Rattle.rules.specs.Written.{from, perTable}
 use Rattle.rules.proofs.ItemLinks.{items-from}
 use Rattle.object_store.specs.Rows.{keyOf, FirstRow}
 use Rattle.object_store.proofs.Rows.{rows-between, rows-rise}
-use Rattle.link_rows.specs.Rows.{positionIn, Ordered}
+use Rattle.row_moves.specs.Rows.{positionIn, Ordered}
 use Rattle.link_rows.specs.Blocks.{Plan, plan, edge, headCount, grown, Fit}
 use Rattle.link_rows.specs.Parting.{perHeader, Parting, Between}
 use Rattle.link_rows.proofs.Spreading.{edge-at}

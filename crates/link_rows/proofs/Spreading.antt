@@ -11,9 +11,9 @@ use borrow.Author.Tests.{lt-ltb, le-ltb, le-leb, lt-leb, eq-eqb, ne-eqb}
 use Rattle.folds.specs.Lists.{put}
 use Rattle.folds.proofs.Tests.{either, and-second}
 use Rattle.folds.proofs.Put.{put-nil, put-below, put-before}
-use Rattle.link_rows.specs.Rows.{span, positionIn, four, Ordered}
+use Rattle.row_moves.specs.Rows.{span, positionIn, four, Ordered}
 use Rattle.link_rows.specs.Blocks.{Plan, tables, shift, edge, inside, tableId, movedRow, share, heads, headCount, tableRows, grown, Fit, Moved, Spread}
-use Rattle.link_rows.proofs.Spans.{span-empty, span-join, span-front, span-none, span-ext}
+use Rattle.row_moves.proofs.Spans.{span-empty, span-join, span-front, span-none, span-ext}
 use Rattle.link_rows.proofs.Moving.{moved-long}
 
 -- ---- the heads

@@ -20,10 +20,10 @@ use Rattle.rules.specs.Store.{Store, Link, linkAt, linksOf, parentOf, positionO
 use Rattle.rules.specs.Walk.{ofItems}
 use Rattle.rules.specs.Table.{linkedAt}
 use Rattle.rules.specs.Written.{from, to, perTable, newNumber, headLinks, moved, kept, tableLinks, newLinks, rowNumbers}
-use Rattle.link_rows.specs.Rows.{span, positionIn}
+use Rattle.row_moves.specs.Rows.{span, positionIn}
 use Rattle.link_rows.specs.Blocks.{edge, inside, movedRow, share, heads, tableRows, newRows, keptRow}
 use Rattle.link_rows.specs.Parting.{Between}
-use Rattle.link_rows.proofs.Spans.{flat-span, span-join, span-none, span-ext}
+use Rattle.row_moves.proofs.Spans.{flat-span, span-join, span-none, span-ext}
 use Rattle.link_rows.proofs.Links.{numbers, numbers-append, numbers-flat, numbers-sifted}
 use Rattle.link_rows.proofs.Spreading.{edge-at, edge-end}
 use Rattle.link_rows.proofs.Parting.{planOf, moves, stays-before, stays-after}

@@ -8,7 +8,7 @@ use lib.Dec.{eqb, leb, ltb}
 use Rattle.folds.specs.Lists.{put}
 use Rattle.rules.specs.Store.{perLink}
 use Rattle.rules.specs.Written.{keptChild}
-use Rattle.link_rows.specs.Rows.{span, parentIn, positionIn, widthIn, childIn, four, rows}
+use Rattle.row_moves.specs.Rows.{span, parentIn, positionIn, widthIn, childIn, four, rows}
 
 -- Items of `item` bytes each, from byte `header` of a table on, are parted: new table j, of number first + perTable * j, gets those from cuts[j] on.
 -- perTable is 2 or 3; new tables of 3 objects share the object class2.

@@ -7,8 +7,8 @@ use lib.ListN.{length, getD}
 use lib.Seq.{set-getD}
 use Rattle.folds.specs.Lists.{put}
 use Rattle.folds.proofs.Put.{put-nil, put-put, put-below, put-inside, put-above, put-four}
-use Rattle.link_rows.specs.Rows.{seg, span, row, rows}
-use Rattle.link_rows.proofs.Spans.{seg-ext, length-seg, seg-at, span-empty, span-back}
+use Rattle.row_moves.specs.Rows.{seg, span, row, rows}
+use Rattle.row_moves.proofs.Spans.{seg-ext, length-seg, seg-at, span-empty, span-back}
 
 pub length-row : (ls : List ℕ) (k : ℕ) → length (row ls k) ≡ 4
 unfolding row

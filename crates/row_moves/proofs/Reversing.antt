@@ -8,9 +8,9 @@ use lib.ListN.{length, length-append}
 use Rattle.folds.specs.Lists.{put}
 use Rattle.folds.proofs.Tests.{either}
 use Rattle.folds.proofs.Put.{put-nil, put-put, length-put, put-comm, put-before, put-over}
-use Rattle.link_rows.specs.Rows.{seg, span, row, rows, reversed}
-use Rattle.link_rows.proofs.Spans.{seg-ext, seg-add, span-empty, span-join, span-front, span-back}
-use Rattle.link_rows.proofs.RowLaws.{length-row, row-below, row-above, row-inside, put-same, length-span, own-rows}
+use Rattle.row_moves.specs.Rows.{seg, span, row, rows, reversed}
+use Rattle.row_moves.proofs.Spans.{seg-ext, seg-add, span-empty, span-join, span-front, span-back}
+use Rattle.row_moves.proofs.RowLaws.{length-row, row-below, row-above, row-inside, put-same, length-span, own-rows}
 
 abbrev mirror : List ℕ → ℕ → ℕ → ℕ → List ℕ
 mirror ls lo hi k = row ls (lo + hi - 1 - k)

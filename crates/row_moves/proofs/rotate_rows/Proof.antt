@@ -1,8 +1,8 @@
--- `link_rows::rotate_rows` meets its contract: three reversals. Assumes nothing.
-use Rattle.link_rows.proofs.Reversing.{turned, none-move, none-behind}
+-- `row_moves::rotate_rows` meets its contract: three reversals. Assumes nothing.
+use Rattle.row_moves.proofs.Reversing.{turned, none-move, none-behind}
 use borrow.Author.Needs.{needs}
-use Rattle.link_rows.proofs.rotate_rows.Statement.{statement}
-use Rattle.link_rows.proofs.rotate_rows.Tie as tie
+use Rattle.row_moves.proofs.rotate_rows.Statement.{statement}
+use Rattle.row_moves.proofs.rotate_rows.Tie as tie
 
 returns : tie.Need-returns
 returns c = none-move _ _ _ _ (c .before .before .pre .1) (c .before .before .pre .2) (c .if1 .taken)

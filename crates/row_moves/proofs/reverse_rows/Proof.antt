@@ -1,10 +1,10 @@
--- `link_rows::reverse_rows` meets its contract: the rows before i and from j on are reversed, those between are as they were. Assumes nothing.
+-- `row_moves::reverse_rows` meets its contract: the rows before i and from j on are reversed, those between are as they were. Assumes nothing.
 use borrow.Author.Needs.{needs}
 use Prim.Native.Nat.{_-_}
 use native.Mathlib.Omega.{arith}
-use Rattle.link_rows.proofs.Reversing.{Ends, ends-start, ends-turn, ends-done}
-use Rattle.link_rows.proofs.reverse_rows.Statement.{statement}
-use Rattle.link_rows.proofs.reverse_rows.Tie as tie
+use Rattle.row_moves.proofs.Reversing.{Ends, ends-start, ends-turn, ends-done}
+use Rattle.row_moves.proofs.reverse_rows.Statement.{statement}
+use Rattle.row_moves.proofs.reverse_rows.Tie as tie
 
 abbrev Inv-loop : tie.InvT-loop
 Inv-loop links₀ lo hi i₀ j₀ links i j = Ends links₀ lo hi links i j

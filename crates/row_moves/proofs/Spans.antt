@@ -7,7 +7,7 @@ use lib.ListN.{length, getD}
 use Rattle.folds.specs.Folds.{flat}
 use Rattle.folds.proofs.FromTheFront.{flat-same, length-even, even-at}
 use Rattle.rules.specs.Store.{perLink}
-use Rattle.link_rows.specs.Rows.{seg, span}
+use Rattle.row_moves.specs.Rows.{seg, span}
 
 -- two segments agree where what they are made of does, also from another index on
 pub seg-ext : (f g : ℕ → List ℕ) (a b n : ℕ) → ((i : ℕ) → i < n → f (a + i) ≡ g (b + i)) → seg f a n ≡ seg g b n

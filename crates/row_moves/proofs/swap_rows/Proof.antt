@@ -1,9 +1,9 @@
--- `link_rows::swap_rows` meets its contract: one row is written after the other, from numbers read before. Assumes nothing.
+-- `row_moves::swap_rows` meets its contract: one row is written after the other, from numbers read before. Assumes nothing.
 use Rattle.folds.proofs.Put.{both-puts}
-use Rattle.link_rows.specs.Rows.{row}
+use Rattle.row_moves.specs.Rows.{row}
 use borrow.Author.Needs.{needs}
-use Rattle.link_rows.proofs.swap_rows.Statement.{statement}
-use Rattle.link_rows.proofs.swap_rows.Tie as tie
+use Rattle.row_moves.proofs.swap_rows.Statement.{statement}
+use Rattle.row_moves.proofs.swap_rows.Tie as tie
 
 mul-a : tie.Need-mul-a
 mul-a c = search needs

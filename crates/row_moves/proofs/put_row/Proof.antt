@@ -1,10 +1,10 @@
--- `link_rows::put_row` meets its contract: four numbers are written, one behind the other. Assumes nothing.
+-- `row_moves::put_row` meets its contract: four numbers are written, one behind the other. Assumes nothing.
 use native.Mathlib.Omega.{arith}
 use lib.ListN.{length-set}
 use Rattle.folds.proofs.Put.{put-four}
 use borrow.Author.Needs.{needs}
-use Rattle.link_rows.proofs.put_row.Statement.{statement}
-use Rattle.link_rows.proofs.put_row.Tie as tie
+use Rattle.row_moves.proofs.put_row.Statement.{statement}
+use Rattle.row_moves.proofs.put_row.Tie as tie
 
 mul-at : tie.Need-mul-at
 mul-at c = search needs

@@ -1,0 +1,3 @@
+pub mod Spans
+pub mod RowLaws
+pub mod Reversing
