@@ -6,7 +6,7 @@ ghost use lib.ListN.{length};
 ghost use Rattle.folds.specs.Lists.{put};
 ghost use Rattle.rules.specs.Store.{lent, perLink};
 ghost use Rattle.rules.specs.Written.{keptChild};
-ghost use Rattle.row_moves.specs.Rows.{span, positionIn, four, row, rows, Ordered};
+ghost use Rattle.row_moves.specs.Rows.{span, positionIn, Ordered};
 ghost use Rattle.link_rows.specs.Blocks.{plan, edge, heads, headCount, grown, keptRow, Fit, Moved, Spread, PartedRows};
 ghost use Rattle.link_rows.specs.Parting.{shapeWith, Parting, Between, Parted};
 use object_store::PER_LINK;
