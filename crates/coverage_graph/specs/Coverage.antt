@@ -1,11 +1,8 @@
 -- What the functions over a Coverage take and answer, beside what OpenType says of one. Assumes nothing.
-use Prim.Native.Nat.{ℕ, _+_}
+use Prim.Native.Nat.{ℕ}
 use mathlib.Core.Path.{_≡_}
-use mathlib.Core.Bool.{Bool, _&&_}
 use mathlib.Core.List.{List}
 use mathlib.Core.Option.{Option, some, none}
-use lib.ListN.{length, getD}
-use lib.Dec.{ltb, eqb}
 use Rattle.opentype.specs.Coverage.{coverageOf}
 use Rattle.opentype.specs.declared.Kind.the-variants as Kind
 use Rattle.opentype.specs.declared.Reading.the-variants.{Readable}
@@ -24,7 +21,3 @@ AsList b n = coverageOf b ≡ Readable (record { kind = Kind.List; count = n })
 -- a readable Coverage of n ranges
 abbrev pub AsRanges : List ℕ → ℕ → Type 0
 AsRanges b n = coverageOf b ≡ Readable (record { kind = Kind.Ranges; count = n })
-
--- there is a glyph after the one at k, and it is one more
-unfoldable pub joinsNext : List ℕ → ℕ → Bool
-joinsNext gs k = ltb (k + 1) (length gs) && eqb (getD gs k 0 + 1) (getD gs (k + 1) 0)

@@ -1,7 +1,6 @@
-// OpenType's Coverage: which glyphs a table speaks of, and each one's place. Read into a header, looked up, listed and written.
+// OpenType's Coverage: which glyphs a table speaks of, and each one's place. Read into a header, looked up and listed.
 pub mod in_ranges;
 pub mod list;
-pub mod write;
 
 use in_ranges::count_in_ranges;
 use in_ranges::indices_fit;
@@ -15,15 +14,11 @@ use opentype::Kind;
 use opentype::Reading;
 use ranges::ranges_fit;
 use wire::u16_at;
-use write::run_count;
-use write::write_list;
-use write::write_ranges;
 ghost use mathlib.Core.Path.{_≡_};
-ghost use Prim.Native.Nat.{_+_, _≤_};
+ghost use Prim.Native.Nat.{_≤_};
 ghost use lib.ListN.{length};
 ghost use Rattle.folds.specs.Lists.{put};
-ghost use Rattle.opentype.specs.Coverage.{coverageOf, coverGlyphs, coverPlace, coverageBytes};
-ghost use Rattle.ranges.specs.Ascending.{Ascending};
+ghost use Rattle.opentype.specs.Coverage.{coverageOf, coverGlyphs, coverPlace};
 ghost use Rattle.coverage_graph.specs.Coverage.{placeOf};
 
 // A glyph's place in the coverage.
@@ -105,34 +100,5 @@ pub fn glyphs_into(part: &[u8], header: Header, out: &mut [u16])
     match kind {
         Kind::List => list_into(part, count, out),
         Kind::Ranges => ranges_into(part, count, out),
-    }
-}
-
-// How many bytes the Coverage of these glyphs takes.
-pub fn coverage_length(glyphs: &[u16]) -> usize
-    ensures { λ r. ⌜ r ≡ length (coverageBytes (now (glyphs .entry))) ⌝ }
-{
-    let runs = run_count(glyphs);
-    if 3 * runs < glyphs.len() {
-        4 + 6 * runs
-    } else {
-        4 + 2 * glyphs.len()
-    }
-}
-
-// Writes the Coverage of these glyphs at byte `at` of `out`, and returns where it ends: in ranges only where that is shorter.
-pub fn write_coverage(glyphs: &[u16], out: &mut [u8], at: usize) -> usize
-    requires { ⌜ Ascending (now glyphs) ⌝ }
-    requires { ⌜ at + length (coverageBytes (now glyphs)) ≤ length (now out) ⌝ }
-    ensures { λ r. ⌜ (now (out .exit) ≡ put (now (out .entry)) at (coverageBytes (now (glyphs .entry)))) × (r ≡ at + length (coverageBytes (now (glyphs .entry)))) ⌝ }
-{
-    let n = glyphs.len();
-    let count = run_count(glyphs);
-    if 3 * count < n {
-        write_ranges(glyphs, count, out, at);
-        at + (4 + 6 * count)
-    } else {
-        write_list(glyphs, out, at);
-        at + (4 + 2 * n)
     }
 }

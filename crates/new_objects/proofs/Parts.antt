@@ -13,7 +13,7 @@ use Rattle.opentype.specs.Coverage.{Entry, coverageBytes, runs}
 use Rattle.opentype.specs.ClassDef.{named, classDefBytes}
 use Rattle.opentype.specs.PairPos.{shapeOf}
 use Rattle.opentype.proofs.CoverageLength.{cover-length}
-use Rattle.coverage_graph.proofs.Counts.{at-most}
+use Rattle.coverage_writer.proofs.Counts.{at-most}
 use Rattle.ranges.specs.Ascending.{Ascending}
 use Rattle.rules.specs.Written.{reduced}
 use Rattle.class_def.specs.Entries.{reducedEntries}

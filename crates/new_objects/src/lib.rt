@@ -2,8 +2,8 @@
 use class_def::class_def_length;
 use class_def::write_class_def;
 use class_order::sort_pairs;
-use coverage_graph::coverage_length;
-use coverage_graph::write_coverage;
+use coverage_writer::coverage_length;
+use coverage_writer::write_coverage;
 use new_table::write_format1;
 use new_table::write_format2;
 use object_rows::put_object;

@@ -19,7 +19,7 @@ use Rattle.rules.proofs.CutPlaces.{Places, table-cuts}
 use Rattle.rules.proofs.Checks.{entries-ascend}
 use Rattle.rules.proofs.Entries.{entries-glyphs}
 use Rattle.object_store.specs.Rows.{Inside}
-use Rattle.coverage_graph.proofs.Counts.{at-most}
+use Rattle.coverage_writer.proofs.Counts.{at-most}
 use Rattle.pair_pos.specs.declared.Layout.{Layout}
 use Rattle.pair_pos.specs.Layout.{layoutOf}
 use Rattle.checks.specs.declared.PairTable.{PairTable}

@@ -14,7 +14,7 @@ use Rattle.folds.proofs.Tests.{and-both, either}
 use Rattle.opentype.specs.Coverage.{Run, single, runs, plain}
 use Rattle.opentype.proofs.Runs.{startingAt, starting-own, runs-join, runs-part, runs-one, runs-none}
 use Rattle.opentype.proofs.RunCount.{alone}
-use Rattle.coverage_graph.specs.Coverage.{joinsNext}
+use Rattle.coverage_writer.specs.Joins.{joinsNext}
 
 -- the runs from glyph k on
 abbrev pub tail : List ℕ → ℕ → List Run

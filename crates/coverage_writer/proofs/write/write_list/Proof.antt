@@ -11,8 +11,8 @@ use Rattle.folds.proofs.Put.{put-nil, put-then}
 use Rattle.opentype.specs.Numbers.{be16, words}
 use Rattle.opentype.proofs.Numbers.{length-words}
 use Rattle.opentype.proofs.Words.{words-none, words-more}
-use Rattle.coverage_graph.proofs.write.write_list.Statement.{statement}
-use Rattle.coverage_graph.proofs.write.write_list.Tie as tie
+use Rattle.coverage_writer.proofs.write.write_list.Statement.{statement}
+use Rattle.coverage_writer.proofs.write.write_list.Tie as tie
 
 record Inv (g out₀ out : List ℕ) (first k : ℕ) : Type 0 where
   room : first + 2 * length g ≤ length out₀

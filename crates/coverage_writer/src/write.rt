@@ -8,7 +8,7 @@ ghost use lib.ListN.{length};
 ghost use Rattle.folds.specs.Lists.{put};
 ghost use Rattle.opentype.specs.Numbers.{be16, words};
 ghost use Rattle.opentype.specs.Coverage.{plain, runs, coverRanges};
-ghost use Rattle.coverage_graph.specs.Coverage.{joinsNext};
+ghost use Rattle.coverage_writer.specs.Joins.{joinsNext};
 
 // A glyph as a number to which one can be added.
 fn wide(x: u16) -> usize

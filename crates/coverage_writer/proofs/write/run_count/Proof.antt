@@ -8,10 +8,10 @@ use native.Mathlib.Omega.{arith}
 use lib.ListN.{length, getD}
 use Rattle.opentype.specs.Coverage.{runs, plain}
 use Rattle.opentype.proofs.RunCount.{starting-length}
-use Rattle.coverage_graph.specs.Coverage.{joinsNext}
-use Rattle.coverage_graph.proofs.Tails.{tail, tail-none, tail-join, tail-part}
-use Rattle.coverage_graph.proofs.write.run_count.Statement.{statement}
-use Rattle.coverage_graph.proofs.write.run_count.Tie as tie
+use Rattle.coverage_writer.specs.Joins.{joinsNext}
+use Rattle.coverage_writer.proofs.Tails.{tail, tail-none, tail-join, tail-part}
+use Rattle.coverage_writer.proofs.write.run_count.Statement.{statement}
+use Rattle.coverage_writer.proofs.write.run_count.Tie as tie
 
 record Inv (g : List ℕ) (count k : ℕ) : Type 0 where
   within : k ≤ length g

@@ -8,8 +8,8 @@ use lib.ListN.{length}
 use Rattle.opentype.specs.Coverage.{plain, coverageBytes}
 use Rattle.opentype.proofs.RunCount.{many}
 use Rattle.opentype.proofs.CoverageLength.{ranges-long, list-long}
-use Rattle.coverage_graph.proofs.coverage_length.Statement.{statement}
-use Rattle.coverage_graph.proofs.coverage_length.Tie as tie
+use Rattle.coverage_writer.proofs.coverage_length.Statement.{statement}
+use Rattle.coverage_writer.proofs.coverage_length.Tie as tie
 
 in-ranges : (gs : List ℕ) {n : ℕ} → n ≡ many (plain gs) → 3 * n < length gs → 4 + 6 * n ≡ length (coverageBytes gs)
 in-ranges gs {n} e h = omega (arith, ranges-long gs (omega arith))

@@ -5,8 +5,8 @@ use Prim.Native.Nat.{ℕ, _+_}
 use native.Mathlib.Omega.{arith}
 use Rattle.folds.proofs.Put.{put-then}
 use Rattle.opentype.proofs.Numbers.{length-be16}
-use Rattle.coverage_graph.proofs.write.put_head.Statement.{statement}
-use Rattle.coverage_graph.proofs.write.put_head.Tie as tie
+use Rattle.coverage_writer.proofs.write.put_head.Statement.{statement}
+use Rattle.coverage_writer.proofs.write.put_head.Tie as tie
 
 put-u16-requires : tie.Need-put-u16-requires
 put-u16-requires c κs = search needs

@@ -11,9 +11,9 @@ use Rattle.opentype.specs.Coverage.{runs, plain, coverRanges, coverageBytes}
 use Rattle.opentype.proofs.RunCount.{many}
 use Rattle.opentype.proofs.CoverageLength.{as-ranges, ranges-long, as-list, list-long}
 use Rattle.ranges.specs.Ascending.{Ascending}
-use Rattle.coverage_graph.proofs.Counts.{at-most, listed}
-use Rattle.coverage_graph.proofs.write_coverage.Statement.{statement}
-use Rattle.coverage_graph.proofs.write_coverage.Tie as tie
+use Rattle.coverage_writer.proofs.Counts.{at-most, listed}
+use Rattle.coverage_writer.proofs.write_coverage.Statement.{statement}
+use Rattle.coverage_writer.proofs.write_coverage.Tie as tie
 
 -- n runs, in ranges
 module _ (gs : List ℕ) {n : ℕ} (runs-are : n ≡ many (plain gs)) (h : 3 * n < length gs) where

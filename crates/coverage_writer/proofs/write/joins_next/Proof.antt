@@ -7,9 +7,9 @@ use Prim.Native.Nat.{ℕ, _+_, _≤_, _<_}
 use lib.ListN.{length, getD}
 use lib.Dec.{eqb}
 use borrow.Author.Tests.{lt-ltb, le-ltb}
-use Rattle.coverage_graph.specs.Coverage.{joinsNext}
-use Rattle.coverage_graph.proofs.write.joins_next.Statement.{statement}
-use Rattle.coverage_graph.proofs.write.joins_next.Tie as tie
+use Rattle.coverage_writer.specs.Joins.{joinsNext}
+use Rattle.coverage_writer.proofs.write.joins_next.Statement.{statement}
+use Rattle.coverage_writer.proofs.write.joins_next.Tie as tie
 
 next-there : (gs : List ℕ) (k : ℕ) {a b : ℕ} → k + 1 < length gs → a ≡ getD gs k 0 → b ≡ getD gs (k + 1) 0 → eqb (a + 1) b ≡ joinsNext gs k
 unfolding joinsNext

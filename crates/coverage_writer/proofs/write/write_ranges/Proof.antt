@@ -12,10 +12,10 @@ use Rattle.opentype.specs.Numbers.{be16}
 use Rattle.opentype.specs.Coverage.{Run, runs, plain, coverRanges}
 use Rattle.opentype.proofs.Runs.{startingAt, starting-again}
 use Rattle.opentype.proofs.CoverageLength.{length-cover-ranges}
-use Rattle.coverage_graph.specs.Coverage.{joinsNext}
-use Rattle.coverage_graph.proofs.Tails.{tail, tail-none, tail-own, joins-next, tail-join, tail-part}
-use Rattle.coverage_graph.proofs.write.write_ranges.Statement.{statement}
-use Rattle.coverage_graph.proofs.write.write_ranges.Tie as tie
+use Rattle.coverage_writer.specs.Joins.{joinsNext}
+use Rattle.coverage_writer.proofs.Tails.{tail, tail-none, tail-own, joins-next, tail-join, tail-part}
+use Rattle.coverage_writer.proofs.write.write_ranges.Statement.{statement}
+use Rattle.coverage_writer.proofs.write.write_ranges.Tie as tie
 
 record Inv (g out₀ out : List ℕ) (at end from k : ℕ) : Type 0 where
   room : at + 6 * length (runs (plain g)) ≤ length out₀
