@@ -1,6 +1,1 @@
-pub mod Entries
-pub mod Ends
-pub mod Heads
-pub mod Written
-pub mod RoundTrip
 pub mod Filled

@@ -1,3 +1,1 @@
 pub mod Lookup
-pub mod Entries
-pub mod Written

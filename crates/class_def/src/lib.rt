@@ -1,4 +1,4 @@
-// OpenType's ClassDef: the class of each glyph, read, looked up and written.
+// OpenType's ClassDef: the class of each glyph, read and looked up.
 use opentype::Header;
 use opentype::Kind;
 use opentype::Reading;
@@ -6,27 +6,20 @@ use wire::u16_at;
 
 pub mod in_ranges;
 pub mod list;
-pub mod named;
 
 use in_ranges::class_in_ranges;
 use in_ranges::range_classes;
 use in_ranges::read_ranges;
-use in_ranges::write_ranges;
 use list::class_in_list;
 use list::list_classes;
 use list::read_list;
-use list::write_list;
-use named::outline_of;
-use named::ranges_win;
 ghost use mathlib.Core.Path.{_≡_};
 ghost use mathlib.Core.List.{map};
-ghost use Prim.Native.Nat.{_+_, _≤_, _<_};
+ghost use Prim.Native.Nat.{_≤_};
 ghost use lib.ListN.{length};
 ghost use Rattle.folds.specs.Lists.{put};
-ghost use Rattle.opentype.specs.Coverage.{runs};
-ghost use Rattle.opentype.specs.ClassDef.{classDefOf, classOf, named, classDefBytes};
+ghost use Rattle.opentype.specs.ClassDef.{classDefOf, classOf};
 ghost use Rattle.ranges.specs.Ascending.{Ascending};
-ghost use Rattle.class_def.specs.Entries.{reducedEntries};
 
 // What a class definition is read into; everything malformed is unreadable.
 pub fn read_class_def(part: &[u8]) -> Reading
@@ -70,46 +63,5 @@ pub fn classes_into(part: &[u8], header: Header, glyphs: &[u16], out: &mut [u16]
     match kind {
         Kind::List => list_classes(part, count, glyphs, out),
         Kind::Ranges => range_classes(part, count, glyphs, out),
-    }
-}
-
-// How many bytes the class definition of these glyphs and classes has, the classes reduced by `first`.
-pub fn class_def_length(glyphs: &[u16], classes: &[u16], first: u16) -> usize
-    requires { ⌜ length (now classes) ≡ length (now glyphs) ⌝ }
-    requires { ⌜ Ascending (now glyphs) ⌝ }
-    ensures { λ r. ⌜ r ≡ length (classDefBytes (reducedEntries (now (glyphs .entry)) (now (classes .entry)) first)) ⌝ }
-{
-    let outline = outline_of(glyphs, classes, first);
-    let runs = outline.runs;
-    let span = outline.span;
-    if ranges_win(runs, span) {
-        4 + 6 * runs
-    } else {
-        6 + 2 * span
-    }
-}
-
-// Writes that class definition at `at`, and returns where it ends.
-pub fn write_class_def(
-    glyphs: &[u16],
-    classes: &[u16],
-    first: u16,
-    out: &mut [u8],
-    at: usize,
-) -> usize
-    requires { ⌜ length (now classes) ≡ length (now glyphs) ⌝ }
-    requires { ⌜ Ascending (now glyphs) ⌝ }
-    requires { ⌜ length (runs (named (reducedEntries (now glyphs) (now classes) first))) < 65536 ⌝ }
-    requires { ⌜ at + length (classDefBytes (reducedEntries (now glyphs) (now classes) first)) ≤ length (now out) ⌝ }
-    ensures { λ _. ⌜ now (out .exit) ≡ put (now (out .entry)) at (classDefBytes (reducedEntries (now (glyphs .entry)) (now (classes .entry)) first)) ⌝ }
-    ensures { λ r. ⌜ r ≡ at + length (classDefBytes (reducedEntries (now (glyphs .entry)) (now (classes .entry)) first)) ⌝ }
-{
-    let outline = outline_of(glyphs, classes, first);
-    let runs = outline.runs;
-    let span = outline.span;
-    if ranges_win(runs, span) {
-        write_ranges(glyphs, classes, first, runs, out, at)
-    } else {
-        write_list(glyphs, classes, first, outline, out, at)
     }
 }

@@ -22,7 +22,7 @@ use Rattle.opentype.proofs.CoverageLength.{cover-length}
 use Rattle.opentype.proofs.RangeBytes.{ranged-length}
 use Rattle.rules.specs.Cuts.{within}
 use Rattle.rules.specs.Written.{newParts, reduced}
-use Rattle.class_def.specs.Entries.{reducedEntries}
+use Rattle.class_def_writer.specs.Entries.{reducedEntries}
 use Rattle.new_objects.specs.Tables.{paired}
 use Rattle.new_objects.specs.Objects.{partsOf}
 

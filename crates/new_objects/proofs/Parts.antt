@@ -16,7 +16,7 @@ use Rattle.opentype.proofs.CoverageLength.{cover-length}
 use Rattle.coverage_writer.proofs.Counts.{at-most}
 use Rattle.ranges.specs.Ascending.{Ascending}
 use Rattle.rules.specs.Written.{reduced}
-use Rattle.class_def.specs.Entries.{reducedEntries}
+use Rattle.class_def_writer.specs.Entries.{reducedEntries}
 use Rattle.new_table.specs.Cloned.{Cloned}
 use Rattle.pair_pos.specs.declared.Layout.{Layout}
 use Rattle.new_objects.specs.Tables.{paired, Beside}

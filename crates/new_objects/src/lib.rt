@@ -1,6 +1,6 @@
 // The new objects of a split, in document 01's order: how many bytes they take, and their bytes and rows.
-use class_def::class_def_length;
-use class_def::write_class_def;
+use class_def_writer::class_def_length;
+use class_def_writer::write_class_def;
 use class_order::sort_pairs;
 use coverage_writer::coverage_length;
 use coverage_writer::write_coverage;
