@@ -1,39 +1,37 @@
 -- What a caller has of the covered glyphs of a table in a store: the plan, the old table, and that the new objects are those of document 01. Assumes nothing.
 use Prim.Native.Nat.{ℕ, _+_, _-_, _*_, _<_, _≤_}
 use mathlib.Core.Path.{_≡_, refl, sym, subst, ap, ap₂, _∙_}
-use mathlib.Core.Bool.{Bool, true, false, not}
+use mathlib.Core.Bool.{true, false}
 use mathlib.Core.List.{List, [], _∷_, _++_, map}
 use native.Mathlib.Omega.{arith}
 use lib.ListN.{length, getD}
 use lib.Dec.{eqb}
-use borrow.Author.Tests.{eqb-false, not-true}
 use Rattle.folds.specs.Folds.{upto}
 use Rattle.folds.specs.Lists.{join, part}
 use Rattle.folds.proofs.Folds.{before-none, before-more}
 use Rattle.folds.proofs.FromTheFront.{flat-same, upto-getD}
 use Rattle.folds.proofs.Parts.{getD-default}
 use Rattle.folds.proofs.Moved.{map-upto}
-use Rattle.folds.proofs.Each.{Each, each-at, each-map, each-sift}
 use Rattle.opentype.specs.Numbers.{u16At}
 use Rattle.opentype.specs.Coverage.{Entry}
-use Rattle.opentype.specs.ClassDef.{named, classOf}
+use Rattle.opentype.specs.ClassDef.{classOf}
 use Rattle.opentype.specs.PairPos.{Shape, shape1, shape2, shapeOf}
-use Rattle.opentype.proofs.Runs.{Ascends, Under, ascends-sift, under-sift}
+use Rattle.opentype.proofs.Runs.{Ascends, Under}
 use Rattle.opentype.proofs.RunStarts.{entry}
 use Rattle.opentype.proofs.Shapes.{by-format}
 use Rattle.opentype.proofs.Octets.{Bytes, bytes-u16}
 use Rattle.opentype.proofs.Entries.{Agrees, ascends-plain}
-use Rattle.opentype.proofs.RangesCounted.{few-runs, class-slack}
 use Rattle.opentype.proofs.BytesWritten.{class-of-bits}
 use Rattle.ranges.proofs.Ascending.{ascending}
 use Rattle.rules.specs.Store.{Store, headOf, tailOf, bytesOf}
 use Rattle.rules.specs.Cuts.{within}
 use Rattle.rules.specs.Table.{shape, entriesOf, glyphsOf, linkedAt, linkedBytes}
-use Rattle.rules.specs.Written.{from, to, reduced, newTable, newParts, newObjects, newOf}
+use Rattle.rules.specs.Written.{from, to, newTable, newParts, newObjects, newOf}
 use Rattle.rules.proofs.Sound.{Fits, sound-fits, size-bytes}
 use Rattle.rules.proofs.CutPlaces.{Places}
-use Rattle.rules.proofs.Entries.{entries1, entries-agree, within-agrees, within-ascends, within-under, ascends-reduced, under-reduced}
-use Rattle.rules.proofs.Checks.{Reads, class-read, entries-ascend, entries-under, object-bytes}
+use Rattle.rules.proofs.Entries.{entries1, entries-agree, within-ascends}
+use Rattle.rules.proofs.Checks.{Reads, entries-ascend, entries-under, object-bytes, count-bits}
+use Rattle.rules.proofs.NamedRuns.{range-runs-few}
 use Rattle.pair_pos.specs.declared.Layout.{Layout}
 use Rattle.pair_pos.specs.Layout.{layoutOf}
 use Rattle.class_order.specs.ByClass.{ByClass}
@@ -102,45 +100,12 @@ module _ (s : Store) (t : ℕ) (reads : Reads s t) (octets : Bytes (s .bytes)) w
   class-bits : (i : ℕ) → u16At (linkedBytes s t 8) i < 65536
   class-bits = bytes-u16 (linkedBytes s t 8) (object-bytes s octets (linkedAt s t 8))
 
-  -- the class that a table's first item leaves a glyph
-  abbrev GivenBy : ℕ → Entry → Type 0
-  GivenBy lo e = e .class ≡ classOf (linkedBytes s t 8) (e .glyph) - lo
-
-  module _ (lo hi : ℕ) where
-    abbrev rs : List Entry
-    rs = reduced lo (within lo hi es)
-
-    abbrev isNamed : Entry → Bool
-    isNamed e = not (eqb (e .class) 0)
-
-    given : eqb (sh .format) 1 ≡ false → Each (GivenBy lo) rs
-    given two =
-        each-map (λ e. classOf (linkedBytes s t 8) (e .glyph) ≡ e .class) (GivenBy lo) (λ e. entry (e .glyph) (e .class - lo)) (λ e h. ap (λ (c : ℕ). c - lo) (sym h)) (within lo hi es)
-        (within-agrees (classOf (linkedBytes s t 8)) lo hi es (entries-agree s t two))
-
-    named-given : eqb (sh .format) 1 ≡ false → Each (λ e. GivenBy lo e × (e .class ≡ 0 → ⊥)) (named rs)
-    unfolding named
-    named-given two = each-sift (GivenBy lo) (λ e. GivenBy lo e × (e .class ≡ 0 → ⊥)) isNamed (λ e h k. (h, eqb-false (e .class) 0 (not-true (eqb (e .class) 0) k))) rs (given two)
-
-    pub stored-beside : Beside (sh .format) lo (within lo hi es)
-    unfolding named
-    stored-beside =
-        let wu : Ascends 0 (within lo hi es) = within-ascends lo hi es 0 up in
-        let ru : Ascends 0 rs = ascends-reduced lo (within lo hi es) 0 wu in
-        let rn : Under 65536 rs = under-reduced lo (within lo hi es) 65536 (within-under lo hi es 65536 under) in
-        record {
-          ascending = ascending (map (λ e. e .glyph) (within lo hi es)) (ascends-plain (within lo hi es) 0 wu);
-          countable = λ two.
-              few-runs (named rs) (classOf (linkedBytes s t 8)) lo (ascends-sift isNamed rs 0 ru) (under-sift isNamed rs 65536 rn)
-              (class-slack (linkedBytes s t 8) class-bits (class-read s t (reads .parts) two .1))
-              (λ k d m. each-at (λ e. GivenBy lo e × (e .class ≡ 0 → ⊥)) (named rs) (named-given two) k m d);
-        }
-
-  count-bits : sh .count < 65536
-  unfolding shape1 shape2
-  count-bits =
-      let b = bytes-u16 (bytesOf s t) (object-bytes s octets t) in
-      by-format (λ sh. sh .count < 65536) (bytesOf s t) (λ e. b 8) (λ e. b 12)
+  pub stored-beside : (lo hi : ℕ) → Beside (sh .format) lo (within lo hi es)
+  stored-beside lo hi =
+      record {
+        ascending = ascending (map (λ e. e .glyph) (within lo hi es)) (ascends-plain (within lo hi es) 0 (within-ascends lo hi es 0 up));
+        countable = λ two. range-runs-few s t reads two lo hi octets;
+      }
 
   header-small : sh .header ≤ 16
   unfolding shape1 shape2
@@ -161,7 +126,7 @@ module _ (s : Store) (t : ℕ) (reads : Reads s t) (octets : Bytes (s .bytes)) w
         parted = r .parted;
         beside = λ k h. subst (λ (x : List Entry). Beside (sh .format) (lowAt cs k) x) (sym (r .entries k h)) (stored-beside (lowAt cs k) (highAt (sh .count) cs k));
         header = header-small;
-        count = count-bits;
+        count = count-bits s t octets;
         size = omega (arith, table-long, fits .object t (reads .used) .inside, fits .bytesMost);
       }
 

@@ -1,11 +1,8 @@
 -- The covered glyphs of a table of format 2 and their classes, in whole slices. Assumes nothing.
-use Prim.Native.Nat.{ℕ, zero, suc, _≤_, _<_}
+use Prim.Native.Nat.{ℕ, _≤_, _<_}
 use mathlib.Core.Path.{_≡_, sym, ap, ap₂, subst, _∙_}
 use mathlib.Core.Bool.{false}
 use mathlib.Core.List.{List, map, map-map}
-use mathlib.Core.Logic.{⊎-elim}
-use native.Mathlib.Nat.{not-suc-le-zero, le-of-suc-le-suc, eq-or-lt-of-le}
-use native.Mathlib.Numerals.{add-one}
 use native.Mathlib.Omega.{arith}
 use lib.ListN.{length, getD, length-map}
 use lib.Dec.{eqb}
@@ -18,7 +15,7 @@ use Rattle.opentype.proofs.Octets.{Bytes}
 use Rattle.opentype.proofs.Entries.{ascends-plain}
 use Rattle.opentype.proofs.RunStarts.{entry}
 use Rattle.ranges.specs.Ascending.{Ascending}
-use Rattle.ranges.proofs.Ascending.{ascending}
+use Rattle.ranges.proofs.Ascending.{ascending, apart}
 use Rattle.rules.specs.Store.{Store, bytesOf}
 use Rattle.rules.specs.Table.{shape, glyphsOf, linkedBytes, entriesOf}
 use Rattle.rules.proofs.Checks.{entries-ascend}
@@ -31,13 +28,6 @@ use Rattle.row_classes.specs.Classes.{Ordered}
 use Rattle.split_points.proofs.Callers.{sorted}
 use Rattle.plan.specs.Cutting.{Gathering}
 use Rattle.plan.proofs.Looking.{part-inside}
-
--- numbers that ascend from one to the next ascend
-apart : (gs : List ℕ) → Ascending gs → (i j : ℕ) → i < j → j < length gs → getD gs i 0 < getD gs j 0
-apart gs a i zero h l = absurd (not-suc-le-zero h)
-apart gs a i (suc j) h l =
-    let next : getD gs j 0 < getD gs (suc j) 0 = subst (λ (x : ℕ). getD gs j 0 < getD gs x 0) (add-one j) (a j (omega arith)) in
-    ⊎-elim (λ e. rw e next) (λ g. omega (arith, apart gs a i j g (omega arith))) (eq-or-lt-of-le (le-of-suc-le-suc h))
 
 module _ {s : Store} {t : ℕ} {p : PairTable} {gs ks : List ℕ} (k : Gathering s t p gs ks) where
   abbrev o : Opens s t p

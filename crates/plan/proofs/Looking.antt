@@ -8,18 +8,17 @@ use native.Mathlib.Omega.{arith}
 use lib.ListN.{length, getD, replicate, length-replicate, getD-replicate, List·getD-eq-default}
 use lib.Dec.{eqb}
 use Rattle.folds.proofs.Tests.{either}
-use Rattle.opentype.specs.PairPos.{shape1, shape2}
 use Rattle.opentype.specs.declared.Reading.{Reading}
-use Rattle.opentype.proofs.Octets.{Bytes, bytes-u16}
+use Rattle.opentype.proofs.Octets.{Bytes}
 use Rattle.opentype.proofs.Shapes as Shapes
-use Rattle.opentype.proofs.Shapes.{by-format, items-rise}
+use Rattle.opentype.proofs.Shapes.{items-rise}
 use Rattle.pair_pos.specs.declared.Layout.{Layout}
 use Rattle.pair_pos.specs.Layout.{layoutOf}
 use Rattle.rules.specs.Store.{Store, lent, bytesOf, sizeOf}
 use Rattle.rules.specs.Table.{shape, linkedAt}
 use Rattle.rules.proofs.Sound.{Fits, sound-fits, size-bytes}
 use Rattle.rules.proofs.Lookups.{child-used}
-use Rattle.rules.proofs.Checks.{object-bytes}
+use Rattle.rules.proofs.Checks.{count-bits}
 use Rattle.object_store.specs.Rows.{Inside}
 use Rattle.object_store.proofs.Bytes.{inside}
 use Rattle.walk.specs.Marks.{noRow, Prepared, Ready}
@@ -78,12 +77,8 @@ module _ {s : Store} {t : ℕ} {p : PairTable} (o : Opens s t p) where
       let i : shape s t .item * shape s t .count ≡ 2 * shape s t .count = ap (λ (n : ℕ). n * shape s t .count) (f .itemIs) in
       omega (arith, o .reads .exactly, size-bytes s fits t (o .reads .used), fits .object t (o .reads .used) .inside, fits .bytesMost)
 
-  -- a count has two bytes
   rows-few : Bytes (s .bytes) → shape s t .count < 16777216
-  unfolding shape1 shape2
-  rows-few octets =
-      let b = bytes-u16 (bytesOf s t) (object-bytes s octets t) in
-      by-format (λ sh. sh .count < 16777216) (bytesOf s t) (λ e. omega (arith, b 8)) (λ e. omega (arith, b 12))
+  rows-few octets = omega (arith, count-bits s t octets)
 
 -- before the walk of the header's links
 pub can-walk : (b o l c : List ℕ) {t : ℕ} {p : PairTable} → Opens (lent b o l c) t p → {z : List ℕ} → Prepared l c z → (t < getD c 1 0) × Ready o l c noRow 1 z

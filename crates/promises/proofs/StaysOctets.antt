@@ -1,64 +1,39 @@
 -- The data stay bytes: every number that is written fits its two bytes. Assumes nothing.
 use Prim.Native.Nat.{ℕ, _+_, _-_, _<_}
 use mathlib.Core.Path.{_≡_}
-use mathlib.Core.Bool.{Bool, false, not}
+use mathlib.Core.Bool.{false}
 use mathlib.Core.List.{List, map}
 use native.Mathlib.Omega.{arith}
 use lib.ListN.{length}
 use lib.Dec.{eqb}
-use borrow.Author.Tests.{eqb-false, not-true}
 use Rattle.folds.specs.Folds.{flat}
 use Rattle.folds.specs.Lists.{join}
 use Rattle.folds.proofs.Tests.{by-test}
-use Rattle.folds.proofs.Each.{Each, each-map, each-sift, each-then, each-at, each-append, each-flat}
+use Rattle.folds.proofs.Each.{Each, each-then, each-append, each-flat}
 use Rattle.opentype.specs.Numbers.{be16}
 use Rattle.opentype.specs.Coverage.{Entry}
-use Rattle.opentype.specs.ClassDef.{named, classDefBytes, classOf}
-use Rattle.opentype.specs.PairPos.{Shape, shape1, shape2}
-use Rattle.opentype.proofs.Runs.{Ascends, Under, ascends-sift, under-sift}
-use Rattle.opentype.proofs.RunStarts.{entry}
-use Rattle.opentype.proofs.Shapes.{by-format}
+use Rattle.opentype.specs.ClassDef.{classDefBytes, classOf}
+use Rattle.opentype.specs.PairPos.{Shape}
+use Rattle.opentype.proofs.Runs.{Ascends, Under}
 use Rattle.opentype.proofs.Octets.{bytes-u16, Bytes, bytes-put, bytes-be16, bytes-join}
-use Rattle.opentype.proofs.Entries.{Agrees, ascends-plain, under-plain}
-use Rattle.opentype.proofs.RangesCounted.{few-runs, class-slack}
+use Rattle.opentype.proofs.Entries.{ascends-plain, under-plain}
 use Rattle.opentype.proofs.BytesWritten.{bytes-class-def, class-of-bits, bytes-coverage}
 use Rattle.rules.specs.Store.{Store, bytesOf, headOf}
 use Rattle.rules.specs.Cuts.{within}
 use Rattle.rules.specs.Table.{shape, entriesOf, linkedBytes, linkedAt, cutPlaces}
 use Rattle.rules.specs.Written.{reduced, newParts, newOf, newObjects, from, to, splitStore, storeAfter}
 use Rattle.rules.proofs.CutPlaces.{range-high}
-use Rattle.rules.proofs.Entries.{within-ascends, within-under, ascends-reduced, under-reduced, within-agrees, entries-agree}
-use Rattle.rules.proofs.Checks.{object-bytes, entries-ascend, entries-under, class-read}
+use Rattle.rules.proofs.Entries.{within-ascends, within-under, ascends-reduced, under-reduced}
+use Rattle.rules.proofs.Checks.{object-bytes, count-bits, entries-ascend, entries-under}
+use Rattle.rules.proofs.NamedRuns.{GivenBy, range-given, range-runs-few}
 use Rattle.rules.proofs.NewTable.{bytes-new-table}
 use Rattle.promises.specs.Demands.{Octets, StaysOctets}
 use Rattle.promises.proofs.Ready.{Ready, first-cut, splits-ready, store-written}
 use Rattle.promises.proofs.NewBytes.{objectsOf, counted, counted-length, count-inside}
 
--- the entry's class is what f gives its glyph, less lo
-abbrev GivenBy : (ℕ → ℕ) → ℕ → Entry → Type 0
-GivenBy f lo e = e .class ≡ f (e .glyph) - lo
-
-given-reduced : (f : ℕ → ℕ) (lo : ℕ) (es : List Entry) → Agrees f es → Each (GivenBy f lo) (reduced lo es)
-given-reduced f lo es a = each-map (λ (e : Entry). f (e .glyph) ≡ e .class) (GivenBy f lo) (λ e. entry (e .glyph) (e .class - lo)) (λ e z. omega arith) es a
-
--- and is not 0: the entries that a class definition names
-abbrev NamedBy : (ℕ → ℕ) → ℕ → Entry → Type 0
-NamedBy f lo e = GivenBy f lo e × (e .class ≡ 0 → ⊥)
-
-given-named : (f : ℕ → ℕ) (lo : ℕ) (es : List Entry) → Each (GivenBy f lo) es → Each (NamedBy f lo) (named es)
-unfolding named
-given-named f lo es a =
-    each-sift (GivenBy f lo) (NamedBy f lo) (λ e. not (eqb (e .class) 0)) (λ e h q. (h, eqb-false (e .class) 0 (not-true (eqb (e .class) 0) q))) es a
-
 module _ (s : Store) (t : ℕ) (cs : List ℕ) (g : Ready s t cs) (octets : Octets s) where
   abbrev sh : Shape
   sh = shape s t
-
-  count-bits : sh .count < 65536
-  unfolding shape1 shape2
-  count-bits =
-      let b = bytes-u16 (bytesOf s t) (object-bytes s octets t) in
-      by-format (λ sh. sh .count < 65536) (bytesOf s t) (λ e. b 8) (λ e. b 12)
 
   -- the entries of a range
   module _ (lo hi : ℕ) where
@@ -73,19 +48,12 @@ module _ (s : Store) (t : ℕ) (cs : List ℕ) (g : Ready s t cs) (octets : Octe
 
     -- the class definition that is written for them
     class-def-fits : eqb (sh .format) 1 ≡ false → Bytes (classDefBytes (reduced lo es))
-    unfolding named
     class-def-fits two =
         let b = linkedBytes s t 8 in
-        let bits = bytes-u16 b (object-bytes s octets (linkedAt s t 8)) in
         let rs = reduced lo es in
-        let ru : Ascends 0 rs = ascends-reduced lo es 0 up in
-        let rn : Under 65536 rs = under-reduced lo es 65536 under in
-        let own : Each (GivenBy (classOf b) lo) rs = given-reduced (classOf b) lo es (within-agrees (classOf b) lo hi (entriesOf s t) (entries-agree s t two)) in
-        let isNamed : Entry → Bool = λ e. not (eqb (e .class) 0) in
-        bytes-class-def rs ru rn
-        (each-then (GivenBy (classOf b) lo) (λ e. e .class < 65536) (λ e z. omega (arith, class-of-bits b bits (e .glyph))) rs own)
-        (few-runs (named rs) (classOf b) lo (ascends-sift isNamed rs 0 ru) (under-sift isNamed rs 65536 rn) (class-slack b bits (class-read s t (g .reads .parts) two .1))
-        (λ k d l. each-at (NamedBy (classOf b) lo) (named rs) (given-named (classOf b) lo rs own) k l d))
+        bytes-class-def rs (ascends-reduced lo es 0 up) (under-reduced lo es 65536 under)
+        (each-then (GivenBy (classOf b) lo) (λ e. e .class < 65536) (λ e z. omega (arith, class-of-bits b (bytes-u16 b (object-bytes s octets (linkedAt s t 8))) (e .glyph))) rs (range-given s t (g .reads) two lo hi))
+        (range-runs-few s t (g .reads) two lo hi octets)
 
     parts-fit : Each Bytes (newParts sh (entriesOf s t) lo hi)
     unfolding newParts
@@ -100,7 +68,7 @@ module _ (s : Store) (t : ℕ) (cs : List ℕ) (g : Ready s t cs) (octets : Octe
       each-append Bytes (flat (objectsOf s t cs g) (length cs)) (newParts sh (entriesOf s t) 0 (from cs 0))
       (each-flat Bytes (objectsOf s t cs g) (length cs)
       (λ j l. let (x, y) = range-high (sh .count) cs (g .cuts) j l in
-      (bytes-new-table sh (bytesOf s t) (from cs j) (to sh cs j) (object-bytes s octets t) (omega (arith, count-bits)), parts-fit (from cs j) (to sh cs j))))
+      (bytes-new-table sh (bytesOf s t) (from cs j) (to sh cs j) (object-bytes s octets t) (omega (arith, count-bits s t octets)), parts-fit (from cs j) (to sh cs j))))
       (parts-fit 0 (from cs 0))
 
   octets-then : Bytes (splitStore s t cs .bytes)
@@ -108,7 +76,7 @@ module _ (s : Store) (t : ℕ) (cs : List ℕ) (g : Ready s t cs) (octets : Octe
   octets-then =
       let c = first-cut s t cs g in
       bytes-put (counted s t cs) (s .byteCount) (join (newOf s t cs)) (omega (arith, counted-length s t cs g, g .fit .bytesIn))
-      (bytes-put (s .bytes) (headOf s t + sh .countAt) (be16 (from cs 0)) (omega (arith, count-inside s t cs g, g .fit .object t (g .reads .used) .inside, g .fit .bytesIn)) octets (bytes-be16 (from cs 0) (omega (arith, count-bits))))
+      (bytes-put (s .bytes) (headOf s t + sh .countAt) (be16 (from cs 0)) (omega (arith, count-inside s t cs g, g .fit .object t (g .reads .used) .inside, g .fit .bytesIn)) octets (bytes-be16 (from cs 0) (omega (arith, count-bits s t octets))))
       (bytes-join (newOf s t cs) objects-fit)
 
 -- the data at exit are bytes

@@ -1,6 +1,9 @@
 -- Glyphs in ascending order and below a bound, by index and from one to the next. Assumes nothing.
-use Prim.Native.Nat.{ℕ, suc, _+_, _≤_, _<_}
+use Prim.Native.Nat.{ℕ, zero, suc, _+_, _≤_, _<_}
 use mathlib.Core.List.{List, [], _∷_}
+use mathlib.Core.Logic.{⊎-elim}
+use mathlib.Core.Path.{subst}
+use native.Mathlib.Nat.{not-suc-le-zero, le-of-suc-le-suc, eq-or-lt-of-le}
 use native.Mathlib.Numerals.{add-one}
 use native.Mathlib.Omega.{arith}
 use lib.ListN.{length, getD}
@@ -24,3 +27,10 @@ ascending gs a k l = rw add-one (let z = ascends-at gs 0 k a (omega arith) in om
 pub under : (gs : List ℕ) (n : ℕ) → ((k : ℕ) → getD gs k 0 < n) → Under n (plain gs)
 under [] n h = tt
 under (g ∷ gs) n h = (h 0, under gs n (λ k. h (suc k)))
+
+-- glyphs that ascend from one to the next ascend
+pub apart : (gs : List ℕ) → Ascending gs → (i j : ℕ) → i < j → j < length gs → getD gs i 0 < getD gs j 0
+apart gs a i zero h l = absurd (not-suc-le-zero h)
+apart gs a i (suc j) h l =
+    let next : getD gs j 0 < getD gs (suc j) 0 = subst (λ (x : ℕ). getD gs j 0 < getD gs x 0) (add-one j) (a j (omega arith)) in
+    ⊎-elim (λ e. rw e next) (λ g. omega (arith, apart gs a i j g (omega arith))) (eq-or-lt-of-le (le-of-suc-le-suc h))

@@ -14,10 +14,11 @@ use Rattle.folds.proofs.Folds.{all-intro, all-at}
 use Rattle.folds.proofs.Joined.{and-three}
 use Rattle.opentype.specs.Coverage.{coverReadable}
 use Rattle.opentype.specs.ClassDef.{classReadable}
-use Rattle.opentype.specs.PairPos.{formatOf, itemAt, exact, isSlot}
+use Rattle.opentype.specs.PairPos.{shape1, shape2, formatOf, itemAt, exact, isSlot}
 use Rattle.opentype.proofs.Runs.{Ascends, Under}
 use Rattle.opentype.proofs.CoverageGlyphs.{cover-sorted, sorted-ascends, sorted-under}
 use Rattle.opentype.proofs.Octets.{Bytes, bytes-part, bytes-u16}
+use Rattle.opentype.proofs.Shapes.{by-format}
 use Rattle.rules.specs.Store.{Store, sound, bytesOf, childAt, headOf, tailOf, parentOf, positionOf, linkAt}
 use Rattle.rules.specs.Walk.{ofTable}
 use Rattle.rules.specs.Table.{shape, partsReadable, glyphsOf, linkedBytes, entriesOf, linkedAt, allAtSlots}
@@ -164,6 +165,13 @@ entries-ascend s t r =
 pub object-bytes : (s : Store) → Bytes (s .bytes) → (i : ℕ) → Bytes (bytesOf s i)
 unfolding bytesOf
 object-bytes s h i = bytes-part (s .bytes) (headOf s i) (tailOf s i) h
+
+-- a count has two bytes
+pub count-bits : (s : Store) (t : ℕ) → Bytes (s .bytes) → shape s t .count < 65536
+unfolding shape1 shape2
+count-bits s t octets =
+    let b = bytes-u16 (bytesOf s t) (object-bytes s octets t) in
+    by-format (λ sh. sh .count < 65536) (bytesOf s t) (λ e. b 8) (λ e. b 12)
 
 pub entries-under : (s : Store) (t : ℕ) → Reads s t → Bytes (s .bytes) → Under 65536 (entriesOf s t)
 entries-under s t r h =

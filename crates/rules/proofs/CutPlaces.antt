@@ -1,8 +1,9 @@
 -- The cuts strictly ascend, each below the number of items; so the ranges between them cover the items, and no two of them meet. Assumes nothing.
 use Prim.Native.Nat.{ℕ, zero, suc, _+_, _<_, _≤_}
-use mathlib.Core.Path.{_≡_, sym, subst}
+use mathlib.Core.Path.{_≡_, refl, sym, subst}
 use mathlib.Core.List.{List, [], _∷_, _++_}
 use mathlib.Core.Logic.{_⊎_, inl, inr, ⊎-elim}
+use native.Mathlib.Numerals.{add-one}
 use native.Mathlib.Omega.{arith}
 use native.Mathlib.Decide.{decLt}
 use native.Mathlib.Nat.{not-suc-le-zero, eq-or-lt-of-le}
@@ -19,6 +20,19 @@ use Rattle.rules.specs.Table.{ruleOf, shape, cutPlaces}
 pub record Places (n : ℕ) (cs : List ℕ) : Type 0 where
   pub below : (j : ℕ) → j < length cs → getD cs j 0 < n
   pub rising : (j : ℕ) → j + 1 < length cs → getD cs j 0 < getD cs (j + 1) 0
+
+-- so that there are no more than n
+module _ (n : ℕ) (cs : List ℕ) (p : Places n cs) where
+  index-low : (j : ℕ) → j < length cs → j ≤ getD cs j 0
+  index-low zero l = omega arith
+  index-low (suc j) l = let i = index-low j (omega arith) in omega (arith, rw (add-one j) at (p .rising j (omega arith)))
+
+  pub few-places : length cs ≤ n
+  few-places = go (length cs) refl
+    where
+      go : (m : ℕ) → length cs ≡ m → m ≤ n
+      go zero e = omega arith
+      go (suc m) e = omega (arith, index-low m (omega arith), p .below m (omega arith))
 
 more : (n : ℕ) (cs : List ℕ) → Places n cs → Places (suc n) cs
 more n cs p = record { below = λ j l. let h : getD cs j 0 < n = p .below j l in omega arith; rising = p .rising }

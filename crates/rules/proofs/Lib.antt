@@ -13,6 +13,7 @@ pub mod LinksAscend
 pub mod Entries
 pub mod PairByItem
 pub mod Checks
+pub mod NamedRuns
 pub mod NewCounts
 pub mod ObjectRows
 pub mod NewTable
