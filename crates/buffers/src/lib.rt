@@ -3,11 +3,12 @@ ghost use mathlib.Core.Path.{_≡_};
 ghost use Prim.Native.Nat.{_+_, _≤_};
 ghost use lib.ListN.{length, replicate};
 ghost use Rattle.folds.specs.Lists.{put, part};
+ghost use Rattle.folds.specs.Moments.{came, left};
 
 // Writes `count` zeros from byte `at` on.
 pub fn zero_bytes(s: &mut [u8], at: usize, count: usize)
     requires { ⌜ at + count ≤ length (now s) ⌝ }
-    ensures { λ _. ⌜ now (s .exit) ≡ put (now (s .entry)) at (replicate count 0) ⌝ }
+    ensures { λ _. ⌜ left s ≡ put (came s) at (replicate count 0) ⌝ }
 {
     let mut k: usize = 0;
     while k < count {
@@ -20,7 +21,7 @@ pub fn zero_bytes(s: &mut [u8], at: usize, count: usize)
 pub fn copy_up(s: &mut [u8], from: usize, at: usize, count: usize)
     requires { ⌜ from + count ≤ at ⌝ }
     requires { ⌜ at + count ≤ length (now s) ⌝ }
-    ensures { λ _. ⌜ now (s .exit) ≡ put (now (s .entry)) at (part (now (s .entry)) from (from + count)) ⌝ }
+    ensures { λ _. ⌜ left s ≡ put (came s) at (part (came s) from (from + count)) ⌝ }
 {
     let mut k: usize = 0;
     while k < count {
@@ -31,7 +32,7 @@ pub fn copy_up(s: &mut [u8], from: usize, at: usize, count: usize)
 
 // Zeroes a whole slice.
 pub fn clear_u8(s: &mut [u8])
-    ensures { λ _. ⌜ now (s .exit) ≡ replicate (length (now (s .entry))) 0 ⌝ }
+    ensures { λ _. ⌜ left s ≡ replicate (length (came s)) 0 ⌝ }
 {
     let mut k: usize = 0;
     while k < s.len() {
@@ -42,7 +43,7 @@ pub fn clear_u8(s: &mut [u8])
 
 // The same, of 16-bit numbers.
 pub fn clear_u16(s: &mut [u16])
-    ensures { λ _. ⌜ now (s .exit) ≡ replicate (length (now (s .entry))) 0 ⌝ }
+    ensures { λ _. ⌜ left s ≡ replicate (length (came s)) 0 ⌝ }
 {
     let mut k: usize = 0;
     while k < s.len() {
@@ -53,7 +54,7 @@ pub fn clear_u16(s: &mut [u16])
 
 // The same, of 32-bit numbers.
 pub fn clear_u32(s: &mut [u32])
-    ensures { λ _. ⌜ now (s .exit) ≡ replicate (length (now (s .entry))) 0 ⌝ }
+    ensures { λ _. ⌜ left s ≡ replicate (length (came s)) 0 ⌝ }
 {
     let mut k: usize = 0;
     while k < s.len() {

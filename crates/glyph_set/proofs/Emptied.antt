@@ -13,12 +13,8 @@ use lib.ListN.{length, getD, List·getD-eq-default}
 use lib.Seq.{getD-set-same, getD-set-other, set-out, ext-getD}
 use borrow.Author.Tests.{ne-eqb, eqb-true, eqb-false}
 use Rattle.folds.proofs.Tests.{by-test, either, true-false}
-use Rattle.glyph_set.specs.GlyphSet.{member, mark, blank, markAll, blankAll}
+use Rattle.glyph_set.specs.GlyphSet.{member, mark, blank, markAll, blankAll, Empty}
 use Rattle.glyph_set.proofs.Marks.{length-mark, length-blank}
-
--- every byte is 0
-abbrev pub Empty : List ℕ → Type 0
-Empty s = (i : ℕ) → getD s i 0 ≡ 0
 
 pub member-empty : (s : List ℕ) → Empty s → (g : ℕ) → member s g ≡ false
 unfolding member

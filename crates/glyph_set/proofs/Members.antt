@@ -8,11 +8,10 @@ use native.Mathlib.Omega.{arith}
 use lib.Dec.{eqb}
 use lib.ListN.{length, length-map}
 use Rattle.folds.proofs.Picked.{picked, Adds, picked-none, picked-same, map-picked, sift-upto, length-adds}
-use Rattle.opentype.specs.Coverage.{Entry, plain}
-use Rattle.opentype.specs.ClassDef.{firstGlyph, lastGlyph, classIn}
-use Rattle.opentype.proofs.Runs.{Ascends, Under}
-use Rattle.opentype.proofs.RunStarts.{entry, alone, runs-adds}
-use Rattle.opentype.proofs.ByGlyph.{has, taken-all, first-adds, last-adds}
+use Rattle.ot_layouts.specs.Coverage.{Entry, plain, Ascends, Under}
+use Rattle.ot_layouts.specs.ClassDef.{firstGlyph, lastGlyph, classIn}
+use Rattle.ot_layouts.proofs.RunStarts.{entry, alone, runs-adds}
+use Rattle.ot_layouts.proofs.ByGlyph.{has, taken-all, first-adds, last-adds}
 use Rattle.glyph_set.specs.GlyphSet.{member, mark, members, runCount, behind, joined}
 use Rattle.glyph_set.proofs.Marks.{mark-here, mark-other}
 

@@ -2,12 +2,13 @@
 use Prim.Native.Nat.{ℕ, _+_, _/_, _%_, _^_}
 use mathlib.Core.Bool.{Bool, cond}
 use mathlib.Core.List.{List, [], _∷_}
+use mathlib.Core.Path.{_≡_}
 use lib.Bits.{bitOr}
 use lib.Dec.{eqb, ltb}
 use lib.ListN.{length, getD, set}
 use Rattle.folds.specs.Folds.{before, upto}
 use Rattle.folds.specs.Lists.{sift}
-use Rattle.opentype.specs.Coverage.{runs, plain}
+use Rattle.ot_layouts.specs.Coverage.{runs, plain}
 
 -- g is in the set
 unfoldable pub member : List ℕ → ℕ → Bool
@@ -50,3 +51,7 @@ behind s g = cond (ltb (g + 1) 65536) (present s (g + 1)) 0
 -- how many of the two neighbours of g are in the set
 unfoldable pub joined : List ℕ → ℕ → ℕ
 joined s g = before (present s) g + behind s g
+
+-- every byte is 0
+abbrev pub Empty : List ℕ → Type 0
+Empty s = (i : ℕ) → getD s i 0 ≡ 0

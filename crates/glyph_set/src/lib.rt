@@ -4,12 +4,13 @@ ghost use mathlib.Core.Path.{_≡_};
 ghost use Prim.Native.Nat.{_≤_};
 ghost use lib.ListN.{length};
 ghost use Rattle.folds.specs.Folds.{before};
+ghost use Rattle.folds.specs.Moments.{came, left};
 ghost use Rattle.glyph_set.specs.GlyphSet.{member, mark, blank, present, behind, joined};
 
 // Whether the glyph is in the set.
 pub fn contains(set: &[u8], glyph: u16) -> bool
     requires { ⌜ 8192 ≤ length (now set) ⌝ }
-    ensures { λ r. ⌜ r ≡ member (now (set .entry)) glyph ⌝ }
+    ensures { λ r. ⌜ r ≡ member (came set) glyph ⌝ }
 {
     let at = (glyph / 8) as usize;
     (set[at] >> (glyph % 8)) & 1 == 1
@@ -18,7 +19,7 @@ pub fn contains(set: &[u8], glyph: u16) -> bool
 // Puts the glyph in.
 pub fn insert(set: &mut [u8], glyph: u16)
     requires { ⌜ 8192 ≤ length (now set) ⌝ }
-    ensures { λ _. ⌜ now (set .exit) ≡ mark (now (set .entry)) glyph ⌝ }
+    ensures { λ _. ⌜ left set ≡ mark (came set) glyph ⌝ }
 {
     let at = (glyph / 8) as usize;
     set[at] = set[at] | (1u8 << (glyph % 8));
@@ -27,7 +28,7 @@ pub fn insert(set: &mut [u8], glyph: u16)
 // Empties the glyph's byte: done for each glyph that was put in, it empties the set.
 pub fn clear_byte(set: &mut [u8], glyph: u16)
     requires { ⌜ 8192 ≤ length (now set) ⌝ }
-    ensures { λ _. ⌜ now (set .exit) ≡ blank (now (set .entry)) glyph ⌝ }
+    ensures { λ _. ⌜ left set ≡ blank (came set) glyph ⌝ }
 {
     let at = (glyph / 8) as usize;
     set[at] = 0;
@@ -36,7 +37,7 @@ pub fn clear_byte(set: &mut [u8], glyph: u16)
 // How many of the glyph's two neighbours are in the set: with a glyph more there are 1 - `joined` runs more.
 pub fn joined(set: &[u8], glyph: u16) -> usize
     requires { ⌜ 8192 ≤ length (now set) ⌝ }
-    ensures { λ r. ⌜ r ≡ joined (now (set .entry)) glyph ⌝ }
+    ensures { λ r. ⌜ r ≡ joined (came set) glyph ⌝ }
 {
     present_before(set, glyph) + present_behind(set, glyph)
 }
@@ -44,7 +45,7 @@ pub fn joined(set: &[u8], glyph: u16) -> usize
 // The glyph before, which 0 has none of.
 fn present_before(set: &[u8], glyph: u16) -> usize
     requires { ⌜ 8192 ≤ length (now set) ⌝ }
-    ensures { λ r. ⌜ r ≡ before (present (now (set .entry))) glyph ⌝ }
+    ensures { λ r. ⌜ r ≡ before (present (came set)) glyph ⌝ }
 {
     if glyph == 0 {
         return 0;
@@ -55,7 +56,7 @@ fn present_before(set: &[u8], glyph: u16) -> usize
 // The glyph behind, which 65,535 has none of.
 fn present_behind(set: &[u8], glyph: u16) -> usize
     requires { ⌜ 8192 ≤ length (now set) ⌝ }
-    ensures { λ r. ⌜ r ≡ behind (now (set .entry)) glyph ⌝ }
+    ensures { λ r. ⌜ r ≡ behind (came set) glyph ⌝ }
 {
     if glyph == 65535 {
         return 0;
@@ -66,7 +67,7 @@ fn present_behind(set: &[u8], glyph: u16) -> usize
 // The glyph's bit.
 fn present(set: &[u8], glyph: u16) -> usize
     requires { ⌜ 8192 ≤ length (now set) ⌝ }
-    ensures { λ r. ⌜ r ≡ present (now (set .entry)) glyph ⌝ }
+    ensures { λ r. ⌜ r ≡ present (came set) glyph ⌝ }
 {
     let at = (glyph / 8) as usize;
     ((set[at] >> (glyph % 8)) & 1) as usize

@@ -6,20 +6,22 @@ use mathlib.Core.List.{List, _++_}
 use mathlib.Core.Option.{Option, some, none}
 use native.Mathlib.Omega.{arith}
 use lib.IntN.{ℤ}
-use Rattle.opentype.specs.Values.{fieldCount}
-use Rattle.opentype.specs.PairPos.{value1, value2}
-use Rattle.pair_pos.specs.Layout.{layoutOf}
-use Rattle.pair_pos.specs.declared.Layout.{Layout}
-use Rattle.rules.specs.declared.Answer.{Answer}
-use Rattle.rules.specs.Store.{Store}
-use Rattle.rules.specs.Pairs as Pairs
-use Rattle.rules.specs.Pairs.{spotOf, noPair, pairAt, pairOf}
-use Rattle.rules.specs.Answers.{PairOutcome, number, reported, settlePair, pairCall}
-use Rattle.checks.specs.Checked.{checkedOf, refusal}
-use Rattle.checks.specs.declared.PairTable.{PairTable}
-use Rattle.checks.specs.declared.Checked.{Checked}
-use Rattle.checks.specs.declared.Checked.the-variants.{Open, Refused}
-use Rattle.checks.proofs.Refusals.{refusals, Opens}
+use Rattle.ot_layouts.specs.Values.{fieldCount}
+use Rattle.ot_layouts.specs.PairPos.{value1, value2}
+use Rattle.ot_pairpos.specs.Layout.{layoutOf}
+use Rattle.ot_pairpos.specs.declared.Layout.{Layout}
+use Rattle.call_rules.specs.declared.Answer.{Answer}
+use Rattle.store_rules.specs.Store.{Store}
+use Rattle.pair_rules.specs.Pairs as Pairs
+use Rattle.pair_rules.specs.Pairs.{spotOf, noPair, pairAt, pairOf}
+use Rattle.pair_rules.specs.Calls.{PairOutcome, reported, settlePair, pairCall}
+use Rattle.call_rules.specs.Answers.{number}
+use Rattle.pair_checks.specs.Checked.{checkedOf, refusal}
+use Rattle.pair_checks.specs.declared.PairTable.{PairTable}
+use Rattle.pair_checks.specs.declared.Checked.{Checked}
+use Rattle.pair_checks.specs.declared.Checked.the-variants.{Open, Refused}
+use Rattle.pair_checks.proofs.Refusals.{refusals}
+use Rattle.pair_checks.specs.Opens.{Opens}
 use Rattle.pair_reading.specs.Reading.{asSpot, asPair, pairOutcome, ValueRecord, valuePair}
 use Rattle.pair_reading.specs.declared.PairAnswer.{PairAnswer}
 use Rattle.pair_reading.specs.declared.Spot.{Spot}

@@ -11,20 +11,20 @@ use mir.Syntax.{w32}
 use mir.Val.{SFits, toZ, ofZ}
 use mir.ValLaws.{toZ-pos, toZ-ofZ}
 use borrow.Author.Tests.{eqb-true, eqb-false, eq-eqb, ne-eqb, lt-ltb, le-ltb, not-true, not-false}
-use Rattle.opentype.specs.Numbers.{u16At, signed16}
-use Rattle.opentype.specs.Values.{bit, fieldAt, position}
-use Rattle.opentype.specs.declared.Field.{Field}
-use Rattle.opentype.proofs.Values.{bit-below, position-more, position-le, position-all}
-use Rattle.object_store.specs.Rows.{Inside, InOrder}
-use Rattle.object_store.specs.Children.{asChild}
-use Rattle.object_store.specs.declared.Child.the-variants.{Of, Nowhere}
-use Rattle.object_store.proofs.Bytes.{inside}
-use Rattle.object_store.proofs.Rows.{in-order}
-use Rattle.rules.specs.Store.{Store, bytesOf, childAt, childOf}
-use Rattle.rules.specs.Pairs.{deviceNumber, numberOf}
-use Rattle.rules.proofs.Sound.{Fits, sound-fits, size-bytes}
-use Rattle.rules.proofs.Lookups.{child-row}
-use Rattle.checks.proofs.Linking.{is-some, is-none}
+use Rattle.ot_layouts.specs.Numbers.{u16At, signed16}
+use Rattle.ot_layouts.specs.Values.{bit, fieldAt, position}
+use Rattle.ot_layouts.specs.declared.Field.{Field}
+use Rattle.ot_layouts.proofs.Values.{bit-below, position-more, position-le, position-all}
+use Rattle.store_reader.specs.Rows.{Inside, InOrder}
+use Rattle.store_reader.specs.Children.{asChild}
+use Rattle.store_reader.specs.declared.Child.the-variants.{Of, Nowhere}
+use Rattle.store_reader.proofs.Bytes.{inside}
+use Rattle.store_reader.proofs.Rows.{in-order}
+use Rattle.store_rules.specs.Store.{Store, bytesOf, childAt, childOf}
+use Rattle.pair_rules.specs.Pairs.{deviceNumber, numberOf}
+use Rattle.store_rules.proofs.Sound.{Fits, sound-fits, size-bytes}
+use Rattle.store_rules.proofs.Lookups.{child-row}
+use Rattle.pair_checks.proofs.Linking.{is-some, is-none}
 use Rattle.pair_reading.specs.Reading.{ValueRecord}
 
 -- ---- signed numbers

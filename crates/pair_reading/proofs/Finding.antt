@@ -10,30 +10,31 @@ use lib.Dec.{eqb}
 use borrow.Author.Tests.{lt-ltb, le-ltb}
 use Rattle.folds.specs.Lists.{andThen}
 use Rattle.folds.proofs.Tests.{by-test}
-use Rattle.opentype.specs.Coverage.{coverageOf, coverPlace}
-use Rattle.opentype.specs.ClassDef.{classDefOf, classOf}
-use Rattle.opentype.specs.PairPos.{value1, value2, recordSize, firstRecord, valuesAt}
-use Rattle.opentype.specs.declared.Reading.{Reading}
-use Rattle.opentype.proofs.Values.{fieldCount-le}
-use Rattle.coverage_graph.specs.Coverage.{placeOf}
-use Rattle.coverage_graph.specs.declared.Place.{Place}
-use Rattle.coverage_graph.specs.declared.Place.the-variants as Place
-use Rattle.object_store.specs.Rows.{Inside, InOrder}
-use Rattle.object_store.specs.Children.{asChild}
-use Rattle.object_store.specs.declared.Child.{Child}
-use Rattle.object_store.specs.declared.Child.the-variants as Child
-use Rattle.object_store.proofs.Bytes.{inside}
-use Rattle.object_store.proofs.Rows.{in-order}
-use Rattle.pair_pos.specs.declared.Layout.{Layout}
-use Rattle.rules.specs.Store.{Store, sound, bytesOf, childAt}
-use Rattle.rules.specs.Table.{shape}
-use Rattle.rules.specs.Pairs.{spotOf}
-use Rattle.rules.proofs.Sound.{sound-fits}
-use Rattle.rules.proofs.Lookups.{child-used}
-use Rattle.checks.specs.declared.Part.{Part}
-use Rattle.checks.specs.declared.PairTable.{PairTable}
-use Rattle.checks.proofs.Linking.{is-some, is-none}
-use Rattle.checks.proofs.Refusals.{LinkedPart, Opens, format-one, format-two}
+use Rattle.ot_layouts.specs.Coverage.{coverageOf, coverPlace}
+use Rattle.ot_layouts.specs.ClassDef.{classDefOf, classOf}
+use Rattle.ot_layouts.specs.PairPos.{value1, value2, recordSize, firstRecord, valuesAt}
+use Rattle.ot_layouts.specs.declared.Reading.{Reading}
+use Rattle.ot_layouts.proofs.Values.{fieldCount-le}
+use Rattle.ot_coverage_reader.specs.Coverage.{placeOf}
+use Rattle.ot_coverage_reader.specs.declared.Place.{Place}
+use Rattle.ot_coverage_reader.specs.declared.Place.the-variants as Place
+use Rattle.store_reader.specs.Rows.{Inside, InOrder}
+use Rattle.store_reader.specs.Children.{asChild}
+use Rattle.store_reader.specs.declared.Child.{Child}
+use Rattle.store_reader.specs.declared.Child.the-variants as Child
+use Rattle.store_reader.proofs.Bytes.{inside}
+use Rattle.store_reader.proofs.Rows.{in-order}
+use Rattle.ot_pairpos.specs.declared.Layout.{Layout}
+use Rattle.store_rules.specs.Store.{Store, sound, bytesOf, childAt}
+use Rattle.pair_rules.specs.Table.{shape}
+use Rattle.pair_rules.specs.Pairs.{spotOf}
+use Rattle.store_rules.proofs.Sound.{sound-fits}
+use Rattle.store_rules.proofs.Lookups.{child-used}
+use Rattle.pair_checks.specs.declared.Part.{Part}
+use Rattle.pair_checks.specs.declared.PairTable.{PairTable}
+use Rattle.pair_checks.proofs.Linking.{is-some, is-none}
+use Rattle.pair_checks.proofs.Refusals.{format-one, format-two}
+use Rattle.pair_checks.specs.Opens.{LinkedPart, Opens}
 use Rattle.pair_reading.specs.Reading.{asFound, asSpot, ReadPart, sizeOf, inSet, bySet, byClasses}
 use Rattle.pair_reading.specs.declared.Found.{Found}
 use Rattle.pair_reading.specs.declared.Found.the-variants as Found

@@ -12,8 +12,8 @@ use borrow.Author.Count.{below-more}
 use borrow.Author.Tests.{eq-eqb, ne-eqb, le-leb, lt-leb, leb-true}
 use Rattle.folds.specs.Folds.{firstAt}
 use Rattle.folds.proofs.First.{first-none, first-at, first-below}
-use Rattle.opentype.specs.Numbers.{u16At}
-use Rattle.opentype.specs.PairPos.{setReadable, valuesAt, firstRecord}
+use Rattle.ot_layouts.specs.Numbers.{u16At}
+use Rattle.ot_layouts.specs.PairPos.{setReadable, valuesAt, firstRecord}
 use Rattle.pair_reading.specs.Reading.{asFound}
 use Rattle.pair_reading.specs.declared.Found.the-variants.{At, Nothing}
 use Rattle.pair_reading.proofs.Widths.{record-within}

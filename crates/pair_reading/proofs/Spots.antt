@@ -10,20 +10,20 @@ use lib.Dec.{eqb, ltb}
 use borrow.Author.Tests.{ltb-true}
 use Rattle.folds.specs.Lists.{given, andThen}
 use Rattle.folds.proofs.Tests.{and-both, by-test, true-false}
-use Rattle.opentype.specs.Coverage.{coverPlace}
-use Rattle.opentype.specs.ClassDef.{classOf}
-use Rattle.opentype.specs.PairPos.{columns, recordSize, shape1, shape2, firstRecord, valuesAt}
-use Rattle.opentype.proofs.Shapes as Shapes
-use Rattle.opentype.proofs.Shapes.{Format1, Format2, by-format, format-test}
-use Rattle.pair_pos.specs.Layout.{layoutOf}
-use Rattle.pair_pos.specs.declared.Layout.{Layout}
-use Rattle.rules.specs.Store.{Store, bytesOf, childAt}
-use Rattle.rules.specs.Table.{shape, linkedBytes}
-use Rattle.rules.specs.Pairs.{Spot, spot1, spot2, spotOf}
-use Rattle.rules.proofs.Sound.{Fits, sound-fits}
-use Rattle.rules.proofs.Lookups.{child-used}
-use Rattle.checks.specs.declared.PairTable.{PairTable}
-use Rattle.checks.proofs.Refusals.{Opens}
+use Rattle.ot_layouts.specs.Coverage.{coverPlace}
+use Rattle.ot_layouts.specs.ClassDef.{classOf}
+use Rattle.ot_layouts.specs.PairPos.{columns, recordSize, shape1, shape2, firstRecord, valuesAt}
+use Rattle.ot_layouts.proofs.Shapes as Shapes
+use Rattle.ot_layouts.proofs.Shapes.{Format1, Format2, by-format, format-test}
+use Rattle.ot_pairpos.specs.Layout.{layoutOf}
+use Rattle.ot_pairpos.specs.declared.Layout.{Layout}
+use Rattle.store_rules.specs.Store.{Store, bytesOf, childAt, linkedBytes}
+use Rattle.pair_rules.specs.Table.{shape}
+use Rattle.pair_rules.specs.Pairs.{Spot, spot1, spot2, spotOf}
+use Rattle.store_rules.proofs.Sound.{Fits, sound-fits}
+use Rattle.store_rules.proofs.Lookups.{child-used}
+use Rattle.pair_checks.specs.declared.PairTable.{PairTable}
+use Rattle.pair_checks.specs.Opens.{Opens}
 use Rattle.pair_reading.specs.Reading.{sizeOf, inSet, bySet, byClasses}
 use Rattle.pair_reading.proofs.Widths.{record-within}
 use Rattle.pair_reading.proofs.Sets.{values-within}

@@ -9,18 +9,18 @@ use lib.IntN.{ℤ}
 use lib.Dec.{ltb}
 use Rattle.folds.specs.Folds.{upto}
 use Rattle.folds.specs.Lists.{given, andThen}
-use Rattle.opentype.specs.Values.{fieldCount}
-use Rattle.opentype.specs.ClassDef.{classOf}
-use Rattle.opentype.specs.PairPos.{firstRecord, valuesAt}
-use Rattle.opentype.specs.declared.Reading.{Reading}
-use Rattle.opentype.specs.declared.Reading.the-variants.{Readable}
-use Rattle.object_store.specs.Rows.{Inside}
-use Rattle.pair_pos.specs.declared.Layout.{Layout}
-use Rattle.rules.specs.Store.{Store, lent, sound, bytesOf, childAt}
-use Rattle.rules.specs.Pairs as Pairs
-use Rattle.rules.specs.Answers.{PairOutcome}
-use Rattle.checks.specs.declared.Part.{Part}
-use Rattle.checks.specs.declared.PairTable.{PairTable}
+use Rattle.ot_layouts.specs.Values.{fieldCount}
+use Rattle.ot_layouts.specs.ClassDef.{classOf}
+use Rattle.ot_layouts.specs.PairPos.{firstRecord, valuesAt}
+use Rattle.ot_layouts.specs.declared.Reading.{Reading}
+use Rattle.ot_layouts.specs.declared.Reading.the-variants.{Readable}
+use Rattle.store_reader.specs.Rows.{Inside}
+use Rattle.ot_pairpos.specs.declared.Layout.{Layout}
+use Rattle.store_rules.specs.Store.{Store, lent, sound, bytesOf, childAt}
+use Rattle.pair_rules.specs.Pairs as Pairs
+use Rattle.pair_rules.specs.Calls.{PairOutcome}
+use Rattle.pair_checks.specs.declared.Part.{Part}
+use Rattle.pair_checks.specs.declared.PairTable.{PairTable}
 use Rattle.pair_reading.specs.declared.Found.{Found}
 use Rattle.pair_reading.specs.declared.Found.the-variants as Found
 use Rattle.pair_reading.specs.declared.Spot.{Spot}

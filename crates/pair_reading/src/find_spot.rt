@@ -1,38 +1,40 @@
 // Where a pair's values stand: in format 1 by the set of the first glyph's place, in format 2 by the classes of both glyphs.
 use crate::Found;
 use crate::Spot;
-use checks::Checked;
-use checks::PairTable;
-use checks::Part;
-use class_def::class_of;
-use coverage_graph::Place;
-use coverage_graph::place_of;
-use object_store::Child;
-use object_store::bytes_of;
-use object_store::child_at;
-use pair_pos::Layout;
-use pair_pos::record_size;
-use wire::u16_at;
+use ot_class_def_reader::class_of;
+use ot_coverage_reader::Place;
+use ot_coverage_reader::place_of;
+use ot_pairpos::Layout;
+use ot_pairpos::record_size;
+use ot_wire::u16_at;
+use pair_checks::Checked;
+use pair_checks::PairTable;
+use pair_checks::Part;
+use store_reader::Child;
+use store_reader::bytes_of;
+use store_reader::child_at;
 ghost use mathlib.Core.Path.{_≡_};
 ghost use mathlib.Core.Bool.{true};
 ghost use mathlib.Core.List.{List};
 ghost use Prim.Native.Nat.{ℕ, _+_, _*_, _≤_};
 ghost use lib.ListN.{length};
-ghost use Rattle.object_store.specs.Rows.{Inside};
-ghost use Rattle.opentype.specs.Coverage.{coverageOf, coverPlace};
-ghost use Rattle.opentype.specs.ClassDef.{classDefOf, classOf};
-ghost use Rattle.opentype.specs.PairPos.{firstRecord};
-ghost use Rattle.coverage_graph.specs.Coverage.{placeOf};
-ghost use Rattle.rules.specs.Store.{lent, sound, bytesOf};
-ghost use Rattle.rules.specs.Pairs.{spotOf};
-ghost use Rattle.checks.specs.Checked.{checkedOf};
+ghost use Rattle.store_reader.specs.Rows.{Inside};
+ghost use Rattle.ot_layouts.specs.Coverage.{coverageOf, coverPlace};
+ghost use Rattle.ot_layouts.specs.ClassDef.{classDefOf, classOf};
+ghost use Rattle.ot_layouts.specs.PairPos.{firstRecord};
+ghost use Rattle.ot_coverage_reader.specs.Coverage.{placeOf};
+ghost use Rattle.store_rules.specs.Store.{lent, sound, bytesOf};
+ghost use Rattle.pair_rules.specs.Pairs.{spotOf};
+ghost use Rattle.pair_checks.specs.Checked.{checkedOf};
+ghost use Rattle.folds.specs.Moments.{came};
+ghost use Rattle.store_rules.specs.Moments.{storeCame, storeNow};
 ghost use Rattle.pair_reading.specs.Reading.{asFound, asSpot, ReadPart, inSet, bySet, byClasses};
 
 // The first record of a pair set with the second glyph, where a record has `size` bytes behind its glyph.
 // A set under two bytes or too short for its count has no pairs.
 fn record_in_set(set: &[u8], size: usize, glyph: u16) -> Found
     requires { ⌜ size ≤ 32 ⌝ }
-    ensures { λ r. ⌜ r ≡ asFound (firstRecord (now (set .entry)) size glyph) ⌝ }
+    ensures { λ r. ⌜ r ≡ asFound (firstRecord (came set) size glyph) ⌝ }
 {
     if set.len() < 2 {
         return Found::Nothing;
@@ -55,7 +57,7 @@ fn record_in_set(set: &[u8], size: usize, glyph: u16) -> Found
 fn spot_in_set(data: &[u8], objects: &[u32], object: u32, size: usize, second: u16) -> Spot
     requires { ⌜ Inside (length (now «data»)) (now objects) object ⌝ }
     requires { ⌜ size ≤ 32 ⌝ }
-    ensures { λ r. ⌜ ((l c : List ℕ) → r ≡ asSpot (inSet (lent (now («data» .entry)) (now (objects .entry)) l c) size second object)) ⌝ }
+    ensures { λ r. ⌜ ((l c : List ℕ) → r ≡ asSpot (inSet (lent (came «data») (came objects) l c) size second object)) ⌝ }
 {
     let set = bytes_of(data, objects, object as usize);
     let found = record_in_set(set, size, second);
@@ -79,8 +81,8 @@ fn spot_by_set(
     k: usize,
     second: u16,
 ) -> Spot
-    requires { ⌜ sound (lent (now «data») (now objects) (now links) (now counts)) ≡ true ⌝ }
-    ensures { λ r. ⌜ r ≡ asSpot (bySet (lent (now («data» .entry)) (now (objects .entry)) (now (links .entry)) (now (counts .entry))) table layout second k) ⌝ }
+    requires { ⌜ sound (storeNow «data» objects links counts) ≡ true ⌝ }
+    ensures { λ r. ⌜ r ≡ asSpot (bySet (storeCame «data» objects links counts) table layout second k) ⌝ }
 {
     if (layout.count as usize) <= k {
         return Spot::Nowhere;
@@ -96,7 +98,7 @@ fn spot_by_set(
 // The glyph's class by a class definition that was read.
 fn class_in(data: &[u8], objects: &[u32], part: Part, glyph: u16) -> u16
     requires { ⌜ ReadPart classDefOf (now «data») (now objects) part ⌝ }
-    ensures { λ r. ⌜ ((l c : List ℕ) → r ≡ classOf (bytesOf (lent (now («data» .entry)) (now (objects .entry)) l c) (part .object)) glyph) ⌝ }
+    ensures { λ r. ⌜ ((l c : List ℕ) → r ≡ classOf (bytesOf (lent (came «data») (came objects) l c) (part .object)) glyph) ⌝ }
 {
     class_of(
         bytes_of(data, objects, part.object as usize),
@@ -127,7 +129,7 @@ fn spot_by_classes(
     requires { ⌜ opened .layout .unit ≤ 32 ⌝ }
     requires { ⌜ ReadPart classDefOf (now «data») (now objects) (opened .class1) ⌝ }
     requires { ⌜ ReadPart classDefOf (now «data») (now objects) (opened .class2) ⌝ }
-    ensures { λ r. ⌜ ((l c : List ℕ) → r ≡ asSpot (byClasses (lent (now («data» .entry)) (now (objects .entry)) l c) table opened first second)) ⌝ }
+    ensures { λ r. ⌜ ((l c : List ℕ) → r ≡ asSpot (byClasses (lent (came «data») (came objects) l c) table opened first second)) ⌝ }
 {
     let layout = opened.layout;
     let class1 = opened.class1;
@@ -146,7 +148,7 @@ fn spot_by_classes(
 // The glyph's place in a coverage that was read.
 fn place_in(data: &[u8], objects: &[u32], part: Part, glyph: u16) -> Place
     requires { ⌜ ReadPart coverageOf (now «data») (now objects) part ⌝ }
-    ensures { λ r. ⌜ ((l c : List ℕ) → r ≡ placeOf (coverPlace (bytesOf (lent (now («data» .entry)) (now (objects .entry)) l c) (part .object)) glyph)) ⌝ }
+    ensures { λ r. ⌜ ((l c : List ℕ) → r ≡ placeOf (coverPlace (bytesOf (lent (came «data») (came objects) l c) (part .object)) glyph)) ⌝ }
 {
     place_of(
         bytes_of(data, objects, part.object as usize),
@@ -166,8 +168,8 @@ pub fn spot_of(
     first: u16,
     second: u16,
 ) -> Spot
-    requires { ⌜ checkedOf (lent (now «data») (now objects) (now links) (now counts)) table ≡ Checked.Open opened ⌝ }
-    ensures { λ r. ⌜ r ≡ asSpot (spotOf (lent (now («data» .entry)) (now (objects .entry)) (now (links .entry)) (now (counts .entry))) table first second) ⌝ }
+    requires { ⌜ checkedOf (storeNow «data» objects links counts) table ≡ Checked.Open opened ⌝ }
+    ensures { λ r. ⌜ r ≡ asSpot (spotOf (storeCame «data» objects links counts) table first second) ⌝ }
 {
     let coverage = opened.coverage;
     let place = place_in(data, objects, coverage, first);

@@ -2,18 +2,19 @@
 mod find_spot;
 mod values;
 
-use checks::Checked;
-use checks::PairTable;
-use checks::check_table;
+use call_rules::number_of;
 use find_spot::spot_of;
-use rules::number_of;
+use pair_checks::Checked;
+use pair_checks::PairTable;
+use pair_checks::check_table;
 use values::pair_at;
 ghost use mathlib.Core.Path.{_≡_};
 ghost use mathlib.Core.List.{_++_};
-ghost use Rattle.rules.specs.Store.{lent};
-ghost use Rattle.rules.specs.Pairs.{noPair, pairOf};
-ghost use Rattle.rules.specs.Answers.{reported, pairCall};
-ghost use Rattle.checks.specs.Checked.{checkedOf};
+ghost use Rattle.pair_rules.specs.Pairs.{noPair, pairOf};
+ghost use Rattle.pair_rules.specs.Calls.{reported, pairCall};
+ghost use Rattle.pair_checks.specs.Checked.{checkedOf};
+ghost use Rattle.folds.specs.Moments.{left};
+ghost use Rattle.store_rules.specs.Moments.{storeCame, storeNow};
 ghost use Rattle.pair_reading.specs.Reading.{asPair, pairOutcome};
 
 // The record of a pair set that a search finds.
@@ -57,8 +58,8 @@ fn pair_of(
     first: u16,
     second: u16,
 ) -> PairAnswer
-    requires { ⌜ checkedOf (lent (now «data») (now objects) (now links) (now counts)) table ≡ Checked.Open opened ⌝ }
-    ensures { λ r. ⌜ asPair r ≡ pairOf (lent (now («data» .entry)) (now (objects .entry)) (now (links .entry)) (now (counts .entry))) table first second ⌝ }
+    requires { ⌜ checkedOf (storeNow «data» objects links counts) table ≡ Checked.Open opened ⌝ }
+    ensures { λ r. ⌜ asPair r ≡ pairOf (storeCame «data» objects links counts) table first second ⌝ }
 {
     let spot = spot_of(data, objects, links, counts, table, opened, first, second);
     let Spot::At { object, at } = spot else {
@@ -88,7 +89,7 @@ fn both(first: [i32; 8], second: [i32; 8]) -> [i32; 16]
 
 // Hands out an answer with what the pair holds.
 fn report(answer: u32, pair: PairAnswer, values: &mut [i32; 16], found: &mut u32) -> u32
-    ensures { λ r. ⌜ pairOutcome r (now (found .exit)) (now (values .exit)) ≡ reported answer (asPair pair) ⌝ }
+    ensures { λ r. ⌜ pairOutcome r (left found) (left values) ≡ reported answer (asPair pair) ⌝ }
 {
     let first = pair.first;
     let second = pair.second;
@@ -113,7 +114,7 @@ pub fn read_pair(
     values: &mut [i32; 16],
     found: &mut u32,
 ) -> u32
-    ensures { λ r. ⌜ pairOutcome r (now (found .exit)) (now (values .exit)) ≡ pairCall (lent (now («data» .entry)) (now (objects .entry)) (now (links .entry)) (now (counts .entry))) table first second ⌝ }
+    ensures { λ r. ⌜ pairOutcome r (left found) (left values) ≡ pairCall (storeCame «data» objects links counts) table first second ⌝ }
 {
     let checked = check_table(data, objects, links, counts, table);
     match checked {

@@ -1,24 +1,26 @@
 // The numbers of a pair's two value records, where they stand.
 use crate::PairAnswer;
-use object_store::Child;
-use object_store::bytes_of;
-use object_store::child_at;
-use opentype::field_at;
-use pair_pos::Layout;
-use value_format::field_count;
-use value_format::has_field;
-use value_format::position;
-use wire::u16_at;
+use ot_layouts::field_at;
+use ot_pairpos::Layout;
+use ot_values::field_count;
+use ot_values::has_field;
+use ot_values::position;
+use ot_wire::u16_at;
+use store_reader::Child;
+use store_reader::bytes_of;
+use store_reader::child_at;
 ghost use mathlib.Core.Path.{_≡_};
 ghost use mathlib.Core.List.{List};
 ghost use Prim.Native.Nat.{ℕ, _+_, _*_, _<_};
 ghost use lib.ListN.{getD};
 ghost use Rattle.folds.specs.Folds.{upto};
-ghost use Rattle.object_store.specs.Rows.{InOrder};
-ghost use Rattle.opentype.specs.Numbers.{signed16};
-ghost use Rattle.opentype.specs.Values.{fieldCount};
-ghost use Rattle.rules.specs.Store.{perLink, lent, childAt};
-ghost use Rattle.rules.specs.Pairs.{deviceNumber, numberOf};
+ghost use Rattle.store_reader.specs.Rows.{InOrder};
+ghost use Rattle.ot_layouts.specs.Numbers.{signed16};
+ghost use Rattle.ot_layouts.specs.Values.{fieldCount};
+ghost use Rattle.store_rules.specs.Store.{perLink, lent, childAt};
+ghost use Rattle.pair_rules.specs.Pairs.{deviceNumber, numberOf};
+ghost use Rattle.folds.specs.Moments.{came};
+ghost use Rattle.store_rules.specs.Moments.{storeCame, storeNow};
 ghost use Rattle.pair_reading.specs.Reading.{asPair, ValueRecord, valuePair};
 
 // Sixteen bits as a signed number.
@@ -35,7 +37,7 @@ fn signed(v: u16) -> i32
 fn device_number(links: &[u32], counts: &[u32; 3], object: u32, position: u32) -> i32
     requires { ⌜ InOrder (now links) (getD (now counts) 2 0) ⌝ }
     requires { ⌜ ((k : ℕ) → k < getD (now counts) 2 0 → getD (now links) (perLink * k + 3) 0 < 65536) ⌝ }
-    ensures { λ r. ⌜ ((b o : List ℕ) → r ≡ deviceNumber (childAt (lent b o (now (links .entry)) (now (counts .entry))) object position)) ⌝ }
+    ensures { λ r. ⌜ ((b o : List ℕ) → r ≡ deviceNumber (childAt (lent b o (came links) (came counts)) object position)) ⌝ }
 {
     let child = child_at(links, counts, object, position);
     match child {
@@ -55,9 +57,9 @@ fn number_at(
     format: u16,
     j: usize,
 ) -> i32
-    requires { ⌜ ValueRecord (lent (now «data») (now objects) (now links) (now counts)) object at format ⌝ }
+    requires { ⌜ ValueRecord (storeNow «data» objects links counts) object at format ⌝ }
     requires { ⌜ j < 8 ⌝ }
-    ensures { λ r. ⌜ r ≡ numberOf (lent (now («data» .entry)) (now (objects .entry)) (now (links .entry)) (now (counts .entry))) object at format j ⌝ }
+    ensures { λ r. ⌜ r ≡ numberOf (storeCame «data» objects links counts) object at format j ⌝ }
 {
     if !has_field(format, j) {
         return 0;
@@ -79,8 +81,8 @@ fn numbers_at(
     at: usize,
     format: u16,
 ) -> [i32; 8]
-    requires { ⌜ ValueRecord (lent (now «data») (now objects) (now links) (now counts)) object at format ⌝ }
-    ensures { λ r. ⌜ r ≡ upto (numberOf (lent (now («data» .entry)) (now (objects .entry)) (now (links .entry)) (now (counts .entry))) object at format) 8 ⌝ }
+    requires { ⌜ ValueRecord (storeNow «data» objects links counts) object at format ⌝ }
+    ensures { λ r. ⌜ r ≡ upto (numberOf (storeCame «data» objects links counts) object at format) 8 ⌝ }
 {
     let mut numbers = [0i32; 8];
     let mut j: usize = 0;
@@ -101,9 +103,9 @@ pub fn pair_at(
     object: u32,
     at: usize,
 ) -> PairAnswer
-    requires { ⌜ ValueRecord (lent (now «data») (now objects) (now links) (now counts)) object at (layout .value1) ⌝ }
-    requires { ⌜ ValueRecord (lent (now «data») (now objects) (now links) (now counts)) object (at + 2 * fieldCount (layout .value1)) (layout .value2) ⌝ }
-    ensures { λ r. ⌜ asPair r ≡ valuePair (lent (now («data» .entry)) (now (objects .entry)) (now (links .entry)) (now (counts .entry))) (layout .value1) (layout .value2) object at ⌝ }
+    requires { ⌜ ValueRecord (storeNow «data» objects links counts) object at (layout .value1) ⌝ }
+    requires { ⌜ ValueRecord (storeNow «data» objects links counts) object (at + 2 * fieldCount (layout .value1)) (layout .value2) ⌝ }
+    ensures { λ r. ⌜ asPair r ≡ valuePair (storeCame «data» objects links counts) (layout .value1) (layout .value2) object at ⌝ }
 {
     let first = numbers_at(data, objects, links, counts, object, at, layout.value1);
     let behind = at + 2 * field_count(layout.value1);

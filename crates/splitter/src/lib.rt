@@ -1,8 +1,11 @@
 // The functions that are exported: on numbers and slices of numbers, on any input. They only call.
 ghost use mathlib.Core.Path.{_≡_};
-ghost use Rattle.rules.specs.Store.{lent};
-ghost use Rattle.rules.specs.Answers.{scratchOf, outcome, splitCall, planCall, pairCall};
+ghost use Rattle.call_rules.specs.Outcomes.{outcome};
+ghost use Rattle.pair_rules.specs.Calls.{splitCall, planCall, pairCall};
 ghost use Rattle.pair_reading.specs.Reading.{pairOutcome};
+ghost use Rattle.folds.specs.Moments.{came, left};
+ghost use Rattle.store_rules.specs.Moments.{storeCame, storeLeft};
+ghost use Rattle.call_rules.specs.Moments.{scratchCame, scratchLeft};
 
 // Splits a table of any store: the answer, the numbers of the new tables at the front of their list, and how many there are. Scratch is zero after it.
 #[no_mangle]
@@ -20,9 +23,13 @@ pub extern "C" fn split_pairpos(
     new_tables: &mut [u32],
     new_count: &mut u32,
 ) -> u32
-    ensures { λ r. ⌜ outcome r (now («new_count» .exit)) (lent (now («data» .exit)) (now (objects .exit)) (now (links .exit)) (now (counts .exit))) (now («new_tables» .exit)) (scratchOf (now (walk .exit)) (now («glyph_set» .exit)) (now (glyphs .exit)) (now (classes .exit)) (now (cuts .exit))) ≡ splitCall (lent (now («data» .entry)) (now (objects .entry)) (now (links .entry)) (now (counts .entry))) table (scratchOf (now (walk .entry)) (now («glyph_set» .entry)) (now (glyphs .entry)) (now (classes .entry)) (now (cuts .entry))) (now («new_tables» .entry)) ⌝ }
+    ensures { λ r. ⌜
+        outcome r (left «new_count») (storeLeft «data» objects links counts) (left «new_tables»)
+        (scratchLeft walk «glyph_set» glyphs classes cuts)
+        ≡ splitCall (storeCame «data» objects links counts) table (scratchCame walk «glyph_set» glyphs classes cuts) (came «new_tables»)
+        ⌝ }
 {
-    pairpos_graph::split_pairpos(
+    pair_split::split_pairpos(
         data,
         objects,
         links,
@@ -54,9 +61,13 @@ pub extern "C" fn cut_plan(
     places: &mut [u16],
     place_count: &mut u32,
 ) -> u32
-    ensures { λ r. ⌜ outcome r (now («place_count» .exit)) (lent (now («data» .entry)) (now (objects .entry)) (now (links .entry)) (now (counts .entry))) (now (places .exit)) (scratchOf (now (walk .exit)) (now («glyph_set» .exit)) (now (glyphs .exit)) (now (classes .exit)) (now (cuts .exit))) ≡ planCall (lent (now («data» .entry)) (now (objects .entry)) (now (links .entry)) (now (counts .entry))) table (scratchOf (now (walk .entry)) (now («glyph_set» .entry)) (now (glyphs .entry)) (now (classes .entry)) (now (cuts .entry))) (now (places .entry)) ⌝ }
+    ensures { λ r. ⌜
+        outcome r (left «place_count») (storeCame «data» objects links counts) (left places)
+        (scratchLeft walk «glyph_set» glyphs classes cuts)
+        ≡ planCall (storeCame «data» objects links counts) table (scratchCame walk «glyph_set» glyphs classes cuts) (came places)
+        ⌝ }
 {
-    plan::cut_plan(
+    pair_plan::cut_plan(
         data,
         objects,
         links,
@@ -85,7 +96,7 @@ pub extern "C" fn read_pair(
     values: &mut [i32; 16],
     found: &mut u32,
 ) -> u32
-    ensures { λ r. ⌜ pairOutcome r (now (found .exit)) (now (values .exit)) ≡ pairCall (lent (now («data» .entry)) (now (objects .entry)) (now (links .entry)) (now (counts .entry))) table first second ⌝ }
+    ensures { λ r. ⌜ pairOutcome r (left found) (left values) ≡ pairCall (storeCame «data» objects links counts) table first second ⌝ }
 {
     pair_reading::read_pair(
         data,

@@ -5,11 +5,11 @@ use mathlib.Core.Bool.{Bool, true, false, not}
 use mathlib.Core.List.{List}
 use native.Mathlib.Omega.{arith}
 use lib.ListN.{length, getD}
-use Rattle.object_store.specs.Rows.{InOrder}
-use Rattle.object_store.proofs.Rows.{in-order}
-use Rattle.rules.specs.Store.{lent, sound}
-use Rattle.rules.proofs.Sound.{Fits, sound-fits}
-use Rattle.walk.specs.Marks.{noRow, Blank, Prepared, Ready}
+use Rattle.store_reader.specs.Rows.{InOrder}
+use Rattle.store_reader.proofs.Rows.{in-order}
+use Rattle.store_rules.specs.Store.{lent, sound}
+use Rattle.store_rules.proofs.Sound.{Fits, sound-fits}
+use Rattle.store_walk.specs.Marks.{noRow, Blank, Prepared, Ready}
 use Rattle.store_runs.specs.Looks.{Looks}
 
 module _ {o l c w : List ℕ} (p : Looks o l c w) where

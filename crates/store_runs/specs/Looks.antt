@@ -4,7 +4,7 @@ use mathlib.Core.Path.{_≡_}
 use mathlib.Core.Bool.{true}
 use mathlib.Core.List.{List}
 use lib.ListN.{length, getD}
-use Rattle.rules.specs.Store.{lent, sound}
+use Rattle.store_rules.specs.Store.{lent, sound}
 
 -- the rows are a sound store's, it has an object, and the scratch is long enough
 pub record Looks (o l c w : List ℕ) : Type 0 where

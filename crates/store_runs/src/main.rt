@@ -1,9 +1,9 @@
 // Stores at their maxima, looked at whole: 65,536 objects in one chain, 262,144 links, and a way back to the first object or none.
 use libc::STDOUT_FILENO;
-use object_store::first_row;
-use object_store::is_sound;
-use walk::prepare;
-use walk::subgraph_size;
+use store_reader::first_row;
+use store_reader::is_sound;
+use store_walk::prepare;
+use store_walk::subgraph_size;
 ghost use Rattle.store_runs.specs.Looks.{Looks};
 
 // What there is to say of a store's first object: whether the store is sound, whether the object can be reached from itself, and how many bytes it reaches.

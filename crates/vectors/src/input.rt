@@ -2,6 +2,7 @@
 ghost use Prim.Native.Nat.{_<_, _≤_};
 ghost use lib.ListN.{length};
 ghost use Rattle.io.specs.Counts.{Counts};
+ghost use Rattle.folds.specs.Moments.{left};
 
 // A number, and the place behind it.
 pub struct Number {
@@ -114,7 +115,7 @@ pub fn least(a: usize, b: usize) -> usize
 
 // Lays an array of the text into `out`: its length, or as much as there is room for, and then its runs.
 pub fn lay_u8(text: &[u8], from: usize, out: &mut [u8]) -> Laid
-    ensures { λ r. ⌜ Counts (r .count) (now (out .exit)) ⌝ }
+    ensures { λ r. ⌜ Counts (r .count) (left out) ⌝ }
 {
     let told = read_number(text, from);
     let count = least(told.value as usize, out.len());
@@ -132,7 +133,7 @@ pub fn lay_u8(text: &[u8], from: usize, out: &mut [u8]) -> Laid
 
 // The same, of 16-bit numbers.
 pub fn lay_u16(text: &[u8], from: usize, out: &mut [u16]) -> Laid
-    ensures { λ r. ⌜ Counts (r .count) (now (out .exit)) ⌝ }
+    ensures { λ r. ⌜ Counts (r .count) (left out) ⌝ }
 {
     let told = read_number(text, from);
     let count = least(told.value as usize, out.len());
@@ -150,7 +151,7 @@ pub fn lay_u16(text: &[u8], from: usize, out: &mut [u16]) -> Laid
 
 // The same, of 32-bit numbers.
 pub fn lay_u32(text: &[u8], from: usize, out: &mut [u32]) -> Laid
-    ensures { λ r. ⌜ Counts (r .count) (now (out .exit)) ⌝ }
+    ensures { λ r. ⌜ Counts (r .count) (left out) ⌝ }
 {
     let told = read_number(text, from);
     let count = least(told.value as usize, out.len());

@@ -15,30 +15,9 @@ abbrev μ-loop : tie.MeasureT-loop
 loop-holds : tie.Need-loop-holds Inv-loop μ-loop
 loop-holds c = write-start _ _ _ _ (c .pre .1)
 
-add-s : tie.Need-add-s Inv-loop μ-loop
-add-s c = search needs
-
-slice-read-s : tie.Need-slice-read-s Inv-loop μ-loop
-slice-read-s c = search needs
-
-add-s-2 : tie.Need-add-s-2 Inv-loop μ-loop
-add-s-2 c = search needs
-
-slice-write-s : tie.Need-slice-write-s Inv-loop μ-loop
-slice-write-s c = search needs
-
-add-k : tie.Need-add-k Inv-loop μ-loop
-add-k c = search needs
-
-loop-less : tie.Need-loop-less Inv-loop μ-loop
-loop-less c = search needs
-
 loop-again : tie.Need-loop-again Inv-loop μ-loop
 loop-again c =
     copy-turn _ _ _ _ (c .before .before .before .pre .0) (c .before .before .before .pre .1) _ _ (c .before .before .loop .inv) (search needs)
-
-same-length : tie.Need-same-length Inv-loop μ-loop
-same-length c = search needs
 
 returns : tie.Need-returns Inv-loop μ-loop
 returns c = copy-stop _ _ _ _ (c .before .before .pre .0) (c .before .before .pre .1) _ _ (c .before .loop .inv) (search needs)
@@ -50,12 +29,12 @@ copy-up-spec =
     Inv-loop
     μ-loop
     loop-holds
-    add-s
-    slice-read-s
-    add-s-2
-    slice-write-s
-    add-k
-    loop-less
+    (λ c. search needs)
+    (λ c. search needs)
+    (λ c. search needs)
+    (λ c. search needs)
+    (λ c. search needs)
+    (λ c. search needs)
     loop-again
-    same-length
+    (λ c. search needs)
     returns)

@@ -9,22 +9,16 @@ use Rattle.glyph_set.specs.GlyphSet.{member}
 use Rattle.glyph_set.proofs.contains.Statement.{statement}
 use Rattle.glyph_set.proofs.contains.Tie as tie
 
-cast-at : tie.Need-cast-at
-cast-at c = search needs
-
-shared-slice-read-result : tie.Need-shared-slice-read-result
-shared-slice-read-result c = search needs
-
-cast-result : tie.Need-cast-result
-cast-result c = search needs
-
-shr-result : tie.Need-shr-result
-shr-result c = search needs
-
 returns : tie.Need-returns
 unfolding member
 returns c = let a = c .before .args in ap (λ (n : ℕ). eqb n 1) (masked-lowest (getD (a .set .now) (a .glyph / 8) 0 / 2 ^ (a .glyph % 8)))
 
 pub contains-spec : {M : Type 1} → statement M
 contains-spec =
-    tie.close (tie.spec cast-at shared-slice-read-result cast-result shr-result returns)
+    tie.close
+    (tie.spec
+    (λ c. search needs)
+    (λ c. search needs)
+    (λ c. search needs)
+    (λ c. search needs)
+    returns)

@@ -8,12 +8,6 @@ use Rattle.glyph_set.proofs.Neighbours.{before-le, behind-le}
 use Rattle.glyph_set.proofs.joined.Statement.{statement}
 use Rattle.glyph_set.proofs.joined.Tie as tie
 
-present-before-requires : tie.Need-present-before-requires
-present-before-requires c κs = search needs
-
-present-behind-requires : tie.Need-present-behind-requires
-present-behind-requires c κs = search needs
-
 add-result : tie.Need-add-result
 add-result c =
     let a = c .before .before .before .args in
@@ -25,4 +19,9 @@ returns c = ap₂ (λ (x y : ℕ). x + y) (c .before .present-before .ensures) (
 
 pub joined-spec : {M : Type 1} → statement M
 joined-spec =
-    tie.close (tie.spec present-before-requires present-behind-requires add-result returns)
+    tie.close
+    (tie.spec
+    (λ c κs. search needs)
+    (λ c κs. search needs)
+    add-result
+    returns)

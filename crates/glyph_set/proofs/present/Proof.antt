@@ -10,18 +10,6 @@ use Rattle.glyph_set.proofs.Neighbours.{digit}
 use Rattle.glyph_set.proofs.present.Statement.{statement}
 use Rattle.glyph_set.proofs.present.Tie as tie
 
-cast-at : tie.Need-cast-at
-cast-at c = search needs
-
-shared-slice-read-result : tie.Need-shared-slice-read-result
-shared-slice-read-result c = search needs
-
-cast-result : tie.Need-cast-result
-cast-result c = search needs
-
-shr-result : tie.Need-shr-result
-shr-result c = search needs
-
 cast-result-2 : tie.Need-cast-result-2
 cast-result-2 c =
     let a = c .before .args in
@@ -37,4 +25,10 @@ returns c =
 pub present-spec : {M : Type 1} → statement M
 present-spec =
     tie.close
-    (tie.spec cast-at shared-slice-read-result cast-result shr-result cast-result-2 returns)
+    (tie.spec
+    (λ c. search needs)
+    (λ c. search needs)
+    (λ c. search needs)
+    (λ c. search needs)
+    cast-result-2
+    returns)

@@ -9,14 +9,13 @@ use Rattle.glyph_set.proofs.present_before.Tie as tie
 returns : tie.Need-returns
 returns c = let a = c .before .before .args in sym (before-first (a .set .now) (a .glyph) (omega arith))
 
-sub-present : tie.Need-sub-present
-sub-present c = search needs
-
-present-requires : tie.Need-present-requires
-present-requires c κs = search needs
-
 returns-2 : tie.Need-returns-2
 returns-2 c = let a = c .before .before .before .args in c .present .ensures ∙ sym (before-at (a .set .now) (a .glyph) (omega arith))
 
 pub present-before-spec : {M : Type 1} → statement M
-present-before-spec = tie.close (tie.spec returns sub-present present-requires returns-2)
+present-before-spec = tie.close
+    (tie.spec
+    returns
+    (λ c. search needs)
+    (λ c κs. search needs)
+    returns-2)

@@ -9,14 +9,13 @@ use Rattle.glyph_set.proofs.present_behind.Tie as tie
 returns : tie.Need-returns
 returns c = let a = c .before .before .args in sym (behind-last (a .set .now) (a .glyph) (omega arith))
 
-add-present : tie.Need-add-present
-add-present c = search needs
-
-present-requires : tie.Need-present-requires
-present-requires c κs = search needs
-
 returns-2 : tie.Need-returns-2
 returns-2 c = let a = c .before .before .before .args in c .present .ensures ∙ sym (behind-at (a .set .now) (a .glyph) (omega arith))
 
 pub present-behind-spec : {M : Type 1} → statement M
-present-behind-spec = tie.close (tie.spec returns add-present present-requires returns-2)
+present-behind-spec = tie.close
+    (tie.spec
+    returns
+    (λ c. search needs)
+    (λ c κs. search needs)
+    returns-2)

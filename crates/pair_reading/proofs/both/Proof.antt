@@ -20,47 +20,11 @@ abbrev μ-loop : tie.MeasureT-loop
 loop-holds : tie.Need-loop-holds Inv-loop μ-loop
 loop-holds c = unfilled _ _ _ refl
 
-mul-numbers : tie.Need-mul-numbers Inv-loop μ-loop
-mul-numbers c = search needs
-
-array-copy-out-numbers : tie.Need-array-copy-out-numbers Inv-loop μ-loop
-array-copy-out-numbers c = search needs
-
-mul-numbers-2 : tie.Need-mul-numbers-2 Inv-loop μ-loop
-mul-numbers-2 c = search needs
-
-array-set-from-numbers : tie.Need-array-set-from-numbers Inv-loop μ-loop
-array-set-from-numbers c = search needs
-
-add-j : tie.Need-add-j Inv-loop μ-loop
-add-j c = search needs
-
-loop-less : tie.Need-loop-less Inv-loop μ-loop
-loop-less c = search needs
-
 loop-again : tie.Need-loop-again Inv-loop μ-loop
 loop-again c =
     let a = c .before .before .before .before .args in
     let e : length (a .t1) ≡ 8 = search needs in
     fill _ _ _ (c .before .before .before .loop .inv) (c .before .before .loop-test .taken) (toZ-ofZ w32 (getD (a .t1) (c .before .before .before .loop .j) (pos 0)) (search needs) ∙ of-first (pos 0) 8 (a .t1) (a .t2) e (c .before .before .before .loop .j) (c .before .if1 .taken))
-
-mul-numbers-3 : tie.Need-mul-numbers-3 Inv-loop μ-loop
-mul-numbers-3 c = search needs
-
-array-copy-out-numbers-2 : tie.Need-array-copy-out-numbers-2 Inv-loop μ-loop
-array-copy-out-numbers-2 c = search needs
-
-mul-numbers-4 : tie.Need-mul-numbers-4 Inv-loop μ-loop
-mul-numbers-4 c = search needs
-
-array-set-from-numbers-2 : tie.Need-array-set-from-numbers-2 Inv-loop μ-loop
-array-set-from-numbers-2 c = search needs
-
-add-j-2 : tie.Need-add-j-2 Inv-loop μ-loop
-add-j-2 c = search needs
-
-loop-less-2 : tie.Need-loop-less-2 Inv-loop μ-loop
-loop-less-2 c = search needs
 
 loop-again-2 : tie.Need-loop-again-2 Inv-loop μ-loop
 loop-again-2 c =
@@ -82,18 +46,18 @@ both-spec =
     Inv-loop
     μ-loop
     loop-holds
-    mul-numbers
-    array-copy-out-numbers
-    mul-numbers-2
-    array-set-from-numbers
-    add-j
-    loop-less
+    (λ c. search needs)
+    (λ c. search needs)
+    (λ c. search needs)
+    (λ c. search needs)
+    (λ c. search needs)
+    (λ c. search needs)
     loop-again
-    mul-numbers-3
-    array-copy-out-numbers-2
-    mul-numbers-4
-    array-set-from-numbers-2
-    add-j-2
-    loop-less-2
+    (λ c. search needs)
+    (λ c. search needs)
+    (λ c. search needs)
+    (λ c. search needs)
+    (λ c. search needs)
+    (λ c. search needs)
     loop-again-2
     returns)

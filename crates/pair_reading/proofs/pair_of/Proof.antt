@@ -1,22 +1,10 @@
 -- `pair_reading::pair_of` meets its contract: no pair, or the one that stands at the spot. Assumes nothing.
-use Rattle.rules.specs.Store.{lent}
-use Rattle.checks.proofs.Refusals.{opens}
+use Rattle.store_rules.specs.Store.{lent}
+use Rattle.pair_checks.proofs.Refusals.{opens}
 use Rattle.pair_reading.proofs.Answering.{no-spot, first-record, second-record, at-spot}
 use borrow.Author.Needs.{needs}
 use Rattle.pair_reading.proofs.pair_of.Statement.{statement}
 use Rattle.pair_reading.proofs.pair_of.Tie as tie
-
-spot-of-requires : tie.Need-spot-of-requires
-spot-of-requires c κs = search needs
-
-enum-known-spot : tie.Need-enum-known-spot
-enum-known-spot c = search needs
-
-enum-told : tie.Need-enum-told
-enum-told c = search needs
-
-no-pair-requires : tie.Need-no-pair-requires
-no-pair-requires c κs = search needs
 
 returns : tie.Need-returns
 returns c =
@@ -41,10 +29,10 @@ pub pair-of-spec : {M : Type 1} → statement M
 pair-of-spec =
     tie.close
     (tie.spec
-    spot-of-requires
-    enum-known-spot
-    enum-told
-    no-pair-requires
+    (λ c κs. search needs)
+    (λ c. search needs)
+    (λ c. search needs)
+    (λ c κs. search needs)
     returns
     pair-at-requires
     returns-2)

@@ -4,9 +4,6 @@ use borrow.Author.Needs.{needs}
 use Rattle.pair_reading.proofs.report.Statement.{statement}
 use Rattle.pair_reading.proofs.report.Tie as tie
 
-both-requires : tie.Need-both-requires
-both-requires c κs = search needs
-
 returns : tie.Need-returns
 returns c = found-reported (c .before .before .before .before .args .answer) (c .before .before .before .before .args .pair) (c .if1 .taken) (c .before .both .ensures)
 
@@ -14,4 +11,8 @@ returns-2 : tie.Need-returns-2
 returns-2 c = none-reported (c .before .before .before .before .args .answer) (c .before .before .before .before .args .pair) (c .if1 .left) (c .before .both .ensures)
 
 pub report-spec : {M : Type 1} → statement M
-report-spec = tie.close (tie.spec both-requires returns returns-2)
+report-spec = tie.close
+    (tie.spec
+    (λ c κs. search needs)
+    returns
+    returns-2)

@@ -2,16 +2,10 @@
 use mathlib.Core.Path.{_∙_, ap}
 use mathlib.Core.List.{List, []}
 use Prim.Native.Nat.{ℕ}
-use Rattle.opentype.specs.ClassDef.{classDefOf, classOf}
+use Rattle.ot_layouts.specs.ClassDef.{classDefOf, classOf}
 use borrow.Author.Needs.{needs}
 use Rattle.pair_reading.proofs.find_spot.class_in.Statement.{statement}
 use Rattle.pair_reading.proofs.find_spot.class_in.Tie as tie
-
-cast-bytes-of : tie.Need-cast-bytes-of
-cast-bytes-of c = search needs
-
-bytes-of-requires : tie.Need-bytes-of-requires
-bytes-of-requires c κs = search needs
 
 class-of-requires : tie.Need-class-of-requires
 class-of-requires c κs = ap classDefOf (c .bytes-of .ensures [] []) ∙ c .before .before .before .before .pre .header [] []
@@ -20,4 +14,9 @@ returns : tie.Need-returns
 returns c l k = c .class-of .ensures ∙ ap (λ (b : List ℕ). classOf b (c .before .before .before .before .before .args .glyph)) (c .before .bytes-of .ensures l k)
 
 pub class-in-spec : {M : Type 1} → statement M
-class-in-spec = tie.close (tie.spec cast-bytes-of bytes-of-requires class-of-requires returns)
+class-in-spec = tie.close
+    (tie.spec
+    (λ c. search needs)
+    (λ c κs. search needs)
+    class-of-requires
+    returns)

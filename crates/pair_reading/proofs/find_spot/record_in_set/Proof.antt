@@ -15,15 +15,6 @@ abbrev μ-loop : tie.MeasureT-loop
 returns : tie.Need-returns Inv-loop μ-loop
 returns c = no-count _ _ _ (c .if1 .taken)
 
-u16-at-requires : tie.Need-u16-at-requires Inv-loop μ-loop
-u16-at-requires c κs = search needs
-
-cast-count : tie.Need-cast-count Inv-loop μ-loop
-cast-count c = search needs
-
-add-if2 : tie.Need-add-if2 Inv-loop μ-loop
-add-if2 c = search needs
-
 mul-if2 : tie.Need-mul-if2 Inv-loop μ-loop
 mul-if2 c = omega (arith, records-fit (c .before .before .before .args .size) (c .u16-at .result) (omega arith) (omega arith))
 
@@ -36,9 +27,6 @@ returns-2 c = too-short _ _ _ (c .before .u16-at .ensures) (c .before .before .i
 loop-holds : tie.Need-loop-holds Inv-loop μ-loop
 loop-holds c = start _ _ _ (c .before .u16-at .ensures) (c .before .before .if1 .left) (omega arith) (omega arith) (c .if2 .left)
 
-add-u16-at : tie.Need-add-u16-at Inv-loop μ-loop
-add-u16-at c = search needs
-
 mul-u16-at : tie.Need-mul-u16-at Inv-loop μ-loop
 mul-u16-at c = omega (arith, glyph-within (c .before .loop .inv) (c .loop-test .taken))
 
@@ -50,12 +38,6 @@ u16-at-requires-2 c κs = omega (arith, glyph-within (c .before .loop .inv) (c .
 
 returns-3 : tie.Need-returns-3 Inv-loop μ-loop
 returns-3 c = hit (c .before .before .before .loop .inv) (c .before .before .loop-test .taken) (omega arith)
-
-add-r : tie.Need-add-r Inv-loop μ-loop
-add-r c = search needs
-
-loop-less : tie.Need-loop-less Inv-loop μ-loop
-loop-less c = search needs
 
 loop-again : tie.Need-loop-again Inv-loop μ-loop
 loop-again c = next (c .before .before .before .loop .inv) (c .before .before .loop-test .taken) (λ e. omega arith)
@@ -70,19 +52,19 @@ record-in-set-spec =
     Inv-loop
     μ-loop
     returns
-    u16-at-requires
-    cast-count
-    add-if2
+    (λ c κs. search needs)
+    (λ c. search needs)
+    (λ c. search needs)
     mul-if2
     add-if2-2
     returns-2
     loop-holds
-    add-u16-at
+    (λ c. search needs)
     mul-u16-at
     add-u16-at-2
     u16-at-requires-2
     returns-3
-    add-r
-    loop-less
+    (λ c. search needs)
+    (λ c. search needs)
     loop-again
     returns-4)

@@ -1,24 +1,15 @@
 -- `find_spot::spot_by_classes` meets its contract: by the row, then by the column. Assumes nothing.
-use Rattle.rules.specs.Store.{lent}
+use Rattle.store_rules.specs.Store.{lent}
 use Rattle.pair_reading.proofs.Finding.{no-row, no-column, in-column}
 use borrow.Author.Needs.{needs}
 use Rattle.pair_reading.proofs.find_spot.spot_by_classes.Statement.{statement}
 use Rattle.pair_reading.proofs.find_spot.spot_by_classes.Tie as tie
 
-class-in-requires : tie.Need-class-in-requires
-class-in-requires c κs = search needs
-
 returns : tie.Need-returns
 returns c l k = let a = c .before .before .before .before .before .before .before .args in no-row (lent (a .«data» .now) (a .objects .now) l k) (a .table) (a .opened) (a .first) (a .second) (c .before .before .class-in .ensures l k) (c .if1 .taken)
 
-class-in-requires-2 : tie.Need-class-in-requires-2
-class-in-requires-2 c κs = search needs
-
 returns-2 : tie.Need-returns-2
 returns-2 c l k = let a = c .before .before .before .before .before .before .before .before .before .before .before .args in no-column (lent (a .«data» .now) (a .objects .now) l k) (a .table) (a .opened) (a .first) (a .second) (c .before .before .before .before .before .before .class-in .ensures l k) (c .before .before .before .before .if1 .left) (c .before .before .class-in2 .ensures l k) (c .if2 .taken)
-
-spot-in-row-requires : tie.Need-spot-in-row-requires
-spot-in-row-requires c κs = search needs
 
 returns-3 : tie.Need-returns-3
 returns-3 c l k = let a = c .before .before .before .before .before .before .before .before .before .before .before .before .args in in-column (lent (a .«data» .now) (a .objects .now) l k) (a .table) (a .opened) (a .first) (a .second) (c .before .before .before .before .before .before .before .class-in .ensures l k) (c .before .before .before .before .before .if1 .left) (c .before .before .before .class-in2 .ensures l k) (c .before .if2 .left) (c .spot-in-row .ensures)
@@ -27,9 +18,9 @@ pub spot-by-classes-spec : {M : Type 1} → statement M
 spot-by-classes-spec =
     tie.close
     (tie.spec
-    class-in-requires
+    (λ c κs. search needs)
     returns
-    class-in-requires-2
+    (λ c κs. search needs)
     returns-2
-    spot-in-row-requires
+    (λ c κs. search needs)
     returns-3)

@@ -5,9 +5,6 @@ use borrow.Author.Needs.{needs}
 use Rattle.pair_reading.proofs.find_spot.spot_in_row.Statement.{statement}
 use Rattle.pair_reading.proofs.find_spot.spot_in_row.Tie as tie
 
-cast-record : tie.Need-cast-record
-cast-record c = search needs
-
 mul-record : tie.Need-mul-record
 mul-record c = let a = c .before .args in omega (arith, row-fits (a .row) (a .layout .columns) (omega arith) (omega arith))
 
@@ -20,8 +17,12 @@ mul-at c = let a = c .before .before .args in record { fits = place-fits _ _ (c 
 add-at : tie.Need-add-at
 add-at c = let a = c .before .before .args in record { fits = behind-fits _ _ (c .before .before .pre) (omega (arith, row-fits (a .row) (a .layout .columns) (omega arith) (omega arith))) }
 
-returns : tie.Need-returns
-returns c = search needs
-
 pub spot-in-row-spec : {M : Type 1} → statement M
-spot-in-row-spec = tie.close (tie.spec cast-record mul-record add-record mul-at add-at returns)
+spot-in-row-spec = tie.close
+    (tie.spec
+    (λ c. search needs)
+    mul-record
+    add-record
+    mul-at
+    add-at
+    (λ c. search needs))

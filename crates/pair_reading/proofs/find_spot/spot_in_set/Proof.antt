@@ -1,31 +1,16 @@
 -- `find_spot::spot_in_set` meets its contract: by what the search finds. Assumes nothing.
 use native.Mathlib.Omega.{arith}
-use Rattle.rules.specs.Store.{lent}
+use Rattle.store_rules.specs.Store.{lent}
 use Rattle.pair_reading.proofs.Finding.{record-in, no-record-in, record-place}
 use borrow.Author.Needs.{needs}
 use Rattle.pair_reading.proofs.find_spot.spot_in_set.Statement.{statement}
 use Rattle.pair_reading.proofs.find_spot.spot_in_set.Tie as tie
-
-bytes-of-requires : tie.Need-bytes-of-requires
-bytes-of-requires c κs = search needs
-
-record-in-set-requires : tie.Need-record-in-set-requires
-record-in-set-requires c κs = search needs
-
-enum-known-found : tie.Need-enum-known-found
-enum-known-found c = search needs
-
-add-at : tie.Need-add-at
-add-at c = search needs
 
 mul-at : tie.Need-mul-at
 mul-at c = let a = c .before .before .before .before .before .before .before .args in omega (arith, record-place (c .before .before .before .before .bytes-of .result .now) (a .size) (a .second) _ (c .before .before .before .record-in-set .ensures) (c .before .found .given .1))
 
 add-at-2 : tie.Need-add-at-2
 add-at-2 c = let a = c .before .before .before .before .before .before .before .args in omega (arith, record-place (c .before .before .before .before .bytes-of .result .now) (a .size) (a .second) _ (c .before .before .before .record-in-set .ensures) (c .before .found .given .1))
-
-enum-told : tie.Need-enum-told
-enum-told c = search needs
 
 returns : tie.Need-returns
 returns c l k = let a = c .before .before .before .before .before .before .before .args in record-in (lent (a .«data» .now) (a .objects .now) l k) (a .size) (a .second) (a .object) (c .before .before .before .before .bytes-of .ensures l k) (c .before .before .before .record-in-set .ensures) (c .before .found .given .1)
@@ -37,12 +22,12 @@ pub spot-in-set-spec : {M : Type 1} → statement M
 spot-in-set-spec =
     tie.close
     (tie.spec
-    bytes-of-requires
-    record-in-set-requires
-    enum-known-found
-    add-at
+    (λ c κs. search needs)
+    (λ c κs. search needs)
+    (λ c. search needs)
+    (λ c. search needs)
     mul-at
     add-at-2
-    enum-told
+    (λ c. search needs)
     returns
     returns-2)

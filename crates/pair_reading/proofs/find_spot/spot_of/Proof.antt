@@ -1,6 +1,6 @@
 -- `find_spot::spot_of` meets its contract: the first glyph is covered, and then by the format. Assumes nothing.
-use Rattle.rules.specs.Store.{lent}
-use Rattle.checks.proofs.Refusals.{opens}
+use Rattle.store_rules.specs.Store.{lent}
+use Rattle.pair_checks.proofs.Refusals.{opens}
 use Rattle.pair_reading.proofs.Finding.{coverage-part, class1-part, class2-part, unit-small, not-covered, by-its-set, by-its-classes}
 use borrow.Author.Needs.{needs}
 use Rattle.pair_reading.proofs.find_spot.spot_of.Statement.{statement}
@@ -11,12 +11,6 @@ place-in-requires c κs =
     let start = c .before .before .before .before in
     let a = start .args in
     coverage-part (opens (lent (a .«data» .now) (a .objects .now) (a .links .now) (a .counts .now)) (a .table) (a .opened) (start .pre))
-
-enum-known-place : tie.Need-enum-known-place
-enum-known-place c = search needs
-
-enum-told : tie.Need-enum-told
-enum-told c = search needs
 
 returns : tie.Need-returns
 returns c =
@@ -54,8 +48,8 @@ spot-of-spec =
     tie.close
     (tie.spec
     place-in-requires
-    enum-known-place
-    enum-told
+    (λ c. search needs)
+    (λ c. search needs)
     returns
     spot-by-set-requires
     returns-2

@@ -2,17 +2,11 @@
 use mathlib.Core.Path.{sym, _∙_}
 use mathlib.Core.List.{[]}
 use native.Mathlib.Omega.{arith}
-use Rattle.rules.specs.Store.{lent}
+use Rattle.store_rules.specs.Store.{lent}
 use Rattle.pair_reading.proofs.Fields.{child-small, device-linked, device-none}
 use borrow.Author.Needs.{needs}
 use Rattle.pair_reading.proofs.values.device_number.Statement.{statement}
 use Rattle.pair_reading.proofs.values.device_number.Tie as tie
-
-child-at-requires : tie.Need-child-at-requires
-child-at-requires c κs = search needs
-
-enum-known-child : tie.Need-enum-known-child
-enum-known-child c = search needs
 
 add-result : tie.Need-add-result
 add-result c =
@@ -25,9 +19,6 @@ cast-result c =
     let start = c .before .before .before .before .before in
     let a = start .args in
     record { sfits = omega (arith, child-small (lent [] [] (a .links .now) (a .counts .now)) (a .object) (a .position) _ (start .pre .1) (sym (c .before .child .given .1) ∙ c .before .before .before .child-at .ensures [] [])) }
-
-enum-told : tie.Need-enum-told
-enum-told c = search needs
 
 returns : tie.Need-returns
 returns c b o =
@@ -42,10 +33,10 @@ pub device-number-spec : {M : Type 1} → statement M
 device-number-spec =
     tie.close
     (tie.spec
-    child-at-requires
-    enum-known-child
+    (λ c κs. search needs)
+    (λ c. search needs)
     add-result
     cast-result
-    enum-told
+    (λ c. search needs)
     returns
     returns-2)

@@ -11,17 +11,11 @@ use borrow.Author.Needs.{needs}
 use Rattle.pair_reading.proofs.values.number_at.Statement.{statement}
 use Rattle.pair_reading.proofs.values.number_at.Tie as tie
 
-has-field-requires : tie.Need-has-field-requires
-has-field-requires c κs = search needs
-
 returns : tie.Need-returns
 returns c =
     let start = c .before .before .before .before .before in
     let a = start .args in
     absent (start .pre .0) (a .j) (start .pre .1) (c .before .has-field .ensures) (c .if1 .taken)
-
-position-requires : tie.Need-position-requires
-position-requires c κs = search needs
 
 mul-place : tie.Need-mul-place
 mul-place c =
@@ -34,9 +28,6 @@ add-place c =
     let start = c .before .before .before .before .before .before in
     let a = start .args in
     omega (arith, field-within (start .pre .0) (a .j) (start .pre .1) (c .before .before .has-field .ensures) (c .before .if1 .left), object-small (start .pre .0), c .position .ensures)
-
-field-at-requires : tie.Need-field-at-requires
-field-at-requires c κs = search needs
 
 cast-device-number : tie.Need-cast-device-number
 cast-device-number c =
@@ -63,9 +54,6 @@ u16-at-requires c κs =
     let a = start .args in
     omega (arith, ap (λ (b : List ℕ). length b) (c .bytes-of .ensures (a .links .now) (a .counts .now)), field-within (start .pre .0) (a .j) (start .pre .1) (c .before .before .before .before .before .has-field .ensures) (c .before .before .before .before .if1 .left), c .before .before .before .position .ensures)
 
-signed-requires : tie.Need-signed-requires
-signed-requires c κs = search needs
-
 returns-3 : tie.Need-returns-3
 returns-3 c =
     let start = c .before .before .before .before .before .before .before .before .before .before .before in
@@ -77,16 +65,16 @@ pub number-at-spec : {M : Type 1} → statement M
 number-at-spec =
     tie.close
     (tie.spec
-    has-field-requires
+    (λ c κs. search needs)
     returns
-    position-requires
+    (λ c κs. search needs)
     mul-place
     add-place
-    field-at-requires
+    (λ c κs. search needs)
     cast-device-number
     device-number-requires
     returns-2
     bytes-of-requires
     u16-at-requires
-    signed-requires
+    (λ c κs. search needs)
     returns-3)

@@ -4,8 +4,8 @@ use mathlib.Core.Path.{refl, _∙_}
 use lib.IntN.{pos}
 use mir.Syntax.{w32}
 use mir.ValLaws.{toZ-ofZ}
-use Rattle.rules.specs.Store.{lent}
-use Rattle.rules.specs.Pairs.{numberOf}
+use Rattle.store_rules.specs.Store.{lent}
+use Rattle.pair_rules.specs.Pairs.{numberOf}
 use Rattle.pair_reading.proofs.Filled.{Filled, unfilled, fill, full}
 use borrow.Author.Needs.{needs}
 use Rattle.pair_reading.proofs.values.numbers_at.Statement.{statement}
@@ -23,18 +23,6 @@ loop-holds c = unfilled _ _ _ refl
 number-at-requires : tie.Need-number-at-requires Inv-loop μ-loop
 number-at-requires c κs = (c .before .before .before .before .before .pre, c .loop-test .taken)
 
-mul-numbers : tie.Need-mul-numbers Inv-loop μ-loop
-mul-numbers c = search needs
-
-array-set-from-numbers : tie.Need-array-set-from-numbers Inv-loop μ-loop
-array-set-from-numbers c = search needs
-
-add-j : tie.Need-add-j Inv-loop μ-loop
-add-j c = search needs
-
-loop-less : tie.Need-loop-less Inv-loop μ-loop
-loop-less c = search needs
-
 loop-again : tie.Need-loop-again Inv-loop μ-loop
 loop-again c = fill _ _ _ (c .before .before .loop .inv) (c .before .loop-test .taken) (toZ-ofZ w32 (c .number-at .result) (search needs) ∙ c .number-at .ensures)
 
@@ -49,9 +37,9 @@ numbers-at-spec =
     μ-loop
     loop-holds
     number-at-requires
-    mul-numbers
-    array-set-from-numbers
-    add-j
-    loop-less
+    (λ c. search needs)
+    (λ c. search needs)
+    (λ c. search needs)
+    (λ c. search needs)
     loop-again
     returns)

@@ -4,19 +4,13 @@ use mathlib.Core.Bool.{true}
 use Prim.Native.Nat.{ℕ, _+_, _*_}
 use native.Mathlib.Omega.{arith}
 use Rattle.folds.specs.Folds.{upto}
-use Rattle.rules.specs.Store.{lent}
-use Rattle.rules.specs.Pairs.{numberOf}
+use Rattle.store_rules.specs.Store.{lent}
+use Rattle.pair_rules.specs.Pairs.{numberOf}
 use Rattle.pair_reading.specs.Reading.{ValueRecord}
 use Rattle.pair_reading.proofs.Fields.{object-small}
 use borrow.Author.Needs.{needs}
 use Rattle.pair_reading.proofs.values.pair_at.Statement.{statement}
 use Rattle.pair_reading.proofs.values.pair_at.Tie as tie
-
-numbers-at-requires : tie.Need-numbers-at-requires
-numbers-at-requires c κs = search needs
-
-field-count-requires : tie.Need-field-count-requires
-field-count-requires c κs = search needs
 
 mul-behind : tie.Need-mul-behind
 mul-behind c = omega (arith, object-small (c .before .before .before .before .before .pre .0), c .before .before .before .before .before .pre .0 .within, c .field-count .ensures)
@@ -41,8 +35,8 @@ pub pair-at-spec : {M : Type 1} → statement M
 pair-at-spec =
     tie.close
     (tie.spec
-    numbers-at-requires
-    field-count-requires
+    (λ c κs. search needs)
+    (λ c κs. search needs)
     mul-behind
     add-behind
     numbers-at-requires-2

@@ -5,14 +5,8 @@ use borrow.Author.Needs.{needs}
 use Rattle.pair_reading.proofs.values.signed.Statement.{statement}
 use Rattle.pair_reading.proofs.values.signed.Tie as tie
 
-cast-result : tie.Need-cast-result
-cast-result c = search needs
-
 returns : tie.Need-returns
 returns c = small-signed (c .before .args .v) (c .if1 .taken)
-
-cast-result-2 : tie.Need-cast-result-2
-cast-result-2 c = search needs
 
 sub-result : tie.Need-sub-result
 sub-result c = difference-fits (c .before .args .v) (c .if1 .left) (omega arith)
@@ -21,4 +15,10 @@ returns-2 : tie.Need-returns-2
 returns-2 c = large-signed (c .before .args .v) (c .if1 .left) (omega arith)
 
 pub signed-spec : {M : Type 1} → statement M
-signed-spec = tie.close (tie.spec cast-result returns cast-result-2 sub-result returns-2)
+signed-spec = tie.close
+    (tie.spec
+    (λ c. search needs)
+    returns
+    (λ c. search needs)
+    sub-result
+    returns-2)

@@ -1,0 +1,16 @@
+-- `room::links_per_table` meets its contract: each answer by the test that led to it. Assumes nothing.
+use borrow.Author.Tests.{eq-eqb, ne-eqb}
+use Rattle.call_room.proofs.links_per_table.Statement.{statement}
+use Rattle.call_room.proofs.links_per_table.Tie as tie
+
+returns : tie.Need-returns
+returns c = simp (eq-eqb _ _ (c .if1 .taken))
+
+returns-2 : tie.Need-returns-2
+returns-2 c = simp (ne-eqb _ _ (c .if1 .left))
+
+pub links-per-table-spec : {M : Type 1} → statement M
+links-per-table-spec = tie.close
+    (tie.spec
+    returns
+    returns-2)

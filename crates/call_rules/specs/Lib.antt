@@ -1,0 +1,4 @@
+pub mod Answers
+pub mod Scratch
+pub mod Outcomes
+pub mod Moments

@@ -1,0 +1,24 @@
+-- How the code's account of a table that is being filled stands to document 01's. Assumes nothing.
+use Prim.Native.Nat.{ℕ}
+use mathlib.Core.Path.{_≡_}
+use mathlib.Core.List.{List}
+use lib.ListN.{length}
+use Rattle.folds.specs.Lists.{put}
+use Rattle.cut_rules.specs.Cuts.{Rule, Cutting, weigh}
+use Rattle.cut_filling.specs.declared.Filling.{Filling}
+
+-- f is the code's account of c
+pub record Fills (f : Filling) (c : Cutting) : Type 0 where
+  pub first : f .first ≡ c .first
+  pub sum : f .sum ≡ c .sum
+  pub cuts : f .cuts ≡ length (c .cuts)
+
+-- the cuts stand at the front of the lent list, which came as d
+pub record Listed (f : Filling) (c : Cutting) (d l : List ℕ) : Type 0 where
+  pub fills : Fills f c
+  pub listed : l ≡ put d 0 (c .cuts)
+
+-- by any rule with that start, of which what stands beside the items up to i is `beside`: item i was weighed
+abbrev pub Weighed : Filling → ℕ → ℕ → ℕ → ℕ → List ℕ → Filling → List ℕ → Type 0
+Weighed f i cost beside start l f′ l′ =
+    (r : Rule) (c : Cutting) (d : List ℕ) → r .start ≡ start → r .beside (c .first) i ≡ beside → Listed f c d l → Listed f′ (weigh r c i cost) d l′

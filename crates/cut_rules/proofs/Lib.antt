@@ -1,0 +1,2 @@
+pub mod CutPlaces
+pub mod FirstCut

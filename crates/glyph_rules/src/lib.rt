@@ -1,0 +1,1 @@
+// Covered glyphs with their items, and estimates: definitions in specs/, and their laws in proofs/; no code.

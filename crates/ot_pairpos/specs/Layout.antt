@@ -1,0 +1,35 @@
+-- A table's shape as the code holds it, and what opening a table answers. Assumes nothing.
+use Prim.Native.Nat.{ℕ, _+_, _*_}
+use mathlib.Core.Bool.{cond, _||_}
+use mathlib.Core.List.{List, _++_, map}
+use lib.ListN.{length}
+use lib.Dec.{ltb, eqb}
+use Rattle.ot_layouts.specs.Values.{fieldCount, devices}
+use Rattle.ot_layouts.specs.PairPos.{formatOf, value1, value2, columns, shapeOf, exact}
+use Rattle.ot_pairpos.specs.declared.Layout.{Layout}
+use Rattle.ot_pairpos.specs.declared.Opened.{Opened}
+use Rattle.ot_pairpos.specs.declared.Opened.the-variants.{Pair, Other, Bad}
+
+-- the numbers of its shape, its value formats, and in format 2 its columns
+unfoldable pub layoutOf : List ℕ → Layout
+layoutOf b =
+    record {
+      format = shapeOf b .format;
+      header = shapeOf b .header;
+      count = shapeOf b .count;
+      item = shapeOf b .item;
+      unit = shapeOf b .unit;
+      value1 = value1 b;
+      value2 = value2 b;
+      columns = cond (eqb (formatOf b) 1) 0 (columns b);
+    }
+
+-- `Bad` is answer 3, `Other` "A format other than 1 or 2 answers 0 .. straight after check 3's first clause"
+unfoldable pub openedOf : List ℕ → Opened
+openedOf b =
+    cond (ltb (length b) 2) Bad
+    (cond (eqb (formatOf b) 1 || eqb (formatOf b) 2) (cond (exact b) (Pair (layoutOf b)) Bad) Other)
+
+-- the device slots of a pair's two value records, by their formats
+abbrev pub slotsOf : ℕ → ℕ → List ℕ
+slotsOf v w = map (λ k. 2 * k) (devices v) ++ map (λ k. 2 * (fieldCount v + k)) (devices w)

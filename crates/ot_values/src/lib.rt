@@ -1,0 +1,38 @@
+// A value format's fields: how many, which, and where each stands in a value record. The counterpart of `get_device_table_indices`.
+ghost use mathlib.Core.Path.{_≡_};
+ghost use Prim.Native.Nat.{_<_, _≤_};
+ghost use lib.Dec.{eqb};
+ghost use Rattle.folds.specs.Lists.{among};
+ghost use Rattle.ot_layouts.specs.Values.{bit, fieldCount, position, devices};
+
+// The fields of `format`: the ones among its low eight bits.
+pub fn field_count(format: u16) -> usize
+    ensures { λ r. ⌜ r ≡ fieldCount format ⌝ }
+{
+    u16::count_ones(format & 0xff) as usize
+}
+
+// Whether `format` has field `j` of the table.
+pub fn has_field(format: u16, j: usize) -> bool
+    requires { ⌜ j < 8 ⌝ }
+    ensures { λ r. ⌜ r ≡ eqb (bit format j) 1 ⌝ }
+{
+    let mask = ot_layouts::field_at(j).mask;
+    format & mask == mask
+}
+
+// Where field `j` of the table stands: the fields of `format` before it.
+pub fn position(format: u16, j: usize) -> usize
+    requires { ⌜ j ≤ 8 ⌝ }
+    ensures { λ r. ⌜ r ≡ position format j ⌝ }
+{
+    let below = (1u16 << j) - 1;
+    u16::count_ones(format & below) as usize
+}
+
+// Whether a device stands at position `k`: the devices are the last four rows of the table, so they stand behind the plain fields.
+pub fn is_device(format: u16, k: usize) -> bool
+    ensures { λ r. ⌜ r ≡ among k (devices format) ⌝ }
+{
+    position(format, 4) <= k && k < field_count(format)
+}

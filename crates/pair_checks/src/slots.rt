@@ -1,0 +1,54 @@
+// Check 7's first half: every link of the table stands at a slot.
+use ot_pairpos::Layout;
+use ot_pairpos::is_slot;
+use store_reader::PER_LINK;
+use store_reader::POSITION;
+use store_reader::first_row;
+ghost use mathlib.Core.Path.{_≡_};
+ghost use mathlib.Core.List.{List};
+ghost use Prim.Native.Nat.{ℕ, _+_, _-_, _*_, _≤_, _<_};
+ghost use lib.ListN.{length, getD};
+ghost use Rattle.folds.specs.Folds.{all};
+ghost use Rattle.store_reader.specs.Rows.{InOrder};
+ghost use Rattle.ot_layouts.specs.PairPos.{shapeOf, isSlot};
+ghost use Rattle.ot_pairpos.specs.Layout.{layoutOf};
+ghost use Rattle.store_rules.specs.Store.{lent, perLink, bytesOf};
+ghost use Rattle.pair_rules.specs.Table.{allAtSlots};
+ghost use Rattle.folds.specs.Moments.{came};
+
+// Whether each link of `table`, whose layout is known, stands at a slot.
+pub fn links_at_slots(links: &[u32], counts: &[u32; 3], table: u32, layout: Layout) -> bool
+    requires { ⌜ (InOrder (now links) (getD (now counts) 2 0)) × (table < 65536) ⌝ }
+    ensures { λ r. ⌜
+        ((b o : List ℕ)
+        → layout
+        ≡ layoutOf (bytesOf (lent b o (came links) (came counts)) table)
+        → r
+        ≡ allAtSlots (lent b o (came links) (came counts)) table)
+        ⌝ }
+{
+    let count = counts[2] as usize;
+    let first = first_row(links, count, table, 0);
+    let after = first_row(links, count, table + 1, 0);
+    rows_at_slots(links, first, after, layout)
+}
+
+// Whether the rows `first` up to `after` stand at slots.
+fn rows_at_slots(links: &[u32], first: usize, after: usize, layout: Layout) -> bool
+    requires { ⌜ (first ≤ after) × (perLink * after ≤ length (now links)) ⌝ }
+    ensures { λ r. ⌜
+        ((b : List ℕ) → layout ≡ layoutOf b → r ≡ all (λ i. isSlot (shapeOf b) (getD (came links) (perLink * (first + i) + 1) 0))
+        (after - first))
+        ⌝ }
+{
+    let rows = after - first;
+    let mut i: usize = 0;
+    while i < rows {
+        let position = links[PER_LINK * (first + i) + POSITION] as usize;
+        if !is_slot(layout, position) {
+            return false;
+        }
+        i += 1;
+    }
+    true
+}

@@ -1,0 +1,257 @@
+-- The new tables' rows, from the last table on. Assumes nothing.
+use mathlib.Core.Path.{_≡_, refl, sym, ap, ap₂, _∙_}
+use mathlib.Core.Logic.{_⊎_, ⊎-elim}
+use mathlib.Core.List.{List, [], _++_, append-assoc, append-nil}
+use Prim.Native.Nat.{ℕ, _+_, _-_, _*_, _≤_, _<_}
+use native.Mathlib.Nat.{mul-le-mul-left, mul-add, mul-one, mul-zero}
+use native.Mathlib.Omega.{arith}
+use lib.ListN.{length, getD, length-append}
+use lib.Dec.{leb, ltb}
+use borrow.Author.Tests.{lt-ltb, le-ltb, le-leb, lt-leb, eq-eqb, ne-eqb}
+use Rattle.folds.specs.Lists.{put}
+use Rattle.folds.proofs.Tests.{either, and-second}
+use Rattle.folds.proofs.Put.{put-nil, put-below, put-before}
+use Rattle.store_link_rows.specs.Rows.{span, positionIn, four, Ordered}
+use Rattle.pair_links.specs.Blocks.{Plan, tables, shift, edge, inside, tableId, movedRow, share, heads, headCount, tableRows, grown, Fit, Moved, Spread}
+use Rattle.store_link_rows.proofs.Spans.{span-empty, span-join, span-front, span-none, span-ext}
+use Rattle.pair_links.proofs.Moving.{moved-long}
+use Rattle.pair_rules.specs.Written.{perTable}
+
+-- ---- the heads
+pub one-head : (perTable class2 t : ℕ) → perTable ≡ 2 → four t 2 2 (t + 1) ≡ heads perTable class2 t
+unfolding heads
+one-head perTable class2 t e = rw (eq-eqb perTable 2 e)
+
+pub three-heads : (perTable class2 t : ℕ) → (perTable ≡ 2 → ⊥) → four t 2 2 (t + 1) ++ four t 8 2 (t + 2) ++ four t 10 2 class2 ≡ heads perTable class2 t
+unfolding heads
+three-heads perTable class2 t e = rw (ne-eqb perTable 2 e)
+
+pub length-heads : (perTable class2 t : ℕ) → 2 ≤ perTable → perTable ≤ 3 → length (heads perTable class2 t) ≡ 4 * headCount perTable
+length-heads perTable class2 t l h =
+    ⊎-elim
+    (λ lt. let e : perTable ≡ 2 = omega arith in omega (arith, ap length (one-head perTable class2 t e)))
+    (λ ge. omega (arith, ap length (three-heads perTable class2 t (omega arith))))
+    (either perTable 3)
+
+-- ---- the edges
+pub edge-at : (p : Plan) (j : ℕ) → j < tables p → edge p j ≡ p .header + shift p j
+unfolding edge
+edge-at p j l = rw (lt-ltb j (tables p) l)
+
+pub edge-end : (p : Plan) → edge p (tables p) ≡ 4294967296
+unfolding edge
+edge-end p = rw (le-ltb (tables p) (tables p) (omega arith))
+
+pub edge-climb : (p : Plan) → Fit p → (j : ℕ) → j < tables p → edge p j ≤ edge p (j + 1)
+edge-climb p f j l =
+    ⊎-elim
+    (λ lt.
+    let h : shift p j ≤ shift p (j + 1) = mul-le-mul-left (p .item) (f .climb j (j + 1) (omega arith) lt) in
+    omega (arith, edge-at p j l, edge-at p (j + 1) lt))
+    (λ (ge : tables p ≤ j + 1).
+    let e : j + 1 ≡ tables p = omega arith in
+    rw e (omega (arith, edge-at p j l, edge-end p, f .placed j l)))
+    (either (j + 1) (tables p))
+
+-- ---- which rows a table gets
+module _ (ls : List ℕ) (p : Plan) (j k : ℕ) where
+  pub share-none-below : positionIn ls k < edge p j → share ls p j k ≡ []
+  unfolding share inside
+  share-none-below h = rw (lt-leb (edge p j) (positionIn ls k) h)
+
+  pub share-none-above : edge p (j + 1) ≤ positionIn ls k → share ls p j k ≡ []
+  unfolding share inside
+  share-none-above h = rw (and-second (leb (edge p j) (positionIn ls k)) (ltb (positionIn ls k) (edge p (j + 1))) (le-ltb (positionIn ls k) (edge p (j + 1)) h))
+
+  pub share-own : edge p j ≤ positionIn ls k → positionIn ls k < edge p (j + 1) → share ls p j k ≡ movedRow ls (tableId p j) (shift p j) k
+  unfolding share inside
+  share-own h l = rw (le-leb (edge p j) (positionIn ls k) h, lt-ltb (positionIn ls k) (edge p (j + 1)) l)
+
+pub share-part : (ls : List ℕ) (p : Plan) (q u v m j : ℕ) → q ≤ u → u ≤ v → v ≤ m
+    → ((k : ℕ) → q ≤ k → k < u → positionIn ls k < edge p j)
+    → ((k : ℕ) → u ≤ k → k < v → edge p j ≤ positionIn ls k)
+    → ((k : ℕ) → q ≤ k → k < v → positionIn ls k < edge p (j + 1))
+    → ((k : ℕ) → v ≤ k → k < m → edge p (j + 1) ≤ positionIn ls k)
+    → span (share ls p j) q m ≡ span (movedRow ls (tableId p j) (shift p j)) u v
+share-part ls p q u v m j qu uv vm low own under high =
+    let s = share ls p j in
+    let g = movedRow ls (tableId p j) (shift p j) in
+    let a : span s q u ≡ [] = span-none s q u (λ k l h. share-none-below ls p j k (low k l h)) in
+    let b : span s u v ≡ span g u v = span-ext s g u v (λ k l h. share-own ls p j k (own k l h) (under k (omega arith) h)) in
+    let c : span s v m ≡ [] = span-none s v m (λ k l h. share-none-above ls p j k (high k l h)) in
+    span-join s q u m qu (omega arith)
+    ∙ ap₂ (λ (x y : List ℕ). x ++ y) a (span-join s u v m uv vm ∙ ap₂ (λ (x y : List ℕ). x ++ y) b c ∙ append-nil (span g u v))
+
+more : (n i : ℕ) → n * (i + 1) ≡ n * i + n
+more n i = mul-add n i 1 ∙ ap (λ (x : ℕ). n * i + x) (mul-one n)
+
+-- ---- the loop
+pub record Given (ls : List ℕ) (q m : ℕ) (p : Plan) : Type 0 where
+  pub fit : Fit p
+  pub some : q ≤ m
+  pub room : 4 * grown m p ≤ length ls
+  pub ordered : Ordered ls q m
+  pub floor : (k : ℕ) → q ≤ k → k < m → edge p 0 ≤ positionIn ls k
+
+pub record At (ls : List ℕ) (q m : ℕ) (p : Plan) (out : List ℕ) (j left at table : ℕ) : Type 0 where
+  pub given : Given ls q m p
+  pub turns : j ≤ tables p
+  pub few : q + left ≤ m
+  pub place : at ≡ q + left + headCount (p .perTable) * j
+  pub name : table ≡ tableId p j
+  pub same : length out ≡ length ls
+  pub low : (k : ℕ) → q ≤ k → k < q + left → positionIn ls k < edge p j
+  pub high : (k : ℕ) → q + left ≤ k → k < m → edge p j ≤ positionIn ls k
+  pub long : 4 * at + length (span (tableRows ls q m p) j (tables p)) ≡ 4 * grown m p
+  pub is : out ≡ put ls (4 * at) (span (tableRows ls q m p) j (tables p))
+
+pub at-start : (ls : List ℕ) (q m : ℕ) (p : Plan) → Given ls q m p → ((i : ℕ) → getD ls i 0 < 4294967296) → At ls q m p ls (tables p) (m - q) (m + headCount (p .perTable) * tables p) (tableId p (tables p))
+at-start ls q m p g w =
+    let e = span-empty (tableRows ls q m p) (tables p) in
+    let z : length (span (tableRows ls q m p) (tables p) (tables p)) ≡ 0 = ap length e in
+    record {
+      given = g;
+      turns = omega arith;
+      few = omega (arith, g .some);
+      place = omega (arith, g .some);
+      name = refl;
+      same = refl;
+      low = λ k l h. omega (arith, w (4 * k + 1), edge-end p);
+      high = λ k l h. absurd (omega (arith, g .some));
+      long = omega (arith, z);
+      is = put-nil ls (4 * (m + headCount (p .perTable) * tables p)) ∙ ap (put ls (4 * (m + headCount (p .perTable) * tables p))) (sym e);
+    }
+
+module _ (ls : List ℕ) (q m : ℕ) (p : Plan) (out : List ℕ) (j left at table : ℕ) (s : At ls q m p out j left at table) where
+  pub reach : at ≤ grown m p
+  reach = omega (arith, s .long)
+
+  pub at-read : (i : ℕ) → i < 4 * at → getD out i 0 ≡ getD ls i 0
+  at-read i l =
+      ap (λ (o : List ℕ). getD o i 0) (s .is)
+      ∙ put-below ls (4 * at) (span (tableRows ls q m p) j (tables p)) (omega (arith, reach, s .given .room)) i l
+
+  pub at-done : j ≡ 0 → Spread ls out q m p
+  at-done e =
+      let z : left ≡ 0 = ⊎-elim
+      (λ lt. omega arith)
+      (λ ge. absurd (omega (arith, ap (edge p) e, s .low q (omega arith) (omega arith), s .given .floor q (omega arith) (omega (arith, s .few)))))
+      (either left 1) in
+      let n : headCount (p .perTable) * j ≡ 0 = ap (λ (x : ℕ). headCount (p .perTable) * x) e ∙ mul-zero (headCount (p .perTable)) in
+      let a : at ≡ q = omega (arith, s .place) in
+      record {
+        long = rw (a, e) at (s .long);
+        is = rw (a, e) at (s .is);
+      }
+
+-- one table: its rows move up, and its heads stand before them
+module _ (ls : List ℕ) (q m : ℕ) (p : Plan) (out : List ℕ) (j left at table : ℕ) (s : At ls q m p out j left at table) (i : ℕ) (e : j ≡ i + 1) where
+  counted : headCount (p .perTable) * j ≡ headCount (p .perTable) * i + headCount (p .perTable)
+  counted = ap (λ (x : ℕ). headCount (p .perTable) * x) e ∙ more (headCount (p .perTable)) i
+
+  pub table-next : table ≡ tableId p i + p .perTable
+  table-next = omega (arith, s .name, ap (λ (x : ℕ). p .perTable * x) e ∙ more (p .perTable) i)
+
+  pub table-fits : table ≤ 4294967296
+  table-fits = omega (arith, s .name, mul-le-mul-left (p .perTable) (s .turns), s .given .fit .numbers)
+
+  pub room-left : q + left + headCount (p .perTable) ≤ at
+  room-left = omega (arith, s .place, counted)
+
+  -- a row that has not moved yet
+  moved-same : (k : ℕ) → k < q + left → table - p .perTable ≡ tableId p i → movedRow out (table - p .perTable) (shift p i) k ≡ movedRow ls (tableId p i) (shift p i) k
+  unfolding movedRow
+  moved-same k u t =
+      let rl = room-left in
+      let a = at-read ls q m p out j left at table s (4 * k + 1) (omega arith) in
+      let b = at-read ls q m p out j left at table s (4 * k + 2) (omega arith) in
+      let c = at-read ls q m p out j left at table s (4 * k + 3) (omega arith) in
+      cc
+
+  -- the heads, the rows that moved, and the tables after them
+  joined : (rest : ℕ) → i < tables p → span (share ls p i) q m ≡ span (movedRow ls (tableId p i) (shift p i)) (q + rest) (q + left)
+      → heads (p .perTable) (p .class2) (tableId p i) ++ (span (movedRow ls (tableId p i) (shift p i)) (q + rest) (q + left) ++ span (tableRows ls q m p) j (tables p))
+      ≡ span (tableRows ls q m p) i (tables p)
+  unfolding tableRows
+  joined rest ik part =
+      let T = tableRows ls q m p in
+      let H = heads (p .perTable) (p .class2) (tableId p i) in
+      let S = span (movedRow ls (tableId p i) (shift p i)) (q + rest) (q + left) in
+      sym (append-assoc H S (span T j (tables p)))
+      ∙ ap₂ (λ (x : List ℕ) (y : ℕ). (H ++ x) ++ span T y (tables p)) (sym part) e
+      ∙ sym (span-front T i (tables p) ik)
+
+  pub at-turn : (mid out′ : List ℕ) (rest : ℕ) → Moved out mid q left at (p .header + shift p i) (shift p i) (table - p .perTable) rest
+      → length out′ ≡ length out → out′ ≡ put mid (4 * (at - (left - rest) - headCount (p .perTable))) (heads (p .perTable) (p .class2) (table - p .perTable))
+      → At ls q m p out′ i rest (at - (left - rest) - headCount (p .perTable)) (table - p .perTable)
+  at-turn mid out′ rest mv n h =
+      let K = tables p in
+      let t : table - p .perTable ≡ tableId p i = omega (arith, table-next) in
+      let ik : i < K = omega (arith, s .turns) in
+      let ee : edge p i ≡ p .header + shift p i = edge-at p i ik in
+      let ej : edge p j ≡ edge p (i + 1) = ap (edge p) e in
+      let fw : rest ≤ left = mv .few in
+      let rl = room-left in
+      let pos : (k : ℕ) → k < q + left → positionIn out k ≡ positionIn ls k = λ k l. at-read ls q m p out j left at table s (4 * k + 1) (omega arith) in
+      let own : (k : ℕ) → q + rest ≤ k → k < q + left → edge p i ≤ positionIn ls k = λ k l u. omega (arith, mv .above k l u, pos k u) in
+      let low : (k : ℕ) → q ≤ k → k < q + rest → positionIn ls k < edge p i =
+      λ k l u. omega (arith, mv .below (omega arith), pos (q + rest - 1) (omega arith), s .given .ordered k (q + rest - 1) l (omega arith) (omega (arith, s .few))) in
+      let under : (k : ℕ) → q ≤ k → k < q + left → positionIn ls k < edge p (i + 1) = λ k l u. omega (arith, s .low k l u) in
+      let over : (k : ℕ) → q + left ≤ k → k < m → edge p (i + 1) ≤ positionIn ls k = λ k l u. omega (arith, s .high k l u) in
+      let f = movedRow ls (tableId p i) (shift p i) in
+      let S = span f (q + rest) (q + left) in
+      let T = span (tableRows ls q m p) j K in
+      let H = heads (p .perTable) (p .class2) (tableId p i) in
+      let part : span (share ls p i) q m ≡ S = share-part ls p q (q + rest) (q + left) m i (omega arith) (omega arith) (s .few) low own under over in
+      let moved : span (movedRow out (table - p .perTable) (shift p i)) (q + rest) (q + left) ≡ S =
+      span-ext (movedRow out (table - p .perTable) (shift p i)) f (q + rest) (q + left) (λ k l u. moved-same k u t) in
+      let ns : 4 * (q + rest) + length S ≡ 4 * (q + left) = moved-long ls (tableId p i) (shift p i) (q + rest) (q + left) (omega arith) in
+      let nh : length H ≡ 4 * headCount (p .perTable) = length-heads (p .perTable) (p .class2) (tableId p i) (s .given .fit .two) (s .given .fit .three) in
+      let nt = s .long in
+      let room = s .given .room in
+      let at1 = at - (left - rest) in
+      let e1 : 4 * at ≡ 4 * at1 + length S = omega arith in
+      let e2 : 4 * at1 ≡ 4 * (at1 - headCount (p .perTable)) + length H = omega arith in
+      let nst = length-append S T in
+      let nhst = length-append H (S ++ T) in
+      let whole : H ++ (S ++ T) ≡ span (tableRows ls q m p) i K = joined rest ik part in
+      let mid-is : mid ≡ put ls (4 * at1) (S ++ T) =
+      mv .is ∙ ap₂ (λ (o v : List ℕ). put o (4 * at1) v) (s .is) moved ∙ put-before ls (4 * at1) S (4 * at) T e1 (omega arith) in
+      record {
+        given = s .given;
+        turns = omega arith;
+        few = omega (arith, s .few);
+        place = omega (arith, s .place, counted);
+        name = t;
+        same = n ∙ s .same;
+        low = low;
+        high = λ k l u. ⊎-elim (λ lt. own k l lt) (λ ge. omega (arith, over k ge u, edge-climb p (s .given .fit) i ik)) (either k (q + left));
+        long = omega (arith, ap length whole);
+        is =
+            h
+            ∙ ap₂ (λ (o : List ℕ) (x : ℕ). put o (4 * (at1 - headCount (p .perTable))) (heads (p .perTable) (p .class2) x)) mid-is t
+            ∙ put-before ls (4 * (at1 - headCount (p .perTable))) H (4 * at1) (S ++ T) e2 (omega arith)
+            ∙ ap (put ls (4 * (at1 - headCount (p .perTable)))) whole;
+      }
+
+-- the numbers of a turn
+pub record Numbers (ls : List ℕ) (p : Plan) (q left at table i : ℕ) : Type 0 where
+  pub two : 2 ≤ p .perTable
+  pub three : p .perTable ≤ 3
+  pub named : p .perTable ≤ table
+  pub fits : table ≤ 4294967296
+  pub roomy : q + left + headCount (p .perTable) ≤ at
+  pub within : 4 * at ≤ length ls
+  pub placed : p .header + shift p i < 4294967296
+
+pub numbers : (ls : List ℕ) (q m : ℕ) (p : Plan) (out : List ℕ) (j left at table : ℕ) → At ls q m p out j left at table → (i : ℕ) → j ≡ i + 1 → Numbers ls p q left at table i
+numbers ls q m p out j left at table s i e =
+    record {
+      two = s .given .fit .two;
+      three = s .given .fit .three;
+      named = omega (arith, table-next ls q m p out j left at table s i e);
+      fits = table-fits ls q m p out j left at table s i e;
+      roomy = room-left ls q m p out j left at table s i e;
+      within = omega (arith, reach ls q m p out j left at table s, s .given .room);
+      placed = s .given .fit .placed i (omega (arith, s .turns));
+    }

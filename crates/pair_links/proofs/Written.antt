@@ -1,0 +1,154 @@
+-- The links after a split, as the blocks of rows that the code makes. Assumes nothing.
+use Prim.Native.Nat.{ℕ, _+_, _-_, _*_, _≤_, _<_}
+use mathlib.Core.Path.{_≡_, refl, sym, ap, ap₂, _∙_}
+use mathlib.Core.Bool.{Bool, true, false, cond, not, _&&_}
+use mathlib.Core.List.{List, [], _++_, append-nil, map}
+use mathlib.Core.Logic.{⊎-elim}
+use native.Mathlib.Omega.{arith}
+use lib.ListN.{length, List·getD-eq-default}
+use lib.Dec.{eqb, leb, ltb}
+use borrow.Author.Tests.{ltb-true, leb-true, lt-ltb, le-leb, eq-eqb}
+use Rattle.folds.specs.Folds.{flat}
+use Rattle.folds.specs.Lists.{sift}
+use Rattle.folds.proofs.Tests.{either, by-test, true-false}
+use Rattle.folds.proofs.Joined.{and-three, three-hold}
+use Rattle.folds.proofs.Parts.{getD-default}
+use Rattle.folds.proofs.FromTheFront.{flat-same}
+use Rattle.ot_layouts.specs.PairPos.{Shape, itemAt}
+use Rattle.ot_layouts.proofs.Shapes.{items-rise}
+use Rattle.store_rules.specs.Store.{Store, Link, linkAt, linksOf, parentOf, positionOf, linkedAt}
+use Rattle.pair_rules.specs.Table.{ofItems}
+use Rattle.cut_rules.specs.Ranges.{from, to}
+use Rattle.pair_rules.specs.Written.{perTable, headLinks, moved, kept, tableLinks, newLinks}
+use Rattle.store_rules.specs.Appended.{rowNumbers, newNumber}
+use Rattle.store_link_rows.specs.Rows.{span, positionIn}
+use Rattle.pair_links.specs.Blocks.{edge, inside, movedRow, share, heads, tableRows, newRows, keptRow}
+use Rattle.pair_links.specs.Parting.{Between}
+use Rattle.store_link_rows.proofs.Spans.{flat-span, span-join, span-none, span-ext}
+use Rattle.pair_links.proofs.Links.{numbers, numbers-append, numbers-flat, numbers-sifted}
+use Rattle.pair_links.proofs.Spreading.{edge-at, edge-end}
+use Rattle.pair_links.proofs.Parting.{planOf, moves, stays-before, stays-after}
+
+-- rows of which only those from a up to b are given, and rows of which only those are not
+module _ (f g : ℕ → List ℕ) (a b m : ℕ) (ab : a ≤ b) (bm : b ≤ m) where
+  pub only-between : ((k : ℕ) → k < a → f k ≡ []) → ((k : ℕ) → a ≤ k → k < b → f k ≡ g k) → ((k : ℕ) → b ≤ k → k < m → f k ≡ []) → flat f m ≡ span g a b
+  only-between low own high =
+      flat-span f m
+      ∙ span-join f 0 a m (omega arith) (omega arith)
+      ∙ ap₂ (λ (x y : List ℕ). x ++ y) (span-none f 0 a (λ k l h. low k h))
+      (span-join f a b m ab bm
+      ∙ ap₂ (λ (x y : List ℕ). x ++ y) (span-ext f g a b own) (span-none f b m high)
+      ∙ append-nil (span g a b))
+
+  pub all-but-between : ((k : ℕ) → k < a → f k ≡ g k) → ((k : ℕ) → a ≤ k → k < b → f k ≡ []) → ((k : ℕ) → b ≤ k → k < m → f k ≡ g k) → flat f m ≡ span g 0 a ++ span g b m
+  all-but-between low own high =
+      flat-span f m
+      ∙ span-join f 0 a m (omega arith) (omega arith)
+      ∙ ap₂ (λ (x y : List ℕ). x ++ y) (span-ext f g 0 a (λ k l h. low k h))
+      (span-join f a b m ab bm ∙ ap₂ (λ (x y : List ℕ). x ++ y) (span-none f a b own) (span-ext f g b m high))
+
+-- ---- one row
+
+numbers-kept : (s : Store) (t v k : ℕ) → numbers (kept t v (linkAt s k)) ≡ keptRow (s .links) t v k
+unfolding kept keptRow
+numbers-kept s t v k = let e : 4 * k + 0 ≡ 4 * k = omega arith in rw e
+
+numbers-moved : (s : Store) (sh : Shape) (u lo k : ℕ) → numbers (moved sh u lo (linkAt s k)) ≡ movedRow (s .links) u (sh .item * lo) k
+unfolding moved movedRow
+numbers-moved s sh u lo k = refl
+
+numbers-heads : (sh : Shape) (u class2 c : ℕ) → (eqb (sh .format) 1 ≡ false → class2 ≡ c) → rowNumbers (headLinks sh u c) ≡ heads (perTable sh) class2 u
+unfolding rowNumbers headLinks heads
+numbers-heads sh u class2 c h = by-test (eqb (sh .format) 1) (λ e. rw e) (λ e. rw (e, ← h e))
+
+module _ (s : Store) (t : ℕ) (sh : Shape) (cs : List ℕ) (a b class2 : ℕ) (g : Between s t sh cs a b class2) where
+  -- ---- the links that stay
+
+  stayed : (v : ℕ) → rowNumbers (map (kept t v) (sift (λ l. not (ofItems t sh (from cs 0) (sh .count) l)) (linksOf s)))
+      ≡ span (keptRow (s .links) t v) 0 a ++ span (keptRow (s .links) t v) b (s .linkCount)
+  unfolding linksOf
+  stayed v =
+      numbers-sifted (kept t v) (λ l. not (ofItems t sh (from cs 0) (sh .count) l)) (linkAt s) (s .linkCount)
+      ∙ all-but-between (λ k. cond (not (ofItems t sh (from cs 0) (sh .count) (linkAt s k))) (numbers (kept t v (linkAt s k))) []) (keptRow (s .links) t v) a b (s .linkCount) (g .ordered) (g .used)
+      (λ k l. rw (stays-before s t sh cs a b class2 g k l) (numbers-kept s t v k))
+      (λ k l h. rw (goes k l h))
+      (λ k l h. rw (stays-after s t sh cs a b class2 g k l h) (numbers-kept s t v k))
+    where
+      goes : (k : ℕ) → a ≤ k → k < b → ofItems t sh (from cs 0) (sh .count) (linkAt s k) ≡ true
+      goes k l h =
+          let (p, x, y) = moves s t sh cs a b class2 g k l h in
+          three-hold _ _ _ (eq-eqb (parentOf s k) t p) (le-leb (itemAt sh (from cs 0)) (positionOf s k) x) (lt-ltb (positionOf s k) (itemAt sh (sh .count)) y)
+
+  -- ---- the links of new table j
+
+  module _ (j : ℕ) (jk : j < length cs) where
+    to-within : to (sh .count) cs j ≤ sh .count
+    to-within =
+        ⊎-elim
+        (λ lt. omega (arith, getD-default cs (j + 1) (sh .count) 0 lt, g .known .within (j + 1) lt))
+        (λ ge. omega (arith, List·getD-eq-default cs (sh .count) {n = j + 1} ge))
+        (either (j + 1) (length cs))
+
+    -- a link of its items is one of those that are cut off
+    part-of-all : (l : Link) → ofItems t sh (from cs 0) (sh .count) l ≡ false → ofItems t sh (from cs j) (to (sh .count) cs j) l ≡ false
+    part-of-all l n =
+        by-test (ofItems t sh (from cs j) (to (sh .count) cs j) l)
+        (λ y.
+        let (p, x, z) = and-three (eqb (l .parent) t) (leb (itemAt sh (from cs j)) (l .position)) (ltb (l .position) (itemAt sh (to (sh .count) cs j))) y in
+        let lo : itemAt sh (from cs 0) ≤ l .position = omega (arith, leb-true (itemAt sh (from cs j)) (l .position) x, items-rise sh (from cs 0) (from cs j) (g .known .rising 0 j (omega arith) jk)) in
+        let hi : l .position < itemAt sh (sh .count) = omega (arith, ltb-true (l .position) (itemAt sh (to (sh .count) cs j)) z, items-rise sh (to (sh .count) cs j) (sh .count) to-within) in
+        true-false (sym (three-hold _ _ _ p (le-leb (itemAt sh (from cs 0)) (l .position) lo) (lt-ltb (l .position) (itemAt sh (sh .count)) hi)) ∙ n))
+        (λ n. n)
+
+    -- of the links that are cut off its own are those between its edges
+    upper : (k : ℕ) → a ≤ k → k < b → ltb (positionOf s k) (itemAt sh (to (sh .count) cs j)) ≡ ltb (positionIn (s .links) k) (edge (planOf s sh cs class2) (j + 1))
+    upper k l h =
+        let (p, x, y) = moves s t sh cs a b class2 g k l h in
+        ⊎-elim
+        (λ lt. rw (edge-at (planOf s sh cs class2) (j + 1) lt, getD-default cs (j + 1) (sh .count) 0 lt))
+        (λ ge.
+        let e : j + 1 ≡ length cs = omega arith in
+        rw (e, edge-end (planOf s sh cs class2), List·getD-eq-default cs (sh .count) {n = length cs} (omega arith))
+        (lt-ltb (positionOf s k) (itemAt sh (sh .count)) y ∙ sym (lt-ltb (positionOf s k) 4294967296 (omega (arith, g .known .size)))))
+        (either (j + 1) (length cs))
+
+    own : (k : ℕ) → a ≤ k → k < b → ofItems t sh (from cs j) (to (sh .count) cs j) (linkAt s k) ≡ inside (planOf s sh cs class2) j (positionIn (s .links) k)
+    unfolding inside
+    own k l h =
+        let (p, x, y) = moves s t sh cs a b class2 g k l h in
+        rw (eq-eqb (parentOf s k) t p, edge-at (planOf s sh cs class2) j jk)
+        (ap (λ (z : Bool). leb (itemAt sh (from cs j)) (positionOf s k) && z) (upper k l h))
+
+    cut-off : rowNumbers (map (moved sh (newNumber s (perTable sh) j) (from cs j)) (sift (ofItems t sh (from cs j) (to (sh .count) cs j)) (linksOf s)))
+        ≡ span (share (s .links) (planOf s sh cs class2) j) a b
+    unfolding linksOf share
+    cut-off =
+        let u = newNumber s (perTable sh) j in
+        numbers-sifted (moved sh u (from cs j)) (ofItems t sh (from cs j) (to (sh .count) cs j)) (linkAt s) (s .linkCount)
+        ∙ only-between (λ k. cond (ofItems t sh (from cs j) (to (sh .count) cs j) (linkAt s k)) (numbers (moved sh u (from cs j) (linkAt s k))) []) (share (s .links) (planOf s sh cs class2) j) a b (s .linkCount) (g .ordered) (g .used)
+        (λ k l. rw (part-of-all (linkAt s k) (stays-before s t sh cs a b class2 g k l)))
+        (λ k l h. ap₂ (λ (z : Bool) (r : List ℕ). cond z r []) (own k l h) (numbers-moved s sh u (from cs j) k))
+        (λ k l h. rw (part-of-all (linkAt s k) (stays-after s t sh cs a b class2 g k l h)))
+
+    pub table-numbers : rowNumbers (tableLinks s t sh (newNumber s (perTable sh) j) (from cs j) (to (sh .count) cs j)) ≡ tableRows (s .links) a b (planOf s sh cs class2) j
+    unfolding tableLinks tableRows
+    table-numbers =
+        let u = newNumber s (perTable sh) j in
+        numbers-append (headLinks sh u (linkedAt s t 10)) (map (moved sh u (from cs j)) (sift (ofItems t sh (from cs j) (to (sh .count) cs j)) (linksOf s)))
+        ∙ ap₂ (λ (x y : List ℕ). x ++ y) (numbers-heads sh u class2 (linkedAt s t 10) (g .known .shared)) cut-off
+
+  -- ---- all links
+
+  pub link-numbers : rowNumbers (newLinks s t sh cs)
+      ≡ (span (keptRow (s .links) t (newNumber s (perTable sh) (length cs))) 0 a ++ span (keptRow (s .links) t (newNumber s (perTable sh) (length cs))) b (s .linkCount))
+      ++ newRows (s .links) a b (planOf s sh cs class2)
+  unfolding newLinks
+  link-numbers =
+      let v = newNumber s (perTable sh) (length cs) in
+      let p = planOf s sh cs class2 in
+      let T : ℕ → List Link = λ j. tableLinks s t sh (newNumber s (perTable sh) j) (from cs j) (to (sh .count) cs j) in
+      numbers-append (map (kept t v) (sift (λ l. not (ofItems t sh (from cs 0) (sh .count) l)) (linksOf s))) (flat T (length cs))
+      ∙ ap₂ (λ (x y : List ℕ). x ++ y) (stayed v)
+      (numbers-flat T (length cs)
+      ∙ flat-same (λ j. rowNumbers (T j)) (tableRows (s .links) a b p) (length cs) table-numbers
+      ∙ flat-span (tableRows (s .links) a b p) (length cs))

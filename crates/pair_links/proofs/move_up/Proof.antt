@@ -1,0 +1,65 @@
+-- `link_rows::move_up` meets its contract: rows move from the last on, so that none is written over before it is read. Assumes nothing.
+use borrow.Author.Needs.{needs}
+use Prim.Native.Nat.{_+_, _-_, _*_}
+use native.Mathlib.Omega.{arith}
+use Rattle.pair_links.specs.Blocks.{movedRow}
+use Rattle.pair_links.proofs.Moving.{Up, up-start, up-turn, up-stop, up-all}
+use Rattle.pair_links.proofs.move_up.Statement.{statement}
+use Rattle.pair_links.proofs.move_up.Tie as tie
+
+abbrev Inv-loop : tie.InvT-loop
+Inv-loop links₀ q count to bound down parent left₀ at₀ links left at = Up links₀ q count to bound down parent links left at
+
+abbrev μ-loop : tie.MeasureT-loop
+μ-loop links₀ q count to bound down parent left₀ at₀ links left at = left
+
+loop-holds : tie.Need-loop-holds Inv-loop μ-loop
+loop-holds c = up-start _ _ _ _ _ _ _ (omega arith) (omega arith) (omega arith)
+
+cast-position : tie.Need-cast-position Inv-loop μ-loop
+cast-position c = omega (arith, c .slice-known2 .given (4 * (c .before .before .before .before .args .q + c .before .before .loop .left - 1) + 1))
+
+returns : tie.Need-returns Inv-loop μ-loop
+returns c = up-stop _ _ _ _ _ _ _ _ _ _ (c .before .before .before .loop .inv) (c .before .before .loop-test .taken) (c .if1 .taken)
+
+cast-put-row : tie.Need-cast-put-row Inv-loop μ-loop
+cast-put-row c = omega (arith, c .before .before .before .before .slice-known2 .given (4 * (c .before .before .before .before .before .before .before .before .args .q + c .before .before .before .before .before .before .loop .left - 1) + 1))
+
+loop-again : tie.Need-loop-again Inv-loop μ-loop
+unfolding movedRow
+loop-again c = up-turn _ _ _ _ _ _ _ _ _ _ (c .before .before .before .before .before .before .before .before .before .loop .inv) _ (c .before .before .before .before .before .before .before .before .loop-test .taken) (c .before .before .before .before .before .before .if1 .left) (c .before .before .put-row .kept .0) (c .before .before .put-row .ensures)
+
+returns-2 : tie.Need-returns-2 Inv-loop μ-loop
+returns-2 c = up-all _ _ _ _ _ _ _ _ _ _ (c .before .loop .inv) (c .loop-test .left)
+
+pub move-up-spec : {M : Type 1} → statement M
+move-up-spec =
+    tie.close
+    (tie.spec
+    Inv-loop
+    μ-loop
+    loop-holds
+    (λ c. search needs)
+    (λ c. search needs)
+    (λ c. search needs)
+    (λ c. search needs)
+    (λ c. search needs)
+    (λ c. search needs)
+    cast-position
+    (λ c. search needs)
+    returns
+    (λ c. search needs)
+    (λ c. search needs)
+    (λ c. search needs)
+    (λ c. search needs)
+    (λ c. search needs)
+    (λ c. search needs)
+    (λ c. search needs)
+    (λ c. search needs)
+    (λ c. search needs)
+    cast-put-row
+    (λ c κs. search needs)
+    (λ c. search needs)
+    loop-again
+    (λ c. search needs)
+    returns-2)

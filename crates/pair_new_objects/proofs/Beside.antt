@@ -1,0 +1,99 @@
+-- What stands beside a table: by the two formats, and how long it can be. Assumes nothing.
+use Prim.Native.Nat.{ℕ, _+_, _-_, _*_, _≤_}
+use mathlib.Core.Path.{_≡_, refl, ap}
+use mathlib.Core.Bool.{Bool, true, false}
+use mathlib.Core.List.{List, [], _∷_, _++_, map}
+use native.Mathlib.Omega.{arith}
+use lib.ListN.{length, length-append}
+use lib.Dec.{eqb, ltb}
+use borrow.Author.Tests.{ltb-false}
+use Rattle.folds.specs.Folds.{flat}
+use Rattle.folds.specs.Lists.{join, sift}
+use Rattle.folds.proofs.Tests.{by-test, or-none}
+use Rattle.folds.proofs.Moved.{length-map}
+use Rattle.folds.proofs.FromTheFront.{length-even}
+use Rattle.ot_layouts.specs.Numbers.{be16}
+use Rattle.ot_layouts.specs.Coverage.{Entry, coverageBytes, runs}
+use Rattle.ot_layouts.specs.ClassDef.{classIn, firstGlyph, span, named, inRanges, classDefBytes}
+use Rattle.ot_layouts.specs.PairPos.{Shape}
+use Rattle.ot_layouts.proofs.Numbers.{length-be16}
+use Rattle.ot_layouts.proofs.RunCount.{many, many-le}
+use Rattle.ot_layouts.proofs.CoverageLength.{cover-length}
+use Rattle.ot_layouts.proofs.RangeBytes.{ranged-length}
+use Rattle.glyph_rules.specs.Entries.{within, reduced}
+use Rattle.pair_rules.specs.Written.{newParts}
+use Rattle.ot_class_def_writer.specs.Entries.{reducedEntries}
+use Rattle.pair_new_objects.specs.Tables.{paired}
+use Rattle.pair_new_objects.specs.Objects.{partsOf}
+
+pub parts-same : (sh : Shape) (es : List Entry) (lo hi : ℕ) → newParts sh es lo hi ≡ partsOf (sh .format) (within lo hi es) lo
+unfolding newParts partsOf
+parts-same sh es lo hi = refl
+
+pub paired-reduced : (gs ks : List ℕ) (first : ℕ) → reducedEntries gs ks first ≡ reduced first (paired gs ks)
+unfolding paired reducedEntries
+paired-reduced [] ks first = refl
+paired-reduced (g ∷ gs) [] first = refl
+paired-reduced (g ∷ gs) (k ∷ ks) first = ap (λ (x : List Entry). record { glyph = g; class = k - first } ∷ x) (paired-reduced gs ks first)
+
+-- ---- by the two formats
+
+module _ (f : ℕ) (es : List Entry) (lo : ℕ) where
+  pub parts-one : eqb f 1 ≡ true → partsOf f es lo ≡ coverageBytes (map (λ e. e .glyph) es) ∷ []
+  unfolding partsOf
+  parts-one e = rw e
+
+  pub parts-two : eqb f 1 ≡ false → partsOf f es lo ≡ coverageBytes (map (λ e. e .glyph) es) ∷ classDefBytes (reduced lo es) ∷ []
+  unfolding partsOf
+  parts-two e = rw e
+
+pub join-one : (x : List ℕ) → length (join (x ∷ [])) ≡ length x
+unfolding join
+join-one x = omega (arith, length-append x [])
+
+pub join-two : (x y : List ℕ) → length (join (x ∷ y ∷ [])) ≡ length x + length y
+unfolding join
+join-two x y = omega (arith, length-append x (y ++ []), length-append y [])
+
+-- ---- how long
+
+sift-shorter : {A : Type 0} (p : A → Bool) (xs : List A) → length (sift p xs) ≤ length xs
+unfolding sift
+sift-shorter p [] = omega arith
+sift-shorter p (x ∷ xs) = by-test (p x) (λ e. rw e (omega (arith, sift-shorter p xs))) (λ e. rw e (omega (arith, sift-shorter p xs)))
+
+named-shorter : (es : List Entry) → length (named es) ≤ length es
+unfolding named
+named-shorter es = sift-shorter _ es
+
+-- a class definition is never longer than its ranges
+pub class-def-short : (es : List Entry) → length (classDefBytes es) ≤ 4 + 6 * length es
+unfolding classDefBytes
+class-def-short es =
+    let ns = named es in
+    let k : many ns ≤ length es = omega (arith, many-le ns, named-shorter es) in
+    by-test (inRanges ns)
+    (λ e. rw e (omega (arith, ranged-length (runs ns))))
+    (λ e. rw e
+    (omega (
+      arith,
+      ltb-false (4 + 6 * length (runs ns)) (6 + 2 * span ns) (or-none (ltb (4 + 6 * length (runs ns)) (6 + 2 * span ns)) (eqb (span ns) 65536) e .0),
+      length-append (be16 1 ++ be16 (firstGlyph ns) ++ be16 (span ns)) (flat (λ j. be16 (classIn ns (firstGlyph ns + j))) (span ns)),
+      length-append (be16 1 ++ be16 (firstGlyph ns)) (be16 (span ns)),
+      length-append (be16 1) (be16 (firstGlyph ns)),
+      length-be16 1,
+      length-be16 (firstGlyph ns),
+      length-be16 (span ns),
+      length-even (λ j. be16 (classIn ns (firstGlyph ns + j))) 2 (λ j. length-be16 (classIn ns (firstGlyph ns + j))) (span ns),
+    )))
+
+pub parts-short : (f : ℕ) (es : List Entry) (lo : ℕ) → length (join (partsOf f es lo)) ≤ 8 + 8 * length es
+parts-short f es lo =
+    let gs = map (λ (e : Entry). e .glyph) es in
+    let n : length gs ≡ length es = length-map (λ (e : Entry). e .glyph) es in
+    let m : length (reduced lo es) ≡ length es = length-map _ es in
+    let c = cover-length gs .1 in
+    let d = class-def-short (reduced lo es) in
+    by-test (eqb f 1)
+    (λ e. omega (arith, ap (λ (x : List (List ℕ)). length (join x)) (parts-one f es lo e), join-one (coverageBytes gs)))
+    (λ e. omega (arith, ap (λ (x : List (List ℕ)). length (join x)) (parts-two f es lo e), join-two (coverageBytes gs) (classDefBytes (reduced lo es))))

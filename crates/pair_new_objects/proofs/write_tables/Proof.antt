@@ -1,0 +1,71 @@
+-- `new_objects::write_tables` meets its contract: the objects of the first j new tables are written. Assumes nothing.
+use borrow.Author.Needs.{needs}
+use native.Mathlib.Omega.{arith}
+use Prim.Native.Nat.{_-_}
+use mathlib.Core.Path.{refl}
+use lib.ListN.{length}
+use Rattle.pair_new_objects.proofs.Looping.{Tables, tables-start, tables-stop, row-fits, next-few, old-now, turn-same, turn-beside, turn-items, turn-room, tables-turn}
+use Rattle.pair_new_objects.proofs.write_tables.Statement.{statement}
+use Rattle.pair_new_objects.proofs.write_tables.Tie as tie
+
+abbrev Inv-loop : tie.InvT-loop
+Inv-loop data₀ objects₀ glyphs classes cuts layout head start byte-count object-count per-table from₀ at₀ row₀ j₀ «data» objects from at row j = Tables data₀ objects₀ glyphs classes cuts layout head byte-count object-count per-table «data» objects from at row j
+
+abbrev μ-loop : tie.MeasureT-loop
+μ-loop data₀ objects₀ glyphs classes cuts layout head start byte-count object-count per-table from₀ at₀ row₀ j₀ «data» objects from at row j = length cuts - j
+
+loop-holds : tie.Need-loop-holds Inv-loop μ-loop
+loop-holds c = tables-start _ _ _ _ _ _ _ _ _ _ _ (c .before .before .before .before .before .before .pre .0) (c .before .before .before .before .before .before .pre .1 .0) (c .before .before .before .before .before .before .pre .1 .1 .0) (c .before .before .before .before .before .before .pre .1 .1 .1) (c .objects-per-table .ensures)
+
+part-end-requires : tie.Need-part-end-requires Inv-loop μ-loop
+part-end-requires c κs = c .before .before .before .loop .inv .halved .inside
+
+write-table-objects-requires : tie.Need-write-table-objects-requires Inv-loop μ-loop
+write-table-objects-requires c κs = (turn-same _ _ _ _ _ _ _ _ _ _ _ _ _ _ _ _ (c .before .before .before .before .before .before .before .before .loop .inv) (c .before .before .before .before .before .before .before .loop-test .taken) _ _ _ refl (c .before .before .before .before .before .cut-after .ensures) (c .before .before .before .before .part-end .ensures), (turn-beside _ _ _ _ _ _ _ _ _ _ _ _ _ _ _ _ (c .before .before .before .before .before .before .before .before .loop .inv) (c .before .before .before .before .before .before .before .loop-test .taken) _ _ _ refl (c .before .before .before .before .before .cut-after .ensures) (c .before .before .before .before .part-end .ensures), (old-now _ _ _ _ _ _ _ _ _ _ _ _ _ _ _ _ (c .before .before .before .before .before .before .before .before .loop .inv) (c .before .before .before .before .before .before .before .loop-test .taken), (turn-items _ _ _ _ _ _ _ _ _ _ _ _ _ _ _ _ (c .before .before .before .before .before .before .before .before .loop .inv) (c .before .before .before .before .before .before .before .loop-test .taken) _ _ _ refl (c .before .before .before .before .before .cut-after .ensures) (c .before .before .before .before .part-end .ensures), turn-room _ _ _ _ _ _ _ _ _ _ _ _ _ _ _ _ (c .before .before .before .before .before .before .before .before .loop .inv) (c .before .before .before .before .before .before .before .loop-test .taken) _ _ _ refl (c .before .before .before .before .before .cut-after .ensures) (c .before .before .before .before .part-end .ensures)))))
+
+add-row : tie.Need-add-row Inv-loop μ-loop
+add-row c = omega (arith, row-fits _ _ _ _ _ _ _ _ _ _ _ _ _ _ _ _ (c .before .before .before .before .before .before .before .before .before .before .before .before .before .loop .inv) (c .before .before .before .before .before .before .before .before .before .before .before .before .loop-test .taken), c .before .before .before .before .before .before .before .before .before .before .before .before .before .before .before .before .before .before .before .before .good)
+
+add-j : tie.Need-add-j Inv-loop μ-loop
+add-j c = omega (arith, next-few _ _ _ _ _ _ _ _ _ _ _ _ _ _ _ _ (c .before .before .before .before .before .before .before .before .before .before .before .before .before .loop .inv) (c .before .before .before .before .before .before .before .before .before .before .before .before .loop-test .taken))
+
+loop-again : tie.Need-loop-again Inv-loop μ-loop
+loop-again c = tables-turn _ _ _ _ _ _ _ _ _ _ _ _ _ _ _ _ (c .before .before .before .before .before .before .before .before .before .before .before .before .before .loop .inv) (c .before .before .before .before .before .before .before .before .before .before .before .before .loop-test .taken) _ _ _ refl (c .before .before .before .before .before .before .before .before .before .before .cut-after .ensures) (c .before .before .before .before .before .before .before .before .before .part-end .ensures) _ _ _ (c .before .before .before .before .write-table-objects .ensures)
+
+same-length : tie.Need-same-length Inv-loop μ-loop
+same-length c = c .before .loop .inv .same-data
+
+same-length-2 : tie.Need-same-length-2 Inv-loop μ-loop
+same-length-2 c = c .before .loop .inv .same-rows
+
+returns : tie.Need-returns Inv-loop μ-loop
+returns c = tables-stop _ _ _ _ _ _ _ _ _ _ _ _ _ _ _ _ (c .before .loop .inv) (c .loop-test .left)
+
+pub write-tables-spec : {M : Type 1} → statement M
+write-tables-spec =
+    tie.close
+    (tie.spec
+    Inv-loop
+    μ-loop
+    (λ c κs. search needs)
+    loop-holds
+    (λ c. search needs)
+    (λ c. search needs)
+    (λ c κs. search needs)
+    part-end-requires
+    (λ c. search needs)
+    (λ c. search needs)
+    (λ c. search needs)
+    (λ c. search needs)
+    (λ c. search needs)
+    (λ c. search needs)
+    (λ c. search needs)
+    (λ c. search needs)
+    write-table-objects-requires
+    add-row
+    add-j
+    (λ c. search needs)
+    loop-again
+    same-length
+    same-length-2
+    returns)

@@ -1,0 +1,65 @@
+-- New objects written one behind another, with their rows, and the table that they are made from. Assumes nothing.
+use Prim.Native.Nat.{ℕ, _+_, _*_, _≤_, _<_}
+use mathlib.Core.Path.{_≡_}
+use mathlib.Core.Bool.{cond}
+use mathlib.Core.List.{List, [], _∷_, map}
+use lib.ListN.{length, getD}
+use lib.Dec.{eqb}
+use Rattle.folds.specs.Folds.{flat}
+use Rattle.folds.specs.Lists.{put, join, part}
+use Rattle.ot_layouts.specs.Coverage.{Entry, coverageBytes}
+use Rattle.ot_layouts.specs.ClassDef.{classDefBytes}
+use Rattle.ot_layouts.specs.PairPos.{shapeOf, itemAt}
+use Rattle.glyph_rules.specs.Entries.{within, reduced}
+use Rattle.store_rules.specs.Appended.{rowsFrom}
+use Rattle.cut_rules.specs.Ranges.{from}
+use Rattle.pair_rules.specs.Written.{newTable, newObjects}
+use Rattle.ot_pairpos.specs.declared.Layout.{Layout}
+use Rattle.ot_pairpos.specs.Layout.{layoutOf}
+
+-- "coverage, class definition 1 (format 2)" of a table of format f with these entries, of which lo is the first item
+unfoldable pub partsOf : ℕ → List Entry → ℕ → List (List ℕ)
+partsOf f es lo = coverageBytes (map (λ e. e .glyph) es) ∷ cond (eqb f 1) [] (classDefBytes (reduced lo es) ∷ [])
+
+-- there is room for new objects from byte `at` and row `row` on, and the last ends within 32 bits
+pub record Room (d o : List ℕ) (at row : ℕ) (new : List (List ℕ)) : Type 0 where
+  pub bytes : at + length (join new) ≤ length d
+  pub rows : 2 * (row + length new) ≤ length o
+  pub small : at + length (join new) < 4294967296
+
+-- they are written, and the last ends at r
+pub record Written (d o : List ℕ) (at row : ℕ) (new : List (List ℕ)) (d′ o′ : List ℕ) (r : ℕ) : Type 0 where
+  pub bytes : d′ ≡ put d at (join new)
+  pub rows : o′ ≡ put o (2 * row) (rowsFrom at new)
+  pub ends : r ≡ at + length (join new)
+
+-- the bytes of the table of layout l at `head`
+abbrev pub oldTable : List ℕ → ℕ → Layout → List ℕ
+oldTable d head l = part d head (head + (l .header + l .item * l .count))
+
+-- that table has this layout, and ends at or before `at`
+pub record Old (d : List ℕ) (head : ℕ) (l : Layout) (at : ℕ) : Type 0 where
+  pub layout-is : l ≡ layoutOf (oldTable d head l)
+  pub before : head + (l .header + l .item * l .count) ≤ at
+  pub inside : at ≤ length d
+
+-- a new table of its items lo up to hi
+abbrev pub tableOf : List ℕ → ℕ → Layout → ℕ → ℕ → List ℕ
+tableOf d head l lo hi = newTable (shapeOf (oldTable d head l)) (oldTable d head l) lo hi
+
+-- new table j of a split of it at cs, and what stands beside it
+abbrev pub tableObjects : List ℕ → ℕ → Layout → List Entry → List ℕ → ℕ → List (List ℕ)
+tableObjects d head l es cs j =
+    tableOf d head l (from cs j) (getD cs (j + 1) (l .count)) ∷ partsOf (l .format) (within (from cs j) (getD cs (j + 1) (l .count)) es) (from cs j)
+
+-- the objects of all new tables
+abbrev pub tablesOf : List ℕ → ℕ → Layout → List Entry → List ℕ → List (List ℕ)
+tablesOf d head l es cs = flat (tableObjects d head l es cs) (length cs)
+
+-- all its new objects
+abbrev pub objectsOf : List ℕ → ℕ → Layout → List Entry → List ℕ → List (List ℕ)
+objectsOf d head l es cs = newObjects (shapeOf (oldTable d head l)) (oldTable d head l) es cs
+
+-- how many bytes they take, of a table of layout l that has its exact length
+pub record Length (l : Layout) (es : List Entry) (cs : List ℕ) (r : ℕ) : Type 0 where
+  pub is : (b : List ℕ) → l ≡ layoutOf b → length b ≡ itemAt (shapeOf b) (shapeOf b .count) → r ≡ length (join (newObjects (shapeOf b) b es cs))

@@ -1,0 +1,74 @@
+-- What the decision rests on: the checks that need no scratch, the cut places, and whether there is a cycle. Assumes nothing.
+use Prim.Native.Nat.{ℕ, _*_, _≤_, _<_}
+use mathlib.Core.Path.{_≡_, sym, ap, ap₂, subst, _∙_}
+use mathlib.Core.Bool.{Bool}
+use mathlib.Core.List.{List}
+use mathlib.Core.Option.{some}
+use native.Mathlib.Omega.{arith}
+use lib.ListN.{length, getD}
+use borrow.Author.Tests.{lt-ltb, le-ltb}
+use Rattle.call_rules.specs.declared.Answer.{Answer}
+use Rattle.call_rules.specs.declared.Answer.the-variants.{BadLinks}
+use Rattle.store_rules.specs.Store.{Store, lent}
+use Rattle.store_rules.specs.Reach.{onCycle}
+use Rattle.call_rules.specs.Scratch.{Scratch}
+use Rattle.call_rules.specs.Answers.{number, firstCase}
+use Rattle.pair_rules.specs.Calls.{cutCases}
+use Rattle.store_walk.specs.Marks.{Begun}
+use Rattle.pair_points.specs.Filled.{TellsCycle}
+use Rattle.pair_checks.specs.declared.PairTable.{PairTable}
+use Rattle.pair_checks.specs.declared.Checked.{Checked}
+use Rattle.pair_checks.specs.declared.Checked.the-variants as Checked
+use Rattle.pair_checks.specs.Opens.{Opens}
+use Rattle.pair_plan.specs.declared.Plan.{Plan}
+use Rattle.pair_plan.specs.declared.Decision.the-variants.{Cut, Refused}
+use Rattle.call_scratch.specs.Lengths.{lengthsOf}
+use Rattle.pair_plan.specs.Called.{calledOf}
+use Rattle.pair_plan.specs.Cutting.{Looked, CutsTable}
+use Rattle.pair_plan.specs.Decided.{Planned, Decided}
+use Rattle.pair_plan.proofs.Called.{lookedLast, called, Passed, passed}
+
+-- ---- a refusal
+
+refused : (s : Store) (t : ℕ) (w : Scratch) (a : Answer) {gs ks cuts : List ℕ} → firstCase (cutCases s t w) ≡ some (number a) → Decided s t w (Refused a) gs ks cuts
+refused s t w a e = record { answers = e; plans = λ p x. let z : _≡_ {A = ℕ} 0 1 = cc in absurd (omega arith) }
+
+pub decided-refused : (s : Store) (t : ℕ) (w : Scratch) {x : Checked} {a : Answer} {gs ks cuts : List ℕ} → x ≡ calledOf s t (lengthsOf w) → x ≡ Checked.Refused a → Decided s t w (Refused a) gs ks cuts
+decided-refused s t w {a = a} e y = refused s t w a (called s t w ∙ ap (λ (x : Checked). lookedLast x (onCycle s t)) (sym e ∙ y))
+
+-- ---- the rest of 7, and the cuts
+
+module _ (b o l c : List ℕ) (t : ℕ) (w : Scratch) (p : PairTable) (e : calledOf (lent b o l c) t (lengthsOf w) ≡ Checked.Open p) where
+  pass : Passed (lent b o l c) t (lengthsOf w) p
+  pass = passed (lent b o l c) t (lengthsOf w) p e
+
+  last : {cycle : Bool} → cycle ≡ onCycle (lent b o l c) t → firstCase (cutCases (lent b o l c) t w) ≡ lookedLast (Checked.Open p) cycle
+  last h = called (lent b o l c) t w ∙ ap₂ lookedLast e (sym h)
+
+  -- the table is open, and the walk's scratch long enough
+  pub can-begin : ((x : List ℕ) × Opens (lent x o l c) t p) × (2 * getD c 1 0 ≤ length (w .walk))
+  can-begin = ((b, pass .opens), pass .walk)
+
+  -- the table has a mark there
+  pub table-marked : t < length (w .walk)
+  table-marked = omega (arith, pass .opens .reads .used, pass .walk)
+
+  pub can-cut : {z : List ℕ} → Begun (lent b o l c) t (p .layout .header) z → Looked (lent b o l c) t p z (w .set) (w .glyphs) (w .classes) (w .cuts)
+  can-cut d =
+      record {
+        walked = record { opens = pass .opens; slots = pass .slots; begun = d; room = pass .cuts };
+        long = pass .set;
+        glyphs = pass .glyphs;
+        classes = pass .classes;
+      }
+
+  module _ {z : List ℕ} (d : TellsCycle (lent b o l c) t z) where
+    pub decided-cycle : {gs ks cuts : List ℕ} → (getD z t 0 ≡ 0 → ⊥) → Decided (lent b o l c) t w (Refused BadLinks) gs ks cuts
+    decided-cycle ne = refused (lent b o l c) t w BadLinks (last (sym (lt-ltb 0 (getD z t 0) (omega arith)) ∙ d .tells))
+
+    pub decided-cut : {gs ks cuts : List ℕ} {n : ℕ} → getD z t 0 ≡ 0 → CutsTable (lent b o l c) t p (w .glyphs) (w .classes) (w .cuts) gs ks cuts n → Decided (lent b o l c) t w (Cut (record { table = p; cuts = n })) gs ks cuts
+    decided-cut {gs} {ks} {cuts} {n} h x =
+        record {
+          answers = last (sym (le-ltb 0 (getD z t 0) (omega arith)) ∙ d .tells);
+          plans = λ q y. let same : record { table = p; cuts = n } ≡ q = cc in subst (λ (r : Plan). Planned (lent b o l c) t w r gs ks cuts) same (record { opens = pass .opens; cut = x });
+        }

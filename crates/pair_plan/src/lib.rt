@@ -1,0 +1,272 @@
+// What a split and a cut plan decide before anything is written: the checks 1 to 7, in document 01's order, and the cut places. Then the cut plan itself.
+pub mod cutting;
+
+use call_rules::Answer;
+use call_rules::number_of;
+use call_scratch::Lengths;
+use call_scratch::clear_scratch;
+use call_scratch::is_short;
+use cutting::cut_table;
+use pair_checks::Checked;
+use pair_checks::PairTable;
+use pair_checks::check_table;
+use pair_checks::slots::links_at_slots;
+use store_walk::prepare;
+use store_walk::walk_before;
+ghost use mathlib.Core.Path.{_≡_};
+ghost use mathlib.Core.List.{List};
+ghost use Prim.Native.Nat.{ℕ, _*_, _≤_};
+ghost use lib.ListN.{length, getD};
+ghost use Rattle.folds.specs.Lists.{put};
+ghost use Rattle.store_rules.specs.Store.{lent};
+ghost use Rattle.call_rules.specs.Outcomes.{outcome};
+ghost use Rattle.pair_rules.specs.Calls.{planCall};
+ghost use Rattle.pair_checks.specs.Checked.{checkedOf};
+ghost use Rattle.pair_checks.specs.Opens.{Opens};
+ghost use Rattle.store_walk.specs.Marks.{Begun};
+ghost use Rattle.call_scratch.specs.Lengths.{lengthsOf};
+ghost use Rattle.folds.specs.Moments.{came, left};
+ghost use Rattle.store_rules.specs.Moments.{storeCame, storeNow};
+ghost use Rattle.call_rules.specs.Moments.{scratchCame, scratchLeft, scratchNow};
+ghost use Rattle.pair_plan.specs.Called.{lentBy, calledOf};
+ghost use Rattle.pair_plan.specs.Decided.{Decided, handed, handedOut, HandingOut};
+
+// A table that is not refused, and how many cuts it gets; they stand at the front of the scratch.
+pub struct Plan {
+    pub table: PairTable,
+    pub cuts: usize,
+}
+
+// What is decided. A table of another format is refused as done.
+pub enum Decision {
+    Cut(Plan),
+    Refused(Answer),
+}
+
+// Check 6 of a table that is open, and then the slots of check 7.
+fn check_lent(
+    links: &[u32],
+    counts: &[u32; 3],
+    table: u32,
+    opened: PairTable,
+    lengths: Lengths,
+) -> Checked
+    requires { ⌜ ((b o : List ℕ) × (checkedOf (lent b o (now links) (now counts)) table ≡ Checked.Open opened)) ⌝ }
+    ensures { λ r. ⌜
+        ((b o : List ℕ)
+        → checkedOf (lent b o (came links) (came counts)) table
+        ≡ Checked.Open opened
+        → r
+        ≡ lentBy (lent b o (came links) (came counts)) table lengths opened)
+        ⌝ }
+{
+    let layout = opened.layout;
+    if is_short(lengths, counts[1], opened.glyphs, layout.count) {
+        return Checked::Refused(Answer::ShortScratch);
+    }
+    if !links_at_slots(links, counts, table, layout) {
+        return Checked::Refused(Answer::BadLinks);
+    }
+    Checked::Open(opened)
+}
+
+// The checks 1 to 6, and the slots of check 7: all that needs no scratch.
+fn check_call(
+    data: &[u8],
+    objects: &[u32],
+    links: &[u32],
+    counts: &[u32; 3],
+    table: u32,
+    lengths: Lengths,
+) -> Checked
+    ensures { λ r. ⌜ r ≡ calledOf (storeCame «data» objects links counts) table lengths ⌝ }
+{
+    let checked = check_table(data, objects, links, counts, table);
+    match checked {
+        Checked::Refused(answer) => Checked::Refused(answer),
+        Checked::Open(opened) => check_lent(links, counts, table, opened, lengths),
+    }
+}
+
+// Walks what the links of the table's header lead to. The scratch may hold anything.
+fn begin_walk(
+    objects: &[u32],
+    links: &[u32],
+    counts: &[u32; 3],
+    table: u32,
+    opened: PairTable,
+    walk: &mut [u32],
+)
+    requires { ⌜ ((b : List ℕ) × Opens (lent b (now objects) (now links) (now counts)) table opened) ⌝ }
+    requires { ⌜ 2 * getD (now counts) 1 0 ≤ length (now walk) ⌝ }
+    ensures { λ _. ⌜
+        ((b : List ℕ) → Begun (lent b (came objects) (came links) (came counts)) table (opened .layout .header) (left walk))
+        ⌝ }
+{
+    let layout = opened.layout;
+    prepare(links, counts, walk);
+    walk_before(objects, links, counts, table, layout.header as u32, walk);
+}
+
+// The cut places, and the rest of check 7: what finds them has walked all that the table leads to. The scratch may hold anything.
+fn decide_cuts(
+    data: &[u8],
+    objects: &[u32],
+    links: &[u32],
+    counts: &[u32; 3],
+    table: u32,
+    opened: PairTable,
+    walk: &mut [u32],
+    glyph_set: &mut [u8],
+    glyphs: &mut [u16],
+    classes: &mut [u16],
+    cuts: &mut [u16],
+) -> Decision
+    requires { ⌜
+        calledOf (storeNow «data» objects links counts) table (lengthsOf (scratchNow walk «glyph_set» glyphs classes cuts)) ≡ Checked.Open
+        opened
+        ⌝ }
+    ensures { λ r. ⌜
+        Decided (storeCame «data» objects links counts) table (scratchCame walk «glyph_set» glyphs classes cuts) r (left glyphs)
+        (left classes) (left cuts)
+        ⌝ }
+{
+    begin_walk(objects, links, counts, table, opened, walk);
+    let count = cut_table(
+        data,
+        objects,
+        links,
+        counts,
+        table,
+        opened,
+        walk,
+        glyph_set,
+        glyphs,
+        classes,
+        cuts,
+    );
+    if walk[table as usize] != 0 {
+        return Decision::Refused(Answer::BadLinks);
+    }
+    Decision::Cut(Plan {
+        table: opened,
+        cuts: count,
+    })
+}
+
+// Decides for a table of any store, with any scratch.
+pub fn decide(
+    data: &[u8],
+    objects: &[u32],
+    links: &[u32],
+    counts: &[u32; 3],
+    table: u32,
+    walk: &mut [u32],
+    glyph_set: &mut [u8],
+    glyphs: &mut [u16],
+    classes: &mut [u16],
+    cuts: &mut [u16],
+) -> Decision
+    ensures { λ r. ⌜
+        Decided (storeCame «data» objects links counts) table (scratchCame walk «glyph_set» glyphs classes cuts) r (left glyphs)
+        (left classes) (left cuts)
+        ⌝ }
+{
+    let lengths = Lengths {
+        walk: walk.len(),
+        glyph_set: glyph_set.len(),
+        glyphs: glyphs.len(),
+        classes: classes.len(),
+        cuts: cuts.len(),
+    };
+    let checked = check_call(data, objects, links, counts, table, lengths);
+    match checked {
+        Checked::Refused(answer) => Decision::Refused(answer),
+        Checked::Open(opened) => decide_cuts(
+            data,
+            objects,
+            links,
+            counts,
+            table,
+            opened,
+            walk,
+            glyph_set,
+            glyphs,
+            classes,
+            cuts,
+        ),
+    }
+}
+
+// Copies the places to the front of the list.
+fn copy_places(cuts: &[u16], places: &mut [u16])
+    requires { ⌜ length (now cuts) ≤ length (now places) ⌝ }
+    ensures { λ _. ⌜ left places ≡ put (came places) 0 (came cuts) ⌝ }
+{
+    let mut k: usize = 0;
+    while k < cuts.len() {
+        places[k] = cuts[k];
+        k += 1;
+    }
+}
+
+// Hands out what was decided: the answer, and where it is 0 the places and their count.
+fn hand_out(decision: Decision, cuts: &[u16], places: &mut [u16], place_count: &mut u32) -> u32
+    requires { ⌜ HandingOut decision (now cuts) ⌝ }
+    ensures { λ r. ⌜ handed r (left «place_count») (left places) ≡ handedOut decision (came cuts) (came places) ⌝ }
+{
+    match decision {
+        Decision::Refused(answer) => {
+            *place_count = 0;
+            number_of(answer)
+        }
+        Decision::Cut(plan) => {
+            let count = plan.cuts;
+            if places.len() < count {
+                *place_count = 0;
+                return number_of(Answer::NoRoom);
+            }
+            copy_places(&cuts[0..count], places);
+            *place_count = count as u32;
+            0
+        }
+    }
+}
+
+// The cut places of a table of any store, in `places`, and how many there are. Scratch is zero after it.
+pub fn cut_plan(
+    data: &[u8],
+    objects: &[u32],
+    links: &[u32],
+    counts: &[u32; 3],
+    table: u32,
+    walk: &mut [u32],
+    glyph_set: &mut [u8],
+    glyphs: &mut [u16],
+    classes: &mut [u16],
+    cuts: &mut [u16],
+    places: &mut [u16],
+    place_count: &mut u32,
+) -> u32
+    ensures { λ r. ⌜
+        outcome r (left «place_count») (storeCame «data» objects links counts) (left places)
+        (scratchLeft walk «glyph_set» glyphs classes cuts)
+        ≡ planCall (storeCame «data» objects links counts) table (scratchCame walk «glyph_set» glyphs classes cuts) (came places)
+        ⌝ }
+{
+    let decision = decide(
+        data,
+        objects,
+        links,
+        counts,
+        table,
+        walk,
+        glyph_set,
+        glyphs,
+        classes,
+        cuts,
+    );
+    let answer = hand_out(decision, cuts, places, place_count);
+    clear_scratch(walk, glyph_set, glyphs, classes, cuts);
+    answer
+}

@@ -1,0 +1,202 @@
+-- Format 1: a slot is not empty exactly if a row stands in its bytes, and what the coverage of the pair sets in a table takes. Assumes nothing.
+use Prim.Native.Nat.{ℕ, _+_, _*_, _≤_, _<_, min}
+use mathlib.Core.Path.{_≡_, refl, sym, ap, subst, _∙_}
+use mathlib.Core.Bool.{Bool, true, false, cond, _&&_}
+use mathlib.Core.List.{List}
+use mathlib.Core.Option.{Option, some, none}
+use native.Mathlib.Omega.{arith}
+use lib.Dec.{leb, ltb, eqb}
+use lib.ListN.{length}
+use borrow.Author.Tests.{le-leb, lt-leb, lt-ltb, eq-eqb, leb-true, ltb-true, eqb-true}
+use Rattle.folds.specs.Folds.{sum}
+use Rattle.folds.specs.Lists.{isSome}
+use Rattle.folds.proofs.Tests.{and-both, and-first, and-second, by-test}
+use Rattle.folds.proofs.Folds.{sum-more, sum-none}
+use Rattle.folds.proofs.Sums.{sum-zero, sum-bound}
+use Rattle.ot_layouts.specs.PairPos.{itemAt}
+use Rattle.ot_layouts.proofs.Shapes.{format-one}
+use Rattle.ot_layouts.proofs.Slots.{slot-fits}
+use Rattle.store_rules.specs.Store.{Store, lent, bytesOf, sizeOf, parentOf, positionOf, childOf, childAt, linkedAt}
+use Rattle.store_rules.specs.Reach.{itemSize}
+use Rattle.cut_rules.specs.Cuts.{Rule, weigh, after}
+use Rattle.pair_rules.specs.Rules.{partialCover, rule1}
+use Rattle.pair_rules.specs.Table.{shape, allAtSlots, ruleOf, ofItems}
+use Rattle.pair_rules.proofs.Checks.{at-slot}
+use Rattle.store_rules.proofs.Lookups.{child-row}
+use Rattle.store_reader.specs.Rows.{keyOf, FirstRow}
+use Rattle.store_reader.specs.Children.{asChild}
+use Rattle.store_reader.specs.declared.Child.the-variants.{Of}
+use Rattle.store_reader.proofs.Rows.{position-most, rows-between}
+use Rattle.store_reader.proofs.Children.{child-found}
+use Rattle.cut_filling.specs.declared.Filling.{Filling}
+use Rattle.pair_points.specs.declared.measuring.Measured.{Measured}
+use Rattle.pair_points.specs.declared.«table_info».TableInfo.{TableInfo}
+use Rattle.pair_points.specs.declared.format1.Sets.{Sets}
+use Rattle.cut_filling.specs.Filling.{Fills, Weighed, Listed}
+use Rattle.pair_points.specs.Measuring.{At, Measures}
+use Rattle.pair_points.specs.Filled.{cuttingAt, Filled, TellsCycle, Placed}
+use Rattle.pair_points.specs.Format1.{Ready1, linked, Below1}
+use Rattle.pair_points.proofs.ItemSizes.{at-fits, at-in-order}
+use Rattle.pair_points.proofs.Turns.{item-ends, filled-start, filled-stop, filled-back, passed, added, cut}
+
+-- ---- the rule of a table of format 1
+
+module _ (s : Store) (t : ℕ) (one : eqb (shape s t .format) 1 ≡ true) where
+  rule-one : ruleOf s t ≡ rule1 (shape s t .count) (linked s t) (itemSize s (ofItems t (shape s t))) (sizeOf s (linkedAt s t 2))
+  unfolding ruleOf
+  rule-one = rw one
+
+  start-one : ruleOf s t .start ≡ 10
+  unfolding rule1
+  start-one = ap (λ (r : Rule). r .start) rule-one
+
+  looks-one : (i : ℕ) → ruleOf s t .looks i ≡ linked s t i
+  unfolding rule1
+  looks-one i = ap (λ (r : Rule). r .looks i) rule-one
+
+  cost-one : (a i : ℕ) → ruleOf s t .cost a i ≡ itemSize s (ofItems t (shape s t)) a i + 2
+  unfolding rule1
+  cost-one a i = ap (λ (r : Rule). r .cost a i) rule-one
+
+  beside-one : (a i : ℕ) → ruleOf s t .beside a i ≡ min (partialCover (linked s t) a i) (sizeOf s (linkedAt s t 2))
+  unfolding rule1
+  beside-one a i = ap (λ (r : Rule). r .beside a i) rule-one
+
+-- ---- empty slots
+
+has-one : (o : Option ℕ) (c : ℕ) → Of c ≡ asChild o → isSome o ≡ true
+has-one (some i) c e = refl
+has-one none c e = let z : _≡_ {A = ℕ} 0 1 = cc in absurd (omega arith)
+
+module _ {s : Store} {t a i row e : ℕ} {w : List ℕ} {m : Measured} {w′ : List ℕ} (one : eqb (shape s t .format) 1 ≡ true) (slots : allAtSlots s t ≡ true) (short : itemAt (shape s t) (i + 1) ≤ 4294967296)
+    (x : At s t (shape s t) a i row e w) (y : Measures s t (shape s t) a i row e w m w′) where
+  in-slot : (k : ℕ) → k < s .linkCount → (leb row k && ltb k (m .next)) ≡ (eqb (parentOf s k) t && leb (itemAt (shape s t) i) (positionOf s k) && ltb (positionOf s k) (itemAt (shape s t) (i + 1)))
+  in-slot k h = rows-between t (itemAt (shape s t) i) (itemAt (shape s t) (i + 1)) (x .first) (y .after .first) short k h (omega (arith, position-most s (at-fits x) k h))
+
+  slot-wide : itemAt (shape s t) (i + 1) ≡ itemAt (shape s t) i + 2
+  slot-wide = rw (format-one (bytesOf s t) one .itemIs) (omega arith)
+
+  -- a row in the slot's bytes
+  pub slot-linked : (m .next ≡ row → ⊥) → linked s t i ≡ true
+  slot-linked ne =
+      let h : row < m .next = omega (arith, y .later) in
+      let used : row < s .linkCount = omega (arith, y .after .first .within) in
+      let (p, below) = and-both (eqb (parentOf s row) t && leb (itemAt (shape s t) i) (positionOf s row)) (ltb (positionOf s row) (itemAt (shape s t) (i + 1))) (sym (in-slot row used) ∙ rw (le-leb row row (omega arith), lt-ltb row (m .next) h)) in
+      let (parent, above) = and-both (eqb (parentOf s row) t) (leb (itemAt (shape s t) i) (positionOf s row)) p in
+      let q : parentOf s row ≡ t = eqb-true (parentOf s row) t parent in
+      let g = slot-fits (bytesOf s t) (positionOf s row) (i + 1) (at-slot s t slots row used q) (ltb-true (positionOf s row) (itemAt (shape s t) (i + 1)) below) in
+      let z : positionOf s row ≡ itemAt (shape s t) i = omega (arith, leb-true (itemAt (shape s t) i) (positionOf s row) above, slot-wide) in
+      has-one (childAt s t (itemAt (shape s t) i)) (childOf s row) (child-found s t (itemAt (shape s t) i) row (at-in-order x) (x .first) used q z)
+
+  -- no row
+  pub slot-empty : m .next ≡ row → linked s t i ≡ false
+  slot-empty none-here = go (childAt s t (itemAt (shape s t) i)) refl
+    where
+      go : (o : Option ℕ) → childAt s t (itemAt (shape s t) i) ≡ o → isSome o ≡ false
+      go none q = refl
+      go (some c) q =
+          let (k, used, parent, position, child) = child-row s t (itemAt (shape s t) i) c q in
+          let there : (leb row k && ltb k (m .next)) ≡ true = in-slot k used ∙ rw (parent, position) (rw (eq-eqb t t refl, le-leb (itemAt (shape s t) i) (itemAt (shape s t) i) (omega arith), lt-ltb (itemAt (shape s t) i) (itemAt (shape s t) (i + 1)) (omega (arith, slot-wide)))) in
+          let (lo, hi) = and-both (leb row k) (ltb k (m .next)) there in
+          absurd (omega (arith, leb-true row k lo, ltb-true k (m .next) hi))
+
+-- ---- the coverage of the pair sets in a table
+
+module _ (s : Store) (t : ℕ) where
+  -- pair sets below n, from pair set a on
+  abbrev covered : ℕ → ℕ → ℕ
+  covered a n = sum (λ k. cond (leb a k && linked s t k) 1 0) n
+
+  covered-more : (a i : ℕ) → a ≤ i → linked s t i ≡ true → covered a (i + 1) ≡ covered a i + 1
+  covered-more a i h e = sum-more (λ k. cond (leb a k && linked s t k) 1 0) i ∙ rw (le-leb a i h, e)
+
+  covered-same : (a i : ℕ) → linked s t i ≡ false → covered a (i + 1) ≡ covered a i
+  covered-same a i e = sum-more (λ k. cond (leb a k && linked s t k) 1 0) i ∙ ap (λ (b : Bool). covered a i + cond b 1 0) (and-second (leb a i) (linked s t i) e) ∙ omega arith
+
+  covered-none : (i : ℕ) → covered i i ≡ 0
+  covered-none i = sum-zero (λ k. cond (leb i k && linked s t k) 1 0) i (λ k h. ap (λ (b : Bool). cond b 1 0) (and-first (leb i k) (linked s t k) (lt-leb i k h)))
+
+  covered-most : (a n : ℕ) → covered a n ≤ n
+  covered-most a n = omega (arith, sum-bound (λ k. cond (leb a k && linked s t k) 1 0) 1 n (λ k h. by-test (leb a k && linked s t k) (λ e. rw e (omega arith)) (λ e. rw e (omega arith))))
+
+-- ---- one pair set after another
+
+pub sets-start : {s : Store} {x : TableInfo} {w l : List ℕ} → Ready1 s x w l → {f : Filling} {row : ℕ} → ((r : Rule) → r .start ≡ 10 → Fills f (after r 0)) → FirstRow (s .links) (s .linkCount) (keyOf (x .table) 10) row
+    → Below1 s x l 0 (record { filling = f; row = row; partial = 4 }) w l
+sets-start {s} {x} v a g =
+    let start = start-one s (x .table) (v .table .format) in
+    record {
+      table = v .table;
+      filled = filled-start (v .table .described) (ruleOf s (x .table)) (v .unseen) (a (ruleOf s (x .table)) start) (omega (arith, start)) (sym (format-one (bytesOf s (x .table)) (v .table .format) .headerIs)) g;
+      coverage = omega (arith, sum-none (λ k. cond (leb (cuttingAt s x 0 .first) k && linked s (x .table) k) 1 0));
+    }
+
+module _ {s : Store} {x : TableInfo} {d : List ℕ} {i : ℕ} {p : Sets} {w l : List ℕ} (v : Below1 s x d i p w l) (within : i < x .count) where
+  pub set-ends : (x .header + x .item * (i + 1) ≡ itemAt (shape s (x .table)) (i + 1)) × (x .header + x .item * (i + 1) ≤ 16777216)
+  set-ends = item-ends (v .table .described) i within
+
+  pub partial-most : p .partial ≤ 4 + 2 * i
+  partial-most = omega (arith, v .coverage, covered-most s (x .table) (cuttingAt s x i .first) i)
+
+  module _ {m : Measured} {w′ : List ℕ} (y : Measures s (x .table) (shape s (x .table)) (cuttingAt s x i .seen) i (p .row) (x .epoch + p .filling .cuts) w m w′) where
+    short : itemAt (shape s (x .table)) (i + 1) ≤ 4294967296
+    short = omega (arith, set-ends .0, set-ends .1)
+
+    -- an empty slot
+    pub set-passed : m .next ≡ p .row → Below1 s x d (i + 1) p w′ l
+    set-passed e =
+        let empty = slot-empty (v .table .format) (v .table .slots) short (v .filled .at) y e in
+        let (f, q) = passed (ruleOf s (x .table)) (v .filled) y (looks-one s (x .table) (v .table .format) i ∙ empty) in
+        record {
+          table = v .table;
+          filled = subst (λ (n : ℕ). Filled s x d (i + 1) (cuttingAt s x (i + 1)) (p .filling) n w′ l) e f;
+          coverage = rw q (omega (arith, v .coverage, covered-same s (x .table) (cuttingAt s x i .first) i empty));
+        }
+
+    module _ (ne : m .next ≡ p .row → ⊥) {beside : ℕ} {f′ : Filling} {l′ : List ℕ} (b : beside ≡ min (p .partial + 2) (x .beside)) (g : Weighed (p .filling) i (m .size + 2) beside 10 l f′ l′) where
+      is-linked : linked s (x .table) i ≡ true
+      is-linked = slot-linked (v .table .format) (v .table .slots) short (v .filled .at) y ne
+
+      looks : ruleOf s (x .table) .looks i ≡ true
+      looks = looks-one s (x .table) (v .table .format) i ∙ is-linked
+
+      costs : m .size + 2 ≡ ruleOf s (x .table) .cost (cuttingAt s x i .seen) i
+      costs = ap (λ (n : ℕ). n + 2) (y .size) ∙ sym (cost-one s (x .table) (v .table .format) (cuttingAt s x i .seen) i)
+
+      one-more : covered s (x .table) (cuttingAt s x i .first) (i + 1) ≡ covered s (x .table) (cuttingAt s x i .first) i + 1
+      one-more = covered-more s (x .table) (cuttingAt s x i .first) i (v .filled .first) is-linked
+
+      beside-is : ruleOf s (x .table) .beside (cuttingAt s x i .first) i ≡ beside
+      unfolding partialCover
+      beside-is =
+          let e : partialCover (linked s (x .table)) (cuttingAt s x i .first) i ≡ p .partial + 2 = omega (arith, v .coverage, one-more) in
+          beside-one s (x .table) (v .table .format) (cuttingAt s x i .first) i ∙ rw (e, ← v .table .coverage) (sym b)
+
+      listed : Listed f′ (weigh (ruleOf s (x .table)) (cuttingAt s x i) i (m .size + 2)) d l′
+      listed = g (ruleOf s (x .table)) (cuttingAt s x i) d (start-one s (x .table) (v .table .format)) beside-is (v .filled .listed)
+
+      -- no cut
+      pub set-added : f′ .cuts ≡ p .filling .cuts → Below1 s x d (i + 1) (record { filling = f′; row = m .next; partial = p .partial + 2 }) w′ l′
+      set-added e =
+          let (f, q) = added (ruleOf s (x .table)) (v .filled) y (m .size + 2) looks costs listed e in
+          record { table = v .table; filled = f; coverage = rw q (omega (arith, v .coverage, one-more)) }
+
+      -- a cut
+      pub set-cut : (f′ .cuts ≡ p .filling .cuts → ⊥) → Below1 s x d (i + 1) (record { filling = f′; row = m .next; partial = 6 }) w′ l′
+      set-cut e =
+          let (f, q) = cut (ruleOf s (x .table)) (v .filled) y (m .size + 2) looks costs listed e (omega (arith, y .most, start-one s (x .table) (v .table .format))) in
+          record { table = v .table; filled = f; coverage = rw q (omega (arith, covered-none s (x .table) i, covered-more s (x .table) i i (omega arith) is-linked)) }
+
+pub sets-stop : {s : Store} {x : TableInfo} {d : List ℕ} {i : ℕ} {p : Sets} {w l : List ℕ} → Below1 s x d i p w l → i ≡ x .count → Placed s (x .table) d l (p .filling .cuts)
+sets-stop v e = filled-stop (v .table .described) (v .filled) e
+
+pub sets-back : {s : Store} {x : TableInfo} {d : List ℕ} {i : ℕ} {p : Sets} {w l : List ℕ} → Below1 s x d i p w l → i ≡ x .count → TellsCycle s (x .table) w
+sets-back v e = filled-back (v .table .described) (v .filled) e
+
+-- ---- the loop, whatever the bytes of the store
+
+pub record Going1 (o l c : List ℕ) (x : TableInfo) (w₀ d : List ℕ) (i : ℕ) (p : Sets) (w cuts : List ℕ) : Type 0 where
+  pub within : i ≤ x .count
+  pub walk : length w ≡ length w₀
+  pub long : length cuts ≡ length d
+  pub below : (b : List ℕ) → Ready1 (lent b o l c) x w₀ d → Below1 (lent b o l c) x d i p w cuts

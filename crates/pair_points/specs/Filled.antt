@@ -1,0 +1,61 @@
+-- The items below some item in tables, as the code accounts for it and as document 01 does. Assumes nothing.
+use Prim.Native.Nat.{ℕ, _+_, _≤_, _<_}
+use mathlib.Core.Path.{_≡_}
+use mathlib.Core.Bool.{true}
+use mathlib.Core.List.{List}
+use lib.Dec.{ltb}
+use lib.ListN.{length, getD}
+use Rattle.folds.specs.Lists.{put}
+use Rattle.ot_layouts.specs.PairPos.{itemAt}
+use Rattle.store_rules.specs.Store.{Store, sound, bytesOf}
+use Rattle.cut_rules.specs.Cuts.{Cutting, after}
+use Rattle.pair_rules.specs.Table.{shape, ruleOf, cutPlaces}
+use Rattle.store_rules.specs.Reach.{onCycle}
+use Rattle.store_reader.specs.Rows.{keyOf, FirstRow}
+use Rattle.store_walk.specs.Marks.{noRow, Back, Marks}
+use Rattle.cut_filling.specs.declared.Filling.{Filling}
+use Rattle.pair_points.specs.declared.«table_info».TableInfo.{TableInfo}
+use Rattle.cut_filling.specs.Filling.{Listed}
+use Rattle.pair_points.specs.Measuring.{At}
+
+-- the numbers are those of the table, which has passed the checks up to 3
+pub record Described (s : Store) (x : TableInfo) : Type 0 where
+  pub is-sound : sound s ≡ true
+  pub used : x .table < s .objectCount
+  pub exactly : length (bytesOf s (x .table)) ≡ itemAt (shape s (x .table)) (shape s (x .table) .count)
+  pub header : x .header ≡ shape s (x .table) .header
+  pub item : x .item ≡ shape s (x .table) .item
+  pub count : x .count ≡ shape s (x .table) .count
+  -- an epoch for each table that may come
+  pub epochs : x .epoch + x .count < 2147483648
+
+-- before the first item: nothing counts as seen, the table has a mark exactly if the links of its header lead back to it, and there is an entry for
+-- each cut
+pub record Unseen (s : Store) (x : TableInfo) (w l : List ℕ) : Type 0 where
+  pub marks : Marks s noRow (x .epoch) w
+  pub begun : 0 < x .epoch
+  pub back : (row : ℕ) → FirstRow (s .links) (s .linkCount) (keyOf (x .table) (x .header)) row → Back s (x .table) row w
+  pub room : x .count ≤ length l
+
+-- where document 01 stands once the items below i have been weighed
+abbrev pub cuttingAt : Store → TableInfo → ℕ → Cutting
+cuttingAt s x i = after (ruleOf s (x .table)) i
+
+-- the items below i have been weighed, and c is where document 01 then stands
+pub record Filled (s : Store) (x : TableInfo) (d : List ℕ) (i : ℕ) (c : Cutting) (f : Filling) (row : ℕ) (w l : List ℕ) : Type 0 where
+  pub listed : Listed f c d l
+  pub at : At s (x .table) (shape s (x .table)) (c .seen) i row (x .epoch + f .cuts) w
+  pub first : c .first ≤ i
+  pub few : f .cuts ≤ i
+  -- a header and an item at most, as a sum that goes on stays within 65,535
+  pub small : f .sum ≤ 67108864
+  pub room : x .count ≤ length d
+
+-- after the last item: the table has a mark exactly if it can be reached from itself
+pub record TellsCycle (s : Store) (t : ℕ) (w : List ℕ) : Type 0 where
+  pub tells : ltb 0 (getD w t 0) ≡ onCycle s t
+
+-- the cut places stand at the front of the lent list, which came as d, and r is how many there are
+pub record Placed (s : Store) (t : ℕ) (d l : List ℕ) (r : ℕ) : Type 0 where
+  pub count : r ≡ length (cutPlaces s t)
+  pub places : l ≡ put d 0 (cutPlaces s t)

@@ -1,0 +1,95 @@
+// The cut places of a table of format 1: the counterpart of `compute_format1_split_points`.
+use crate::measuring::measure;
+use crate::table_info::TableInfo;
+use cut_filling::Filling;
+use store_reader::first_row;
+ghost use mathlib.Core.Path.{_≡_};
+ghost use mathlib.Core.List.{List};
+ghost use Prim.Native.Nat.{ℕ, _<_, min};
+ghost use Rattle.store_rules.specs.Store.{lent};
+ghost use Rattle.folds.specs.Moments.{came, left};
+ghost use Rattle.pair_points.specs.Format1.{Ready1, Below1, Weighs1, Places1, Tells1};
+
+// The table that is being filled, the row at which the next pair set's link stands or would stand, and the length of the coverage of the
+// pair sets in the table.
+pub struct Sets {
+    pub filling: Filling,
+    pub row: usize,
+    pub partial: u64,
+}
+
+// The cut places, at the front of `cuts`, and how many there are.
+pub fn compute_format1_split_points(
+    objects: &[u32],
+    links: &[u32],
+    counts: &[u32; 3],
+    info: TableInfo,
+    walk: &mut [u32],
+    cuts: &mut [u16],
+) -> usize
+    requires { ⌜ ((b : List ℕ) × Ready1 (lent b (now objects) (now links) (now counts)) info (now walk) (now cuts)) ⌝ }
+    ensures { λ r. ⌜ Places1 (came objects) (came links) (came counts) info (came walk) (came cuts) (left cuts) r ⌝ }
+    ensures { λ _. ⌜ Tells1 (came objects) (came links) (came counts) info (came walk) (came cuts) (left walk) ⌝ }
+{
+    let count = counts[2] as usize;
+    let mut sets = Sets {
+        filling: Filling::new(10),
+        row: first_row(links, count, info.table, 10),
+        partial: 4,
+    };
+    let mut i: u16 = 0;
+    while i < info.count {
+        sets = weigh_set(objects, links, counts, info, sets, i, walk, cuts);
+        i += 1;
+    }
+    sets.filling.cuts
+}
+
+// Weighs pair set `i`; an empty slot adds nothing.
+fn weigh_set(
+    objects: &[u32],
+    links: &[u32],
+    counts: &[u32; 3],
+    info: TableInfo,
+    sets: Sets,
+    i: u16,
+    walk: &mut [u32],
+    cuts: &mut [u16],
+) -> Sets
+    requires { ⌜
+        (i < info .count)
+        × ((b : List ℕ) × (d : List ℕ) × Below1 (lent b (now objects) (now links) (now counts)) info d i sets (now walk) (now cuts))
+        ⌝ }
+    ensures { λ r. ⌜ Weighs1 (came objects) (came links) (came counts) info i sets (came walk) (came cuts) r (left walk) (left cuts) ⌝ }
+{
+    let filling = sets.filling;
+    let row = sets.row;
+    let epoch = info.epoch + (filling.cuts as u32);
+    let end = info.item_end(i);
+    let set = measure(objects, links, counts, info.table, row, end, epoch, walk);
+    if set.next == row {
+        return sets;
+    }
+    let partial = sets.partial + 2;
+    let beside = lesser(partial, info.beside as u64);
+    let filled = filling.weigh(i, set.size + 2, beside, 10, cuts);
+    if filled.cuts != filling.cuts {
+        return Sets {
+            filling: filled,
+            row: set.next,
+            partial: 6,
+        };
+    }
+    Sets {
+        filling: filled,
+        row: set.next,
+        partial,
+    }
+}
+
+// The smaller of two lengths.
+fn lesser(a: u64, b: u64) -> u64
+    ensures { λ r. ⌜ r ≡ min a b ⌝ }
+{
+    if a <= b { a } else { b }
+}

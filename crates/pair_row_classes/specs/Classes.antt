@@ -1,0 +1,43 @@
+-- The classes of the rows in the table that is being filled, in the estimator and in the set. Assumes nothing.
+use Prim.Native.Nat.{ℕ, _+_, _≤_}
+use mathlib.Core.Path.{_≡_}
+use mathlib.Core.List.{List}
+use lib.ListN.{length}
+use Rattle.folds.specs.Lists.{part}
+use Rattle.ot_layouts.specs.Coverage.{Entry, Ascends, Under}
+use Rattle.glyph_rules.specs.Entries.{within}
+use Rattle.glyph_set.specs.GlyphSet.{markAll, Empty}
+use Rattle.glyph_estimator.specs.States.{Estimates}
+use Rattle.glyph_sort.specs.ByClass.{ByClass}
+use Rattle.pair_row_classes.specs.declared.Classes.{Classes}
+use Rattle.pair_row_classes.specs.ClassParts.{startOf}
+
+-- the glyphs are those of the entries, each once, in the order of their classes
+pub record Ordered (es : List Entry) (gs cs : List ℕ) : Type 0 where
+  pub up : Ascends 0 es
+  pub under : Under 65536 es
+  pub byClass : ByClass es gs cs
+
+-- the classes from a up to i, i left out, have been added since the set was empty
+pub record Holds (es : List Entry) (gs : List ℕ) (a i : ℕ) (k : Classes) (set : List ℕ) : Type 0 where
+  pub estimates : Estimates (k .estimator) set (within a i es)
+  pub first : k .first ≡ startOf es a
+  pub to : k .to ≡ startOf es i
+  pub long : 8192 ≤ length set
+  pub empty : List ℕ
+  pub emptied : Empty empty
+  pub marked : set ≡ markAll empty (part gs (startOf es a) (startOf es i))
+
+-- no class is held, and the set is empty
+abbrev pub Begins : Classes → Type 0
+Begins k = (es : List Entry) (gs cs set : List ℕ) → Ordered es gs cs → Empty set → 8192 ≤ length set → Holds es gs 0 0 k set
+
+-- class i was added to those that are held, and its glyphs start at `from`
+abbrev pub Adds : List ℕ → List ℕ → ℕ → Classes → List ℕ → Classes → List ℕ → Type 0
+Adds gs cs i k set k′ set′ =
+    (es : List Entry) (a : ℕ) → a ≤ i → Ordered es gs cs → Holds es gs a i k set → Holds es gs a (i + 1) k′ set′ × (k′ .from ≡ startOf es i)
+
+-- class i alone is held
+abbrev pub Restarts : List ℕ → ℕ → Classes → List ℕ → Classes → List ℕ → Type 0
+Restarts gs i k set k′ set′ =
+    (es : List Entry) (cs : List ℕ) (a : ℕ) → a ≤ i → Ordered es gs cs → Holds es gs a (i + 1) k set → k .from ≡ startOf es i → Holds es gs i (i + 1) k′ set′

@@ -1,0 +1,12 @@
+pub mod Samples
+pub mod Figures
+pub mod Examples
+pub mod TableCuts
+pub mod ItemLinks
+pub mod Entries
+pub mod PairByItem
+pub mod Checks
+pub mod NamedRuns
+pub mod NewCounts
+pub mod NewTable
+pub mod TableLinks

@@ -1,0 +1,104 @@
+-- The calls on pair tables: "Given exactly if (first that applies, in this order)", and the outcome of each. Assumes nothing.
+use Prim.Native.Nat.{ℕ, _+_, _*_}
+use mathlib.Core.Bool.{Bool, cond, not, _&&_, _||_}
+use mathlib.Core.List.{List, [], _∷_, _++_}
+use mathlib.Core.Option.{Option, some, none}
+use lib.ListN.{length}
+use lib.IntN.{ℤ}
+use lib.Dec.{leb, ltb, eqb}
+use Rattle.folds.specs.Lists.{join, isEmpty}
+use Rattle.ot_layouts.specs.PairPos.{formatOf, exact}
+use Rattle.store_rules.specs.Store.{Store, sound, byteRoom, objectRoom, linkRoom, bytesOf}
+use Rattle.store_rules.specs.Reach.{onCycle}
+use Rattle.call_rules.specs.declared.Answer.the-variants.{Done, Unsound, NoTable, BadTable, BadParts, FewGlyphs, ShortScratch, BadLinks, NoRoom}
+use Rattle.call_rules.specs.Answers.{Case, case, firstCase}
+use Rattle.call_rules.specs.Scratch.{Scratch}
+use Rattle.call_rules.specs.Outcomes.{Outcome, done, settle}
+use Rattle.pair_rules.specs.Table.{shape, partsReadable, glyphsOf, allAtSlots, cutPlaces}
+use Rattle.pair_rules.specs.Written.{newOf, needObjects, needLinks, splitStore, newTables}
+use Rattle.pair_rules.specs.Pairs.{Pair, noPair, pairOf}
+
+-- ---- answers, in their order
+
+-- 1 to 5; "A format other than 1 or 2 answers 0 with no new tables straight after check 3's first clause"
+unfoldable pub readCases : Store → ℕ → List Case
+readCases s t =
+    case Unsound (not (sound s))
+    ∷ case NoTable (leb (s .objectCount) t)
+    ∷ case BadTable (ltb (length (bytesOf s t)) 2)
+    ∷ case Done (not (eqb (formatOf (bytesOf s t)) 1 || eqb (formatOf (bytesOf s t)) 2))
+    ∷ case BadTable (not (exact (bytesOf s t)))
+    ∷ case BadParts (not (partsReadable s t))
+    ∷ case FewGlyphs (eqb (formatOf (bytesOf s t)) 1 && ltb (length (glyphsOf s t)) (shape s t .count))
+    ∷ []
+
+-- 6: "a scratch shorter than above"
+unfoldable pub scratchShort : Store → ℕ → Scratch → Bool
+scratchShort s t w =
+    ltb (length (w .walk)) (2 * s .objectCount) || ltb (length (w .set)) 8192
+    || ltb (length (w .glyphs)) (length (glyphsOf s t)) || ltb (length (w .classes)) (length (glyphsOf s t))
+    || ltb (length (w .cuts)) (shape s t .count)
+
+-- 1 to 7
+unfoldable pub cutCases : Store → ℕ → Scratch → List Case
+cutCases s t w =
+    readCases s t
+    ++ (case ShortScratch (scratchShort s t w)
+    ∷ case BadLinks (not (allAtSlots s t) || onCycle s t)
+    ∷ [])
+
+-- "room short: objects, links, data or the result list"; "K result entries, from the list's first, and the exact bytes of all new objects"
+unfoldable pub roomShort : Store → ℕ → List ℕ → List ℕ → Bool
+roomShort s t cs list =
+    ltb (objectRoom s) (s .objectCount + needObjects (shape s t) (length cs))
+    || ltb (linkRoom s) (s .linkCount + needLinks (shape s t) (length cs))
+    || ltb (byteRoom s) (s .byteCount + length (join (newOf s t cs)))
+    || ltb (length list) (length cs)
+
+-- "With no cut, 0 also changes nothing"; "No cut needs no room."
+unfoldable pub splitCases : Store → ℕ → Scratch → List ℕ → List Case
+splitCases s t w list =
+    cutCases s t w
+    ++ (case Done (isEmpty (cutPlaces s t))
+    ∷ case NoRoom (roomShort s t (cutPlaces s t) list)
+    ∷ [])
+
+-- the plan's own list holds the places
+unfoldable pub planCases : Store → ℕ → Scratch → List ℕ → List Case
+planCases s t w list = cutCases s t w ++ (case NoRoom (ltb (length list) (length (cutPlaces s t))) ∷ [])
+
+-- ---- outcomes
+
+-- the outcome of a split: "0: none below: split, or nothing to split"
+unfoldable pub splitCall : Store → ℕ → Scratch → List ℕ → Outcome
+splitCall s t w list =
+    settle (firstCase (splitCases s t w list)) s list w
+    (done (splitStore s t (cutPlaces s t)) (newTables s t (cutPlaces s t)) list w)
+
+-- the outcome of a cut plan: the store as it was, the places in its list, and their count
+unfoldable pub planCall : Store → ℕ → Scratch → List ℕ → Outcome
+planCall s t w list = settle (firstCase (planCases s t w list)) s list w (done s (cutPlaces s t) list w)
+
+-- at exit of a pair reading: 1 where there is a pair, else 0, and "eight numbers for the first glyph and eight for the second"
+pub record PairOutcome : Type 0 where
+  pub answer : ℕ
+  pub found : ℕ
+  pub values : List ℤ
+
+-- an answer with what the pair holds
+abbrev pub reported : ℕ → Pair → PairOutcome
+reported n p = record { answer = n; found = cond (p .found) 1 0; values = p .first ++ p .second }
+
+-- "refuses by 1 to 5 in this order with no pair and sixteen zeros; another format is 0 and no pair"
+unfoldable pub settlePair : Option ℕ → Pair → PairOutcome
+settlePair (some n) p = reported n noPair
+settlePair none p = reported 0 p
+
+-- the outcome of a pair reading, which "takes 16-bit glyph numbers and no scratch, writes nothing"
+unfoldable pub pairCall : Store → ℕ → ℕ → ℕ → PairOutcome
+pairCall s t a b = settlePair (firstCase (readCases s t)) (pairOf s t a b)
+
+-- all of this file's definitions, for checks that compute
+unfoldable pub computes : Unit {0}
+unfolding readCases scratchShort cutCases roomShort splitCases planCases splitCall planCall settlePair pairCall
+computes = tt

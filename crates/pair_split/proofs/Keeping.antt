@@ -1,0 +1,154 @@
+-- New objects written behind those in use, and the table's count and tail set before them. Assumes nothing.
+use Prim.Native.Nat.{ℕ, _+_, _*_, _<_, _≤_}
+use mathlib.Core.Path.{_≡_, refl, sym, subst, ap, ap₂, _∙_}
+use mathlib.Core.List.{List, [], _∷_}
+use native.Mathlib.Omega.{arith}
+use lib.ListN.{length, getD, set}
+use Rattle.folds.specs.Lists.{put, join}
+use Rattle.folds.proofs.Put.{put-one, put-comm, put-below, length-put}
+use Rattle.ot_layouts.specs.Numbers.{be16}
+use Rattle.ot_layouts.specs.PairPos.{Shape, shape1, shape2, shapeOf, itemAt}
+use Rattle.ot_layouts.proofs.Numbers.{length-be16}
+use Rattle.ot_layouts.proofs.Shapes.{by-format, count-in-header, items-rise}
+use Rattle.store_rules.specs.Store.{Store, headOf, bytesOf}
+use Rattle.pair_rules.specs.Table.{shape, cutPlaces}
+use Rattle.cut_rules.specs.Ranges.{from}
+use Rattle.pair_rules.specs.Written.{newOf, storeAfter, splitStore, keptTable}
+use Rattle.store_rules.specs.Appended.{rowsFrom, appended, withBytes, withTail}
+use Rattle.store_rules.proofs.Sound.{Fits, ObjectFits, sound-fits, size-bytes}
+use Rattle.cut_rules.proofs.CutPlaces.{Places}
+use Rattle.pair_rules.proofs.TableCuts.{table-cuts}
+use Rattle.store_rules.proofs.ObjectRows.{rows-length}
+use Rattle.ot_pairpos.specs.declared.Layout.{Layout}
+use Rattle.ot_pairpos.specs.Layout.{layoutOf}
+use Rattle.pair_new_objects.specs.Tables.{paired, Planned}
+use Rattle.pair_new_objects.specs.Objects.{Room, Written, Old, objectsOf}
+use Rattle.pair_new_objects.proofs.Stored.{stored-plan, stored-old, stored-room, stored-written}
+use Rattle.pair_split.specs.Carrying.{countAt, Keeping, Writing, Wrote}
+
+-- a number set below a run that is written
+set-below : (d : List ℕ) (i v b : ℕ) (ys : List ℕ) → i < b → b + length ys ≤ length d → set (put d b ys) i v ≡ put (set d i v) b ys
+set-below d i v b ys l room =
+    put-one (put d b ys) i v (omega (arith, length-put d b ys room))
+    ∙ sym (put-comm d i (v ∷ []) b ys (omega arith) room)
+    ∙ ap (λ (x : List ℕ). put x b ys) (sym (put-one d i v (omega arith)))
+
+-- a table has its count where its shape says
+count-place : (b : List ℕ) → countAt (shapeOf b .format) ≡ shapeOf b .countAt
+unfolding countAt shape1 shape2
+count-place b = by-format (λ sh. countAt (sh .format) ≡ sh .countAt) b (λ e. refl) (λ e. refl)
+
+pub cut-places : (s : Store) (t : ℕ) (cs : List ℕ) → cs ≡ cutPlaces s t → Places (shape s t .count) cs
+cut-places s t cs e = subst (λ (x : List ℕ). Places (shape s t .count) x) (sym e) (table-cuts s t)
+
+module _ (s : Store) (t : ℕ) (gs ks cs : List ℕ) where
+  -- what `write_objects` asks
+  abbrev Asked : Layout → Type 0
+  Asked l = Planned gs ks cs l × (Old (s .bytes) (headOf s t) l (s .byteCount) × Room (s .bytes) (s .objects) (s .byteCount) (s .objectCount) (objectsOf (s .bytes) (headOf s t) l (paired gs ks) cs))
+
+  -- and what it tells
+  abbrev Told : List ℕ → List ℕ → ℕ → Layout → Type 0
+  Told d o r l = Written (s .bytes) (s .objects) (s .byteCount) (s .objectCount) (objectsOf (s .bytes) (headOf s t) l (paired gs ks) cs) d o r
+
+-- ---- of the layout of the table's bytes
+
+module _ (s : Store) (t : ℕ) (gs ks cs : List ℕ) (w : Writing s t (layoutOf (bytesOf s t)) gs ks cs) where
+  abbrev sh : Shape
+  sh = shape s t
+
+  abbrev l : Layout
+  l = layoutOf (bytesOf s t)
+
+  abbrev new : List (List ℕ)
+  new = newOf s t cs
+
+  fits : Fits s
+  fits = sound-fits s (w .reads .sounds)
+
+  table-fits : ObjectFits s t
+  table-fits = fits .object t (w .reads .used)
+
+  places : Places (sh .count) cs
+  places = cut-places s t cs (w .cuts)
+
+  asked : Asked s t gs ks cs l
+  asked = (
+    stored-plan s t (w .reads) (w .octets) gs ks cs (w .arranged) places (w .some),
+    (stored-old s t (w .reads) (w .octets), stored-room s t (w .reads) (w .octets) gs ks cs (w .arranged) (w .some) (w .room)),
+  )
+
+  -- the items that are kept end within the table
+  kept-inside : headOf s t + itemAt sh (from cs 0) ≤ s .byteCount
+  kept-inside =
+      let p : from cs 0 < sh .count = places .below 0 (w .some) in
+      omega (arith, items-rise sh (from cs 0) (sh .count) (omega arith), w .reads .exactly, size-bytes s fits t (w .reads .used), table-fits .ordered, table-fits .inside)
+
+  count-inside : headOf s t + sh .countAt + 2 ≤ s .byteCount
+  count-inside = omega (arith, count-in-header (bytesOf s t), kept-inside)
+
+  module _ (d o : List ℕ) (r : ℕ) (told : Told s t gs ks cs d o r l) where
+    told-new : Written (s .bytes) (s .objects) (s .byteCount) (s .objectCount) new d o r
+    told-new = stored-written s t (w .reads) (w .octets) gs ks cs (w .arranged) (w .some) d o r told
+
+    rows-room : 2 * s .objectCount + length (rowsFrom (s .byteCount) new) ≤ length (s .objects)
+    rows-room = omega (arith, rows-length (s .byteCount) new, w .room .rows)
+
+    same-bytes : length d ≡ length (s .bytes)
+    same-bytes = ap length (told-new .bytes) ∙ length-put (s .bytes) (s .byteCount) (join new) (w .room .bytes)
+
+    same-rows : length o ≡ length (s .objects)
+    same-rows = ap length (told-new .rows) ∙ length-put (s .objects) (2 * s .objectCount) (rowsFrom (s .byteCount) new) rows-room
+
+    same-head : getD o (2 * t) 0 ≡ headOf s t
+    same-head =
+        ap (λ (x : List ℕ). getD x (2 * t) 0) (told-new .rows)
+        ∙ put-below (s .objects) (2 * s .objectCount) (rowsFrom (s .byteCount) new) (omega (arith, rows-room)) (2 * t) (omega (arith, w .reads .used))
+
+    keep-asked : Keeping d o t l (from cs 0)
+    unfolding layoutOf
+    keep-asked =
+        record {
+          row = omega (arith, w .reads .used, fits .objectsIn, same-rows);
+          within = omega (arith, same-head, kept-inside, fits .bytesMost);
+          count = omega (arith, same-head, count-place (bytesOf s t), count-inside, same-bytes, fits .bytesIn);
+        }
+
+    kept : (d′ o′ : List ℕ) → d′ ≡ put d (getD o (2 * t) 0 + countAt (l .format)) (be16 (from cs 0)) → o′ ≡ set o (2 * t + 1) (getD o (2 * t) 0 + itemAt sh (from cs 0)) → Wrote s t cs d′ o′ r
+    unfolding layoutOf splitStore storeAfter appended keptTable withBytes withTail
+    kept d′ o′ x y =
+        let at : ℕ = headOf s t + sh .countAt in
+        let tail : ℕ = headOf s t + itemAt sh (from cs 0) in
+        record {
+          bytes =
+              x
+              ∙ ap₂ (λ (b : List ℕ) (k : ℕ). put b k (be16 (from cs 0))) (told-new .bytes) (ap₂ (λ (h k : ℕ). h + k) same-head (count-place (bytesOf s t)))
+              ∙ sym (put-comm (s .bytes) at (be16 (from cs 0)) (s .byteCount) (join new) (omega (arith, length-be16 (from cs 0), count-inside)) (w .room .bytes));
+          rows =
+              y
+              ∙ ap₂ (λ (b : List ℕ) (h : ℕ). set b (2 * t + 1) (h + itemAt sh (from cs 0))) (told-new .rows) same-head
+              ∙ set-below (s .objects) (2 * t + 1) tail (2 * s .objectCount) (rowsFrom (s .byteCount) new) (omega (arith, w .reads .used)) rows-room;
+          ends = told-new .ends;
+        }
+
+-- ---- of a layout that is equal to it
+
+module _ {s : Store} {t : ℕ} {l : Layout} {gs ks cs : List ℕ} (w : Writing s t l gs ks cs) where
+  own : Writing s t (layoutOf (bytesOf s t)) gs ks cs
+  own = subst (λ (x : Layout). Writing s t x gs ks cs) (w .layout-is) w
+
+  pub write-asked : Asked s t gs ks cs l
+  write-asked = subst (Asked s t gs ks cs) (sym (w .layout-is)) (asked s t gs ks cs own)
+
+  module _ {d o : List ℕ} {r : ℕ} (told : Told s t gs ks cs d o r l) where
+    told-own : Told s t gs ks cs d o r (layoutOf (bytesOf s t))
+    told-own = subst (Told s t gs ks cs d o r) (w .layout-is) told
+
+    pub keep-ready : Keeping d o t l (from cs 0)
+    keep-ready = subst (λ (x : Layout). Keeping d o t x (from cs 0)) (sym (w .layout-is)) (keep-asked s t gs ks cs own d o r told-own)
+
+    pub keep-wrote : {d′ o′ : List ℕ} → d′ ≡ put d (getD o (2 * t) 0 + countAt (l .format)) (be16 (from cs 0)) → o′ ≡ set o (2 * t + 1) (getD o (2 * t) 0 + (l .header + l .item * from cs 0)) → Wrote s t cs d′ o′ r
+    unfolding layoutOf
+    keep-wrote {d′} {o′} x y =
+        kept s t gs ks cs own d o r told-own d′ o′
+        (subst (λ (k : Layout). d′ ≡ put d (getD o (2 * t) 0 + countAt (k .format)) (be16 (from cs 0))) (w .layout-is) x)
+        (subst (λ (k : Layout). o′ ≡ set o (2 * t + 1) (getD o (2 * t) 0 + (k .header + k .item * from cs 0))) (w .layout-is) y)

@@ -1,0 +1,130 @@
+// A split carried out. All that can refuse it has been asked: nothing here fails.
+use call_room::needed_objects;
+use ot_pairpos::Layout;
+use ot_pairpos::objects_per_table;
+use ot_wire::put_u16;
+use pair_checks::PairTable;
+use pair_links::part_links;
+use pair_new_objects::write_objects;
+use store_object_rows::shorten;
+ghost use mathlib.Core.Path.{_≡_};
+ghost use mathlib.Core.List.{List};
+ghost use Prim.Native.Nat.{ℕ, _+_, _*_, _≤_, _<_};
+ghost use lib.ListN.{length, getD, set};
+ghost use Rattle.folds.specs.Folds.{upto};
+ghost use Rattle.folds.specs.Lists.{put};
+ghost use Rattle.ot_layouts.specs.Numbers.{be16};
+ghost use Rattle.store_rules.specs.Store.{lent};
+ghost use Rattle.folds.specs.Moments.{came, left};
+ghost use Rattle.store_rules.specs.Moments.{storeCame, storeLeft, storeNow};
+ghost use Rattle.pair_split.specs.Carrying.{countAt, Keeping, Writing, Wrote, Carrying, Carried};
+
+// Where a table has its count of items.
+fn count_position(format: u16) -> usize
+    ensures { λ r. ⌜ r ≡ countAt format ⌝ }
+{
+    if format == 1 { 8 } else { 12 }
+}
+
+// The table keeps its first `count` items: its count is set, and it ends with them.
+fn keep_items(data: &mut [u8], objects: &mut [u32], table: u32, layout: Layout, count: u16)
+    requires { ⌜ Keeping (now «data») (now objects) table layout count ⌝ }
+    ensures { λ _. ⌜ left «data» ≡ put (came «data») (getD (came objects) (2 * table) 0 + countAt (layout .format)) (be16 count) ⌝ }
+    ensures { λ _. ⌜
+        left objects ≡ set (came objects) (2 * table + 1) (getD (came objects) (2 * table) 0 + (layout .header + layout .item * count))
+        ⌝ }
+{
+    let row = table as usize;
+    let head = objects[2 * row] as usize;
+    put_u16(data, head + count_position(layout.format), count);
+    shorten(
+        objects,
+        row,
+        (layout.header + layout.item * (count as usize)) as u32,
+    );
+}
+
+// Writes the new objects behind those in use, and shortens the table. Returns where the data in use end.
+fn write_bytes(
+    data: &mut [u8],
+    objects: &mut [u32],
+    counts: &[u32; 3],
+    table: u32,
+    layout: Layout,
+    glyphs: &[u16],
+    classes: &[u16],
+    cuts: &[u16],
+) -> usize
+    requires { ⌜
+        ((l : List ℕ) × Writing (lent (now «data») (now objects) l (now counts)) table layout (now glyphs) (now classes) (now cuts))
+        ⌝ }
+    ensures { λ r. ⌜
+        ((l : List ℕ)
+        → Writing (lent (came «data») (came objects) l (came counts)) table layout (came glyphs) (came classes) (came cuts)
+        → Wrote (lent (came «data») (came objects) l (came counts)) table (came cuts) (left «data») (left objects) r)
+        ⌝ }
+{
+    let head = objects[2 * (table as usize)] as usize;
+    let end = write_objects(
+        data,
+        objects,
+        glyphs,
+        classes,
+        cuts,
+        layout,
+        head,
+        counts[0] as usize,
+        counts[1] as usize,
+    );
+    keep_items(data, objects, table, layout, cuts[0]);
+    end
+}
+
+// The numbers of the new tables, at the front of the result list.
+fn number_tables(new_tables: &mut [u32], first: u32, per_table: usize, count: usize)
+    requires { ⌜ (count ≤ length (now «new_tables»)) × (first + «per_table» * count < 4294967296) ⌝ }
+    ensures { λ _. ⌜ left «new_tables» ≡ put (came «new_tables») 0 (upto (λ j. first + «per_table» * j) count) ⌝ }
+{
+    let mut j: usize = 0;
+    while j < count {
+        new_tables[j] = (first as usize + per_table * j) as u32;
+        j += 1;
+    }
+}
+
+// Splits the table at `cuts`.
+pub fn carry_out(
+    data: &mut [u8],
+    objects: &mut [u32],
+    links: &mut [u32],
+    counts: &mut [u32; 3],
+    table: u32,
+    opened: PairTable,
+    glyphs: &[u16],
+    classes: &[u16],
+    cuts: &[u16],
+    new_tables: &mut [u32],
+)
+    requires { ⌜ Carrying (storeNow «data» objects links counts) table opened (now glyphs) (now classes) (now cuts) (now «new_tables») ⌝ }
+    ensures { λ _. ⌜
+        Carried (storeCame «data» objects links counts) table (came cuts) (came «new_tables») (storeLeft «data» objects links counts)
+        (left «new_tables»)
+        ⌝ }
+{
+    let layout = opened.layout;
+    let class2 = opened.class2;
+    let count = cuts.len();
+    let bytes = write_bytes(data, objects, counts, table, layout, glyphs, classes, cuts);
+    let rows = part_links(links, counts, table, layout, cuts, class2.object);
+    number_tables(
+        new_tables,
+        counts[1],
+        objects_per_table(layout.format),
+        count,
+    );
+    let byte_count = bytes as u32;
+    let object_count = counts[1] + (needed_objects(layout.format, count) as u32);
+    let link_count = rows as u32;
+    // Stored whole, so that the array's length is known.
+    *counts = [byte_count, object_count, link_count];
+}

@@ -1,0 +1,21 @@
+-- `callers::plan` meets its contract: the cut plan's equation gives what is promised. Assumes nothing.
+use borrow.Author.Needs.{needs}
+use Rattle.promise_pairs.proofs.Calls.{plan-keeps}
+use Rattle.promise_callers.proofs.plan.Statement.{statement}
+use Rattle.promise_callers.proofs.plan.Tie as tie
+
+returns : tie.Need-returns
+returns c = plan-keeps _ _ _ _ _ (c .before .before .before .before .before .before .before .before .before .before .before .before .cut-plan .ensures)
+
+pub plan-spec : {M : Type 1} → statement M
+plan-spec =
+    tie.close
+    (tie.spec
+    (λ c κs. search needs)
+    (λ c. search needs)
+    (λ c. search needs)
+    (λ c. search needs)
+    (λ c. search needs)
+    (λ c. search needs)
+    (λ c. search needs)
+    returns)

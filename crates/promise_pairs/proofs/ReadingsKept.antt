@@ -1,0 +1,42 @@
+-- The pair reading takes the old table and each resulting one. Assumes nothing.
+use Prim.Native.Nat.{ℕ, zero, suc, _<_}
+use mathlib.Core.Path.{_≡_, ap}
+use mathlib.Core.List.{List}
+use mathlib.Core.Option.{Option, none}
+use native.Mathlib.Omega.{arith}
+use lib.ListN.{length, getD}
+use Rattle.folds.proofs.Folds.{length-upto}
+use Rattle.folds.proofs.FromTheFront.{upto-at}
+use Rattle.store_rules.specs.Store.{Store}
+use Rattle.store_rules.specs.Appended.{newNumber}
+use Rattle.pair_rules.specs.Table.{cutPlaces, shape}
+use Rattle.pair_rules.specs.Written.{newTables, perTable}
+use Rattle.pair_rules.specs.Pairs.{pairOf}
+use Rattle.call_rules.specs.Answers.{firstCase}
+use Rattle.pair_rules.specs.Calls.{readCases, pairCall, reported, settlePair}
+use Rattle.call_rules.specs.Scratch.{Scratch}
+use Rattle.pair_rules.proofs.Checks.{reads-no-case}
+use Rattle.promise_pairs.specs.Demands.{Octets, Splits, resulting, storeThen, ReadingsKept}
+use Rattle.promise_pairs.proofs.Ready.{splits-ready}
+use Rattle.promise_pairs.proofs.WrittenAfresh.{written-afresh}
+
+takes : (s : Store) (t a b : ℕ) → firstCase (readCases s t) ≡ none → pairCall s t a b ≡ reported 0 (pairOf s t a b)
+unfolding pairCall settlePair
+takes s t a b e = ap (λ (o : Option ℕ). settlePair o (pairOf s t a b)) e
+
+-- each of the resulting tables can be read
+each-read : (s : Store) (t : ℕ) (w : Scratch) (list : List ℕ) → Octets s → Splits s t w list → (i : ℕ) → i < length (resulting s t) → firstCase (readCases (storeThen s t w list) (getD (resulting s t) i 0)) ≡ none
+unfolding newTables
+each-read s t w list octets p zero l = written-afresh s t w list octets p .kept .readable
+each-read s t w list octets p (suc j) l =
+    let cs = cutPlaces s t in
+    let m : j < length cs = omega (arith, length-upto (newNumber s (perTable (shape s t))) (length cs)) in
+    rw (upto-at (newNumber s (perTable (shape s t))) (length cs) j 0 m) (written-afresh s t w list octets p .fresh j m .readable)
+
+-- "Pairs kept", of the exported reading
+pub readings-kept : ReadingsKept
+readings-kept s t w list octets p a b =
+    let (g, e) = splits-ready s t w list p in (
+      takes s t a b (reads-no-case s t (g .reads)),
+      λ i l. takes (storeThen s t w list) (getD (resulting s t) i 0) a b (each-read s t w list octets p i l),
+    )

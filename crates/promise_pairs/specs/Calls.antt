@@ -1,0 +1,70 @@
+-- The demands, of what a call leaves in the caller's buffers: s, t, w and list are what it was lent, and o is what it answers and what then stands there.
+-- Assumes nothing.
+use Prim.Native.Nat.{ℕ, _<_}
+use mathlib.Core.Path.{_≡_}
+use mathlib.Core.Bool.{true, false, cond}
+use mathlib.Core.List.{List, [], _∷_}
+use lib.ListN.{length, replicate}
+use lib.IntN.{pos}
+use lib.Dec.{eqb}
+use Rattle.folds.specs.Lists.{put, part}
+use Rattle.store_rules.specs.Store.{Store, sound, bytesOf, childAt, headOf, tailOf}
+use Rattle.pair_rules.specs.Table.{cutPlaces}
+use Rattle.pair_rules.specs.Written.{newTables}
+use Rattle.pair_rules.specs.Pairs.{noPair, pairOf}
+use Rattle.call_rules.specs.Scratch.{Scratch, cleared}
+use Rattle.call_rules.specs.Outcomes.{Outcome}
+use Rattle.pair_rules.specs.Calls.{PairOutcome, splitCall, pairCall, reported, scratchShort}
+use Rattle.promise_pairs.specs.Demands.{Unchanged, AllAfresh, Octets}
+
+-- the tables to read then: "the kept table and then the new ones in order", as the list has them
+abbrev pub inOrder : ℕ → Outcome → List ℕ
+inOrder t o = t ∷ part (o .list) 0 (o .count)
+
+-- pair readings of several tables, one after the other: the first with a pair decides
+unfoldable pub readInOrder : Store → List ℕ → ℕ → ℕ → PairOutcome
+readInOrder s [] a b = reported 0 noPair
+readInOrder s (u ∷ us) a b = cond (eqb (pairCall s u a b .found) 1) (pairCall s u a b) (readInOrder s us a b)
+
+-- after a split
+pub record SplitLeaves (s : Store) (t : ℕ) (list : List ℕ) (o : Outcome) : Type 0 where
+  pub answers : o .answer ≡ 0
+  -- "The new-table count equals the cuts of the rule"
+  pub count : o .count ≡ length (cutPlaces s t)
+  pub tables : o .list ≡ put list 0 (newTables s t (cutPlaces s t))
+  -- "reading the kept table and then the new ones in order gives, for every two glyphs, what the old table gave"
+  pub pairs : (a b : ℕ) → readInOrder (o .store) (inOrder t o) a b ≡ pairCall s t a b
+  -- "Each table with its coverage and first class definition is what writing its range afresh would give."
+  pub afresh : AllAfresh s t (o .store) (cutPlaces s t)
+  -- "Every other old object keeps its bytes and links."
+  pub others : (i : ℕ) → i < s .objectCount → (i ≡ t → ⊥)
+      → (headOf (o .store) i ≡ headOf s i) × (tailOf (o .store) i ≡ tailOf s i) × (bytesOf (o .store) i ≡ bytesOf s i) × ((q : ℕ) → childAt (o .store) i q ≡ childAt s i q)
+  -- "Splitting the kept table again adds and changes nothing."
+  pub again : (v : Scratch) (list′ : List ℕ) → scratchShort (o .store) t v ≡ false
+      → (splitCall (o .store) t v list′ .answer ≡ 0) × Unchanged (o .store) v list′ (splitCall (o .store) t v list′)
+  -- the store can be lent again
+  pub sounds : sound (o .store) ≡ true
+  pub octets : Octets (o .store)
+
+-- a split
+pub record SplitKeeps (s : Store) (t : ℕ) (w : Scratch) (list : List ℕ) (o : Outcome) : Type 0 where
+  -- "After a refusal the store, its counts and the list of new tables are as they came, the scratch is zero, zero new tables are reported."
+  pub refused : (o .answer ≡ 0 → ⊥) → Unchanged s w list o
+  -- "With no cut, 0 also changes nothing."
+  pub noneNew : o .count ≡ 0 → Unchanged s w list o
+  pub zero : o .scratch ≡ cleared w
+  pub leaves : 0 < o .count → SplitLeaves s t list o
+
+-- a cut plan
+pub record PlanKeeps (s : Store) (t : ℕ) (w : Scratch) (list : List ℕ) (o : Outcome) : Type 0 where
+  pub refused : (o .answer ≡ 0 → ⊥) → Unchanged s w list o
+  pub reads : o .store ≡ s
+  pub zero : o .scratch ≡ cleared w
+  pub places : 0 < o .count → (o .answer ≡ 0) × (o .count ≡ length (cutPlaces s t)) × (o .list ≡ put list 0 (cutPlaces s t))
+
+-- a pair reading
+pub record PairKeeps (s : Store) (t a b : ℕ) (o : PairOutcome) : Type 0 where
+  -- "refuses by 1 to 5 in this order with no pair and sixteen zeros"
+  pub refused : (o .answer ≡ 0 → ⊥) → (o .found ≡ 0) × (o .values ≡ replicate 16 (pos 0))
+  -- where there is a pair, it is the table's own
+  pub pairs : o .found ≡ 1 → o ≡ reported 0 (pairOf s t a b)

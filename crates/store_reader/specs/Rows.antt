@@ -1,0 +1,30 @@
+-- The order of link rows as an order of numbers, and where a parent's rows begin. Assumes nothing.
+use Prim.Native.Nat.{ℕ, _+_, _*_, _<_, _≤_}
+use mathlib.Core.List.{List}
+use lib.ListN.{length, getD}
+use Rattle.store_rules.specs.Store.{perLink}
+
+-- object i of these rows lies within n bytes
+pub record Inside (n : ℕ) (o : List ℕ) (i : ℕ) : Type 0 where
+  pub row : 2 * i + 1 < length o
+  pub ordered : getD o (2 * i) 0 ≤ getD o (2 * i + 1) 0
+  pub inside : getD o (2 * i + 1) 0 ≤ n
+
+-- parent and position as one number: as a position has 32 bits, numbers ascend as the pairs do
+abbrev pub keyOf : ℕ → ℕ → ℕ
+keyOf p q = 4294967296 * p + q
+
+-- row k's parent and position
+abbrev pub rowKey : List ℕ → ℕ → ℕ
+rowKey l k = keyOf (getD l (perLink * k + 0) 0) (getD l (perLink * k + 1) 0)
+
+-- there are m rows, "strictly ascending by (parent, position)"
+pub record InOrder (l : List ℕ) (m : ℕ) : Type 0 where
+  pub room : perLink * m ≤ length l
+  pub rising : (j k : ℕ) → j < k → k < m → rowKey l j < rowKey l k
+
+-- r is the first of the m rows at or past the key, m where there is none
+pub record FirstRow (l : List ℕ) (m key r : ℕ) : Type 0 where
+  pub within : r ≤ m
+  pub below : (k : ℕ) → k < r → rowKey l k < key
+  pub above : (k : ℕ) → r ≤ k → k < m → key ≤ rowKey l k

@@ -1,0 +1,264 @@
+// The object store that the caller lends: whether it is sound, an object's bytes, a parent's link rows, and the child at a position.
+ghost use Prim.Native.Nat.{ℕ, _+_, _-_, _*_, _≤_, _<_, min};
+ghost use mathlib.Core.Path.{_≡_};
+ghost use mathlib.Core.List.{List};
+ghost use lib.ListN.{length, getD};
+ghost use lib.Dec.{leb};
+ghost use Rattle.folds.specs.Folds.{all, before};
+ghost use Rattle.store_rules.specs.Store.{lent, perLink, bytesOf, objectFits, ascends, linkFits, sound, handedOut, childAt};
+ghost use Rattle.folds.specs.Moments.{came};
+ghost use Rattle.store_rules.specs.Moments.{storeCame};
+ghost use Rattle.store_reader.specs.Rows.{Inside, keyOf, rowKey, InOrder, FirstRow};
+ghost use Rattle.store_reader.specs.Children.{asChild};
+
+// The numbers of a link row, and where each stands in it.
+pub const PER_LINK: usize = 4;
+
+pub const PARENT: usize = 0;
+
+pub const POSITION: usize = 1;
+
+pub const WIDTH: usize = 2;
+
+pub const CHILD: usize = 3;
+
+// What a look for the child at a position finds.
+pub enum Child {
+    Of(u32),
+    Nowhere,
+}
+
+// The tail of the object before object `i`, 0 before the first.
+fn tail_before(objects: &[u32], i: usize) -> u32
+    requires { ⌜ 2 * i ≤ length (now objects) ⌝ }
+    ensures { λ r. ⌜ r ≡ before (λ j. getD (came objects) (2 * j + 1) 0) i ⌝ }
+{
+    if i == 0 {
+        return 0;
+    }
+    let j = i - 1;
+    objects[2 * j + 1]
+}
+
+// Whether object row `i` fits: head ≤ tail ≤ data in use, and its head is at or after the tail before it.
+fn object_fits(objects: &[u32], counts: &[u32; 3], i: usize) -> bool
+    requires { ⌜ 2 * i + 1 < length (now objects) ⌝ }
+    ensures { λ r. ⌜ ((b l : List ℕ) → r ≡ objectFits (lent b (came objects) l (came counts)) i) ⌝ }
+{
+    let head = objects[2 * i];
+    let tail = objects[2 * i + 1];
+    if head < tail_before(objects, i) {
+        return false;
+    }
+    if tail < head {
+        return false;
+    }
+    tail <= counts[0]
+}
+
+// Whether each object row in use fits.
+fn objects_fit(objects: &[u32], counts: &[u32; 3]) -> bool
+    requires { ⌜ 2 * getD (now counts) 1 0 ≤ length (now objects) ⌝ }
+    ensures { λ r. ⌜ ((b l : List ℕ) → r ≡ all (objectFits (lent b (came objects) l (came counts))) (getD (came counts) 1 0)) ⌝ }
+{
+    let count = counts[1] as usize;
+    let mut i: usize = 0;
+    while i < count {
+        if !object_fits(objects, counts, i) {
+            return false;
+        }
+        i += 1;
+    }
+    true
+}
+
+// Parent and position as one number.
+fn key_of(parent: u32, position: u32) -> u64
+    ensures { λ r. ⌜ r ≡ keyOf parent position ⌝ }
+{
+    4294967296 * (parent as u64) + (position as u64)
+}
+
+// Parent and position of link row `k` as one number.
+fn key_at(links: &[u32], k: usize) -> u64
+    requires { ⌜ perLink * k + 1 < length (now links) ⌝ }
+    ensures { λ r. ⌜ r ≡ rowKey (came links) k ⌝ }
+{
+    key_of(links[PER_LINK * k + PARENT], links[PER_LINK * k + POSITION])
+}
+
+// Whether link row `k` stands behind the row before it.
+fn row_ascends(links: &[u32], k: usize) -> bool
+    requires { ⌜ perLink * k + 1 < length (now links) ⌝ }
+    ensures { λ r. ⌜ ((b o c : List ℕ) → r ≡ ascends (lent b o (came links) c) k) ⌝ }
+{
+    if k == 0 {
+        return true;
+    }
+    key_at(links, k - 1) < key_at(links, k)
+}
+
+// Whether position + 2 is within object `i`.
+fn position_fits(objects: &[u32], i: usize, position: u32) -> bool
+    requires { ⌜ 2 * i + 1 < length (now objects) ⌝ }
+    ensures { λ r. ⌜ r ≡ leb (position + 2) (getD (came objects) (2 * i + 1) 0 - getD (came objects) (2 * i) 0) ⌝ }
+{
+    (objects[2 * i] as u64) + (position as u64) + 2 <= (objects[2 * i + 1] as u64)
+}
+
+// Whether link row `k` fits: parent and child in use, width 2, position + 2 within the parent, and behind the row before it.
+fn link_fits(objects: &[u32], links: &[u32], counts: &[u32; 3], k: usize) -> bool
+    requires { ⌜ (2 * getD (now counts) 1 0 ≤ length (now objects)) × (perLink * k + 3 < length (now links)) ⌝ }
+    ensures { λ r. ⌜ ((b : List ℕ) → r ≡ linkFits (lent b (came objects) (came links) (came counts)) k) ⌝ }
+{
+    let parent = links[PER_LINK * k + PARENT];
+    if counts[1] <= parent {
+        return false;
+    }
+    if counts[1] <= links[PER_LINK * k + CHILD] {
+        return false;
+    }
+    if links[PER_LINK * k + WIDTH] != 2 {
+        return false;
+    }
+    if !position_fits(objects, parent as usize, links[PER_LINK * k + POSITION]) {
+        return false;
+    }
+    row_ascends(links, k)
+}
+
+// Whether each link row in use fits.
+fn links_fit(objects: &[u32], links: &[u32], counts: &[u32; 3]) -> bool
+    requires { ⌜ (2 * getD (now counts) 1 0 ≤ length (now objects)) × (perLink * getD (now counts) 2 0 ≤ length (now links)) ⌝ }
+    ensures { λ r. ⌜ ((b : List ℕ) → r ≡ all (linkFits (lent b (came objects) (came links) (came counts))) (getD (came counts) 2 0)) ⌝ }
+{
+    let count = counts[2] as usize;
+    let mut k: usize = 0;
+    while k < count {
+        if !link_fits(objects, links, counts, k) {
+            return false;
+        }
+        k += 1;
+    }
+    true
+}
+
+// Whether a count fits the lent length and the maximum.
+fn count_fits(count: u32, length: usize, most: usize) -> bool
+    ensures { λ r. ⌜ r ≡ leb count (min length most) ⌝ }
+{
+    if length < (count as usize) {
+        return false;
+    }
+    (count as usize) <= most
+}
+
+// Whether the lent store is sound.
+pub fn is_sound(data: &[u8], objects: &[u32], links: &[u32], counts: &[u32; 3]) -> bool
+    ensures { λ r. ⌜ r ≡ sound (storeCame «data» objects links counts) ⌝ }
+{
+    if !count_fits(counts[0], data.len(), 16777216) {
+        return false;
+    }
+    if !count_fits(counts[1], objects.len() / 2, 65536) {
+        return false;
+    }
+    if !count_fits(counts[2], links.len() / PER_LINK, 262144) {
+        return false;
+    }
+    if !objects_fit(objects, counts) {
+        return false;
+    }
+    links_fit(objects, links, counts)
+}
+
+// The length of object `i`.
+pub fn size_of(objects: &[u32], i: usize) -> u32
+    requires { ⌜ (2 * i + 1 < length (now objects)) × (getD (now objects) (2 * i) 0 ≤ getD (now objects) (2 * i + 1) 0) ⌝ }
+    ensures { λ r. ⌜ r ≡ getD (came objects) (2 * i + 1) 0 - getD (came objects) (2 * i) 0 ⌝ }
+{
+    objects[2 * i + 1] - objects[2 * i]
+}
+
+// The bytes of object `i`, as a part of the data.
+pub fn bytes_of<'a>(data: &'a [u8], objects: &[u32], i: usize) -> &'a [u8]
+    requires { ⌜ Inside (length (now «data»)) (now objects) i ⌝ }
+    ensures { λ r. ⌜ ((l c : List ℕ) → now r ≡ bytesOf (lent (came «data») (came objects) l c) i) ⌝ }
+{
+    let head = objects[2 * i] as usize;
+    let tail = objects[2 * i + 1] as usize;
+    &data[head..tail]
+}
+
+// The bytes of object `table`, an empty part where the store is not sound or the object not in use.
+pub fn object_bytes<'a>(
+    data: &'a [u8],
+    objects: &[u32],
+    links: &[u32],
+    counts: &[u32; 3],
+    table: u32,
+) -> &'a [u8]
+    ensures { λ r. ⌜ now r ≡ handedOut (storeCame «data» objects links counts) table ⌝ }
+{
+    if !is_sound(data, objects, links, counts) {
+        return &data[0..0];
+    }
+    if counts[1] <= table {
+        return &data[0..0];
+    }
+    bytes_of(data, objects, table as usize)
+}
+
+// The first of the `count` link rows at or past `position` of `parent`, by halving; `count` where there is none.
+pub fn first_row(links: &[u32], count: usize, parent: u32, position: u32) -> usize
+    requires { ⌜ InOrder (now links) count ⌝ }
+    ensures { λ r. ⌜ FirstRow (came links) count (keyOf parent position) r ⌝ }
+{
+    let key = key_of(parent, position);
+    let mut lo: usize = 0;
+    let mut hi = count;
+    while lo < hi {
+        let mid = lo + (hi - lo) / 2;
+        if key_at(links, mid) < key {
+            lo = mid + 1;
+        } else {
+            hi = mid;
+        }
+    }
+    lo
+}
+
+// The same, row by row from `start` on, before which every row stands before that position of that parent.
+pub fn next_row(links: &[u32], count: usize, start: usize, parent: u32, position: u32) -> usize
+    requires { ⌜ InOrder (now links) count × (start ≤ count) × ((k : ℕ) → k < start → rowKey (now links) k < keyOf parent position) ⌝ }
+    ensures { λ r. ⌜ FirstRow (came links) count (keyOf parent position) r ⌝ }
+{
+    let key = key_of(parent, position);
+    let mut row = start;
+    while row < count {
+        if key <= key_at(links, row) {
+            return row;
+        }
+        row += 1;
+    }
+    row
+}
+
+// The child that the link at `position` of `parent` leads to.
+pub fn child_at(links: &[u32], counts: &[u32; 3], parent: u32, position: u32) -> Child
+    requires { ⌜ InOrder (now links) (getD (now counts) 2 0) ⌝ }
+    ensures { λ r. ⌜ ((b o : List ℕ) → r ≡ asChild (childAt (lent b o (came links) (came counts)) parent position)) ⌝ }
+{
+    let count = counts[2] as usize;
+    let row = first_row(links, count, parent, position);
+    if count <= row {
+        return Child::Nowhere;
+    }
+    if links[PER_LINK * row + PARENT] != parent {
+        return Child::Nowhere;
+    }
+    if links[PER_LINK * row + POSITION] != position {
+        return Child::Nowhere;
+    }
+    Child::Of(links[PER_LINK * row + CHILD])
+}

@@ -1,0 +1,9 @@
+pub mod Sound
+pub mod Reached
+pub mod Reaching
+pub mod Lookups
+pub mod LinkRows
+pub mod LinksAscend
+pub mod ObjectRows
+pub mod Slots
+pub mod Bytes

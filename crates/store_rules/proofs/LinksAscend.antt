@@ -1,0 +1,76 @@
+-- Links in ascending order of parent and position, and that they stay so when some are left out, moved or put behind. Assumes nothing.
+use Prim.Native.Nat.{ℕ, zero, suc, _+_, _<_, _≤_}
+use mathlib.Core.Path.{_≡_, refl, sym, subst, _∙_}
+use mathlib.Core.Bool.{Bool, true, false, cond}
+use mathlib.Core.List.{List, [], _∷_, _++_, map}
+use mathlib.Core.Logic.{_⊎_, inl, inr, ⊎-elim}
+use native.Mathlib.Omega.{arith}
+use native.Mathlib.Nat.{not-suc-le-zero}
+use lib.ListN.{length, getD}
+use Rattle.folds.specs.Folds.{flat, upto}
+use Rattle.folds.specs.Lists.{sift}
+use Rattle.folds.proofs.Tests.{either}
+use Rattle.folds.proofs.Folds.{upto-cons}
+use Rattle.store_rules.specs.Store.{Link}
+
+-- (x, y) is (p, q) or comes after it
+abbrev pub From : ℕ → ℕ → ℕ → ℕ → Type 0
+From p q x y = (p < x) ⊎ ((p ≡ x) × (q ≤ y))
+
+-- the rows ascend from (p, q) on, and end before parent e
+abbrev pub Climb : ℕ → ℕ → ℕ → List Link → Type 0
+Climb p q e [] = From p q e 0
+Climb p q e (l ∷ ls) = From p q (l .parent) (l .position) × Climb (l .parent) (l .position + 1) e ls
+
+from-trans : (p q x y v w : ℕ) → From p q x y → From x y v w → From p q v w
+from-trans p q x y v w (inl a) (inl b) = inl (omega arith)
+from-trans p q x y v w (inl a) (inr (b, c)) = inl (omega arith)
+from-trans p q x y v w (inr (a, b)) (inl c) = inl (omega arith)
+from-trans p q x y v w (inr (a, b)) (inr (c, d)) = inr (a ∙ c, omega arith)
+
+from-next : (p q x y : ℕ) → From p q x y → From p q x (y + 1)
+from-next p q x y a = from-trans p q x y x (y + 1) a (inr (refl, omega arith))
+
+climb-lower : (ls : List Link) (p q x y e : ℕ) → From p q x y → Climb x y e ls → Climb p q e ls
+climb-lower [] p q x y e a c = from-trans p q x y e 0 a c
+climb-lower (l ∷ ls) p q x y e a c = (from-trans p q x y (l .parent) (l .position) a (c .0), c .1)
+
+pub climb-upper : (ls : List Link) (p q e e′ : ℕ) → e ≤ e′ → Climb p q e ls → Climb p q e′ ls
+climb-upper [] p q e e′ h c = ⊎-elim (λ a. inl (omega arith)) (λ (a, b). ⊎-elim (λ lt. inl (omega arith)) (λ ge. inr (omega arith, b)) (either e e′)) c
+climb-upper (l ∷ ls) p q e e′ h c = (c .0, climb-upper ls (l .parent) (l .position + 1) e e′ h (c .1))
+
+pub climb-append : (xs ys : List Link) (p q m e : ℕ) → Climb p q m xs → Climb m 0 e ys → Climb p q e (xs ++ ys)
+climb-append [] ys p q m e a b = climb-lower ys p q m 0 e a b
+climb-append (x ∷ xs) ys p q m e a b = (a .0, climb-append xs ys (x .parent) (x .position + 1) m e (a .1) b)
+
+pub climb-flat : (f : ℕ → List Link) (at : ℕ → ℕ) (n : ℕ) → ((j : ℕ) → j < n → Climb (at j) 0 (at (suc j)) (f j)) → Climb (at 0) 0 (at n) (flat f n)
+unfolding flat
+climb-flat f at zero h = inr (refl, omega arith)
+climb-flat f at (suc n) h = climb-append (flat f n) (f n) (at 0) 0 (at n) (at (suc n)) (climb-flat f at n (λ j l. h j (omega arith))) (h n (omega arith))
+
+-- those that pass a test, each at its place
+pub climb-stay : (f : Link → Link) (p : Link → Bool) → ((l : Link) → f l .parent ≡ l .parent) → ((l : Link) → f l .position ≡ l .position)
+    → (ls : List Link) (x y e : ℕ) → Climb x y e ls → Climb x y e (map f (sift p ls))
+unfolding sift
+climb-stay f p a b [] x y e c = c
+climb-stay f p a b (l ∷ ls) x y e c = go (p l) (climb-stay f p a b ls (l .parent) (l .position + 1) e (c .1))
+  where
+    go : (z : Bool) → Climb (l .parent) (l .position + 1) e (map f (sift p ls)) → Climb x y e (map f (cond z (l ∷ sift p ls) (sift p ls)))
+    go true i = (rw (a l, b l) (c .0), rw (a l, b l) i)
+    go false i = climb-lower (map f (sift p ls)) x y (l .parent) (l .position + 1) e (from-next x y (l .parent) (l .position) (c .0)) i
+
+-- ---- by index
+
+pub climb-upto : (f : ℕ → Link) (n p q e : ℕ) → ((k : ℕ) → suc k < n → From (f k .parent) (f k .position + 1) (f (suc k) .parent) (f (suc k) .position))
+    → ((k : ℕ) → k < n → f k .parent < e) → p < e → (0 < n → From p q (f 0 .parent) (f 0 .position)) → Climb p q e (upto f n)
+unfolding flat
+climb-upto f zero p q e h u l s = inl l
+climb-upto f (suc n) p q e h u l s =
+    subst (Climb p q e) (sym (upto-cons f n))
+    (s (omega arith), climb-upto (λ k. f (suc k)) n (f 0 .parent) (f 0 .position + 1) e (λ k m. h (suc k) (omega arith)) (λ k m. u (suc k) (omega arith)) (u 0 (omega arith)) (λ m. h 0 (omega arith)))
+
+pub climb-next : (ls : List Link) (p q e : ℕ) → Climb p q e ls → (k : ℕ) → suc k < length ls → (d : Link) → From (getD ls k d .parent) (getD ls k d .position + 1) (getD ls (suc k) d .parent) (getD ls (suc k) d .position)
+climb-next [] p q e c k h d = absurd (not-suc-le-zero h)
+climb-next (x ∷ []) p q e c k h d = absurd (omega arith)
+climb-next (x ∷ y ∷ ls) p q e c zero h d = c .1 .0
+climb-next (x ∷ y ∷ ls) p q e c (suc k) h d = climb-next (y ∷ ls) (x .parent) (x .position + 1) e (c .1) k (omega arith) d

@@ -1,0 +1,146 @@
+-- The child at a parent's position, looked up in lists of links and in a store. Assumes nothing.
+use Prim.Native.Nat.{ℕ, zero, suc, _<_, _≤_}
+use mathlib.Core.Path.{_≡_, refl, sym, ap, _∙_}
+use mathlib.Core.Bool.{Bool, true, false, cond, _&&_}
+use mathlib.Core.List.{List, [], _∷_, _++_, map}
+use mathlib.Core.Logic.{⊎-elim}
+use mathlib.Core.Option.{Option, some, none, Option·getD}
+use native.Mathlib.Omega.{arith}
+use native.Mathlib.Nat.{not-suc-le-zero, eq-or-lt-of-le, le-of-suc-le-suc}
+use lib.Dec.{eqb}
+use borrow.Author.Tests.{eqb-true, ne-eqb, eq-eqb}
+use Rattle.folds.specs.Folds.{orElse, flat, upto}
+use Rattle.folds.specs.Lists.{sift}
+use Rattle.folds.proofs.Tests.{and-both, true-false}
+use Rattle.folds.proofs.Each.{Each}
+use Rattle.store_rules.specs.Store.{Link, lookup, Store, linkAt, parentOf, positionOf, childOf, childAt, linksOf, bytesOf, linkedBytes, ofParent}
+use Rattle.store_rules.specs.Reach.{onCycle}
+use Rattle.store_rules.proofs.Sound.{Fits}
+use Rattle.store_rules.proofs.Reached.{reached-all, Reach}
+
+-- the link is the one that is looked up
+abbrev pub hit : Link → ℕ → ℕ → Bool
+hit l p q = eqb (l .parent) p && eqb (l .position) q
+
+pub hit-both : (l : Link) (p q : ℕ) → hit l p q ≡ true → (l .parent ≡ p) × (l .position ≡ q)
+hit-both l p q h = let (a, b) = and-both (eqb (l .parent) p) (eqb (l .position) q) h in (eqb-true (l .parent) p a, eqb-true (l .position) q b)
+
+-- ---- in one list after another
+
+pub or-else-none : (o : Option ℕ) → orElse o none ≡ o
+or-else-none (some i) = refl
+or-else-none none = refl
+
+pub lookup-append : (xs ys : List Link) (p q : ℕ) → lookup (xs ++ ys) p q ≡ orElse (lookup xs p q) (lookup ys p q)
+unfolding lookup
+lookup-append [] ys p q = refl
+lookup-append (x ∷ xs) ys p q = go (eqb (x .parent) p && eqb (x .position) q) (lookup-append xs ys p q)
+  where
+    go : (b : Bool) → lookup (xs ++ ys) p q ≡ orElse (lookup xs p q) (lookup ys p q)
+        → cond b (some (x .child)) (lookup (xs ++ ys) p q) ≡ orElse (cond b (some (x .child)) (lookup xs p q)) (lookup ys p q)
+    go true e = refl
+    go false e = e
+
+pub lookup-none-flat : (f : ℕ → List Link) (n p q : ℕ) → ((j : ℕ) → j < n → lookup (f j) p q ≡ none) → lookup (flat f n) p q ≡ none
+unfolding flat lookup
+lookup-none-flat f zero p q h = refl
+lookup-none-flat f (suc n) p q h = lookup-append (flat f n) (f n) p q ∙ rw (lookup-none-flat f n p q (λ j l. h j (omega arith)), h n (omega arith))
+
+-- one piece of several
+pub lookup-piece : (f : ℕ → List Link) (n j p q : ℕ) → j < n → ((i : ℕ) → (i ≡ j → ⊥) → lookup (f i) p q ≡ none) → lookup (flat f n) p q ≡ lookup (f j) p q
+unfolding flat lookup
+lookup-piece f zero j p q l h = absurd (not-suc-le-zero l)
+lookup-piece f (suc n) j p q l h =
+    lookup-append (flat f n) (f n) p q
+    ∙ ⊎-elim
+    (λ e. rw (lookup-none-flat f n p q (λ i m. h i (omega arith)), e))
+    (λ lt. rw (lookup-piece f n j p q lt h, h n (omega arith)) (or-else-none (lookup (f j) p q)))
+    (eq-or-lt-of-le (le-of-suc-le-suc l))
+
+-- ---- links that are sifted and changed
+
+-- what is found, changed
+abbrev pub mapped : (ℕ → ℕ) → Option ℕ → Option ℕ
+mapped h (some c) = some (h c)
+mapped h none = none
+
+pub mapped-id : (h : ℕ → ℕ) → ((c : ℕ) → h c ≡ c) → (o : Option ℕ) → mapped h o ≡ o
+mapped-id h e (some c) = ap some (e c)
+mapped-id h e none = refl
+
+module _ (f : Link → Link) (p : Link → Bool) (u q u′ q′ : ℕ) where
+  -- where the looked up one is kept, and no other becomes it
+  pub lookup-moved : (h : ℕ → ℕ) → ((l : Link) → p l ≡ true → hit (f l) u′ q′ ≡ hit l u q) → ((l : Link) → hit l u q ≡ true → p l ≡ true)
+      → ((l : Link) → hit l u q ≡ true → f l .child ≡ h (l .child)) → (ls : List Link) → lookup (map f (sift p ls)) u′ q′ ≡ mapped h (lookup ls u q)
+  unfolding lookup sift
+  lookup-moved h a b c [] = refl
+  lookup-moved h a b c (l ∷ ls) = go (hit l u q) (p l) (a l) (b l) (c l) (lookup-moved h a b c ls)
+    where
+      go : (x y : Bool) → (y ≡ true → hit (f l) u′ q′ ≡ x) → (x ≡ true → y ≡ true) → (x ≡ true → f l .child ≡ h (l .child))
+          → lookup (map f (sift p ls)) u′ q′ ≡ mapped h (lookup ls u q)
+          → lookup (map f (cond y (l ∷ sift p ls) (sift p ls))) u′ q′ ≡ mapped h (cond x (some (l .child)) (lookup ls u q))
+      go true true a b c e = rw (a refl, c refl)
+      go true false a b c e = true-false (sym (b refl))
+      go false true a b c e = rw (a refl) e
+      go false false a b c e = e
+
+  -- where none becomes it
+  pub lookup-lost : ((l : Link) → p l ≡ true → hit (f l) u′ q′ ≡ false) → (ls : List Link) → lookup (map f (sift p ls)) u′ q′ ≡ none
+  unfolding lookup sift
+  lookup-lost a [] = refl
+  lookup-lost a (l ∷ ls) = go (p l) (a l) (lookup-lost a ls)
+    where
+      go : (y : Bool) → (y ≡ true → hit (f l) u′ q′ ≡ false) → lookup (map f (sift p ls)) u′ q′ ≡ none → lookup (map f (cond y (l ∷ sift p ls) (sift p ls))) u′ q′ ≡ none
+      go true a e = rw (a refl) e
+      go false a e = e
+
+-- links of parents below n, where the parents stay
+pub lookup-above : (f : Link → Link) (p : Link → Bool) (n u q : ℕ) → n ≤ u → ((l : Link) → f l .parent ≡ l .parent) → (ls : List Link) → Each (λ l. l .parent < n) ls → lookup (map f (sift p ls)) u q ≡ none
+unfolding lookup sift
+lookup-above f p n u q h k [] a = refl
+lookup-above f p n u q h k (l ∷ ls) a = go (p l) (lookup-above f p n u q h k ls (a .1))
+  where
+    ne : f l .parent ≡ u → ⊥
+    ne e = let b : l .parent < n = a .0 in omega (arith, k l)
+
+    go : (b : Bool) → lookup (map f (sift p ls)) u q ≡ none → lookup (map f (cond b (l ∷ sift p ls) (sift p ls))) u q ≡ none
+    go true i = rw (ne-eqb (f l .parent) u ne) i
+    go false i = i
+
+-- ---- in a store
+
+-- a link that is found is one of the rows
+found-row : (s : Store) (n p q c : ℕ) → lookup (upto (linkAt s) n) p q ≡ some c → (k : ℕ) × (k < n) × (parentOf s k ≡ p) × (positionOf s k ≡ q) × (childOf s k ≡ c)
+unfolding flat lookup
+found-row s zero p q c e = let z : _≡_ {A = ℕ} 0 1 = cc in absurd (omega arith)
+found-row s (suc n) p q c e = go (lookup (upto (linkAt s) n) p q) refl (found-row s n p q c)
+  where
+    last : (b : Bool) → (eqb (parentOf s n) p && eqb (positionOf s n) q) ≡ b → cond b (some (childOf s n)) none ≡ some c → (k : ℕ) × (k < suc n) × (parentOf s k ≡ p) × (positionOf s k ≡ q) × (childOf s k ≡ c)
+    last true h f = let (x, y) = and-both (eqb (parentOf s n) p) (eqb (positionOf s n) q) h in (n, omega arith, eqb-true (parentOf s n) p x, eqb-true (positionOf s n) q y, cc)
+    last false h f = let z : _≡_ {A = ℕ} 0 1 = cc in absurd (omega arith)
+
+    go : (o : Option ℕ) → lookup (upto (linkAt s) n) p q ≡ o
+        → (lookup (upto (linkAt s) n) p q ≡ some c → (k : ℕ) × (k < n) × (parentOf s k ≡ p) × (positionOf s k ≡ q) × (childOf s k ≡ c))
+        → (k : ℕ) × (k < suc n) × (parentOf s k ≡ p) × (positionOf s k ≡ q) × (childOf s k ≡ c)
+    go (some d) h ih =
+        let f : some d ≡ some c = sym (lookup-append (upto (linkAt s) n) (linkAt s n ∷ []) p q ∙ rw h) ∙ e in
+        let (k, l, a, b, x) = ih (h ∙ f) in (k, omega arith, a, b, x)
+    go none h ih = last (eqb (parentOf s n) p && eqb (positionOf s n) q) refl (sym (lookup-append (upto (linkAt s) n) (linkAt s n ∷ []) p q ∙ rw h) ∙ e)
+
+module _ (s : Store) (t : ℕ) where
+  pub child-row : (q c : ℕ) → childAt s t q ≡ some c → (k : ℕ) × (k < s .linkCount) × (parentOf s k ≡ t) × (positionOf s k ≡ q) × (childOf s k ≡ c)
+  unfolding childAt linksOf
+  child-row q c e = found-row s (s .linkCount) t q c e
+
+  pub child-used : Fits s → (q c : ℕ) → childAt s t q ≡ some c → c < s .objectCount
+  child-used f q c e = let (k, l, a, b, x) = child-row q c e in rw x at (f .link k l .childUsed)
+
+  -- a table that is on no cycle leads to other objects
+  pub child-other : Fits s → onCycle s t ≡ false → (q c : ℕ) → childAt s t q ≡ some c → c ≡ t → ⊥
+  unfolding onCycle
+  child-other f acyclic q c e z =
+      let (k, l, a, b, x) = child-row q c e in
+      true-false (sym (reached-all s (λ k. ofParent t (linkAt s k)) f (Reach.seed k l (eq-eqb (parentOf s k) t a) (x ∙ z))) ∙ acyclic)
+
+  pub linked-some : (q c : ℕ) → childAt s t q ≡ some c → linkedBytes s t q ≡ bytesOf s c
+  linked-some q c e = ap (λ (o : Option ℕ). bytesOf s (Option·getD o 0)) e

@@ -1,0 +1,125 @@
+-- What a sound store gives, as facts on its counts, objects and links, and that these make it sound. Assumes nothing.
+use Prim.Native.Nat.{ℕ, zero, suc, _+_, _*_, _<_, _≤_}
+use mathlib.Core.Path.{_≡_}
+use mathlib.Core.Bool.{true}
+use mathlib.Core.Logic.{⊎-elim}
+use native.Mathlib.Omega.{arith}
+use native.Mathlib.Nat.{not-suc-le-zero, le-of-suc-le-suc, eq-or-lt-of-le}
+use lib.ListN.{length}
+use lib.Dec.{leb, ltb, eqb}
+use borrow.Author.Tests.{ltb-true, leb-true, eqb-true, lt-ltb, le-leb, eq-eqb}
+use Rattle.folds.specs.Folds.{all, sum, before}
+use Rattle.folds.proofs.Folds.{all-at, all-intro}
+use Rattle.folds.proofs.Joined.{and-three, and-five, three-hold, five-hold}
+use Rattle.folds.proofs.Parts.{length-part}
+use Rattle.store_rules.specs.Store.{Store, sound, byteRoom, objectRoom, linkRoom, bytesOf, headOf, tailOf, sizeOf, parentOf, positionOf, childOf, widthOf, objectFits, linkFits, ascends}
+
+-- "head ≤ tail ≤ data in use, each head at or after the tail before it"
+pub record ObjectFits (s : Store) (i : ℕ) : Type 0 where
+  pub after : before (tailOf s) i ≤ headOf s i
+  pub ordered : headOf s i ≤ tailOf s i
+  pub inside : tailOf s i ≤ s .byteCount
+
+-- "links name objects in use, width 2, position + 2 within the parent; rows strictly ascending by (parent, position)"
+pub record LinkFits (s : Store) (k : ℕ) : Type 0 where
+  pub parentUsed : parentOf s k < s .objectCount
+  pub childUsed : childOf s k < s .objectCount
+  pub wide : widthOf s k ≡ 2
+  pub inside : positionOf s k + 2 ≤ sizeOf s (parentOf s k)
+  pub rising : ascends s k ≡ true
+
+-- "counts fit the lent lengths and the maxima", and each object and each link in use fits
+pub record Fits (s : Store) : Type 0 where
+  pub bytesIn : s .byteCount ≤ length (s .bytes)
+  pub bytesMost : s .byteCount ≤ 16777216
+  pub objectsIn : 2 * s .objectCount ≤ length (s .objects)
+  pub objectsMost : s .objectCount ≤ 65536
+  pub linksIn : 4 * s .linkCount ≤ length (s .links)
+  pub linksMost : s .linkCount ≤ 262144
+  pub object : (i : ℕ) → i < s .objectCount → ObjectFits s i
+  pub link : (k : ℕ) → k < s .linkCount → LinkFits s k
+
+-- ---- sound, then these
+
+object-fits : (s : Store) (i : ℕ) → objectFits s i ≡ true → ObjectFits s i
+unfolding objectFits
+object-fits s i h =
+    let (a, b, c) = and-three (leb (before (tailOf s) i) (headOf s i)) (leb (headOf s i) (tailOf s i)) (leb (tailOf s i) (s .byteCount)) h in
+    record { after = leb-true _ _ a; ordered = leb-true _ _ b; inside = leb-true _ _ c }
+
+link-fits : (s : Store) (k : ℕ) → linkFits s k ≡ true → LinkFits s k
+unfolding linkFits
+link-fits s k h =
+    let (a, b, c, d, e) = and-five (ltb (parentOf s k) (s .objectCount)) (ltb (childOf s k) (s .objectCount)) (eqb (widthOf s k) 2) (leb (positionOf s k + 2) (sizeOf s (parentOf s k))) (ascends s k) h in
+    record { parentUsed = ltb-true _ _ a; childUsed = ltb-true _ _ b; wide = eqb-true _ _ c; inside = leb-true _ _ d; rising = e }
+
+pub sound-fits : (s : Store) → sound s ≡ true → Fits s
+unfolding sound byteRoom objectRoom linkRoom
+sound-fits s h =
+    let (d, o, l, objects, links) = and-five (leb (s .byteCount) (byteRoom s)) (leb (s .objectCount) (objectRoom s)) (leb (s .linkCount) (linkRoom s)) (all (objectFits s) (s .objectCount)) (all (linkFits s) (s .linkCount)) h in
+    let bt : s .byteCount ≤ byteRoom s = leb-true (s .byteCount) (byteRoom s) d in
+    let ot : s .objectCount ≤ objectRoom s = leb-true (s .objectCount) (objectRoom s) o in
+    let lt : s .linkCount ≤ linkRoom s = leb-true (s .linkCount) (linkRoom s) l in
+    record {
+      bytesIn = omega arith;
+      bytesMost = omega arith;
+      objectsIn = omega arith;
+      objectsMost = omega arith;
+      linksIn = omega arith;
+      linksMost = omega arith;
+      object = λ i m. object-fits s i (all-at (objectFits s) (s .objectCount) objects i m);
+      link = λ k m. link-fits s k (all-at (linkFits s) (s .linkCount) links k m);
+    }
+
+-- ---- these, then sound
+
+fits-object : (s : Store) (i : ℕ) → ObjectFits s i → objectFits s i ≡ true
+unfolding objectFits
+fits-object s i f = three-hold _ _ _ (le-leb _ _ (f .after)) (le-leb _ _ (f .ordered)) (le-leb _ _ (f .inside))
+
+fits-link : (s : Store) (k : ℕ) → LinkFits s k → linkFits s k ≡ true
+unfolding linkFits
+fits-link s k f = five-hold _ _ _ _ _ (lt-ltb _ _ (f .parentUsed)) (lt-ltb _ _ (f .childUsed)) (eq-eqb _ _ (f .wide)) (le-leb _ _ (f .inside)) (f .rising)
+
+pub fits-sound : (s : Store) → Fits s → sound s ≡ true
+unfolding sound byteRoom objectRoom linkRoom
+fits-sound s f =
+    five-hold _ _ _ _ _
+    (le-leb (s .byteCount) (byteRoom s) (omega arith))
+    (le-leb (s .objectCount) (objectRoom s) (omega arith))
+    (le-leb (s .linkCount) (linkRoom s) (omega arith))
+    (all-intro (objectFits s) (s .objectCount) (λ i m. fits-object s i (f .object i m)))
+    (all-intro (linkFits s) (s .linkCount) (λ k m. fits-link s k (f .link k m)))
+
+-- ---- what follows
+
+module _ (s : Store) (f : Fits s) where
+  -- an object ends before a later one starts
+  pub apart : (i j : ℕ) → i < j → j < s .objectCount → tailOf s i ≤ headOf s j
+  unfolding before
+  apart i zero h l = absurd (not-suc-le-zero h)
+  apart i (suc j) h l =
+      let a : tailOf s j ≤ headOf s (suc j) = f .object (suc j) l .after in
+      ⊎-elim (λ e. rw e a)
+      (λ lt. let b : tailOf s i ≤ headOf s j = apart i j lt (omega arith) in let c : headOf s j ≤ tailOf s j = f .object j (omega arith) .ordered in omega arith)
+      (eq-or-lt-of-le (le-of-suc-le-suc h))
+
+  pub size-bytes : (i : ℕ) → i < s .objectCount → length (bytesOf s i) ≡ sizeOf s i
+  unfolding bytesOf
+  size-bytes i h = let o = f .object i h in length-part (s .bytes) (headOf s i) (tailOf s i) (o .ordered) (omega (arith, f .bytesIn))
+
+  -- objects do not overlap, so that the first k of them take no more bytes than there are up to the last one's tail
+  sizes-before : (k : ℕ) → k ≤ s .objectCount → sum (sizeOf s) k ≤ before (tailOf s) k
+  unfolding sum before
+  sizes-before zero h = omega arith
+  sizes-before (suc k) h =
+      let o = f .object k (omega arith) in
+      omega (arith, sizes-before k (omega arith), o .after, o .ordered)
+
+  pub sizes-most : sum (sizeOf s) (s .objectCount) ≤ 16777216
+  unfolding before
+  sizes-most = go (s .objectCount) (sizes-before (s .objectCount) (omega arith)) (f .object)
+    where
+      go : (n : ℕ) → sum (sizeOf s) n ≤ before (tailOf s) n → ((i : ℕ) → i < n → ObjectFits s i) → sum (sizeOf s) n ≤ 16777216
+      go zero h o = omega arith
+      go (suc n) h o = omega (arith, h, o n (omega arith) .inside, f .bytesMost)

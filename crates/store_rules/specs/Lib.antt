@@ -1,0 +1,4 @@
+pub mod Store
+pub mod Reach
+pub mod Appended
+pub mod Moments

@@ -1,0 +1,1 @@
+// The store: definitions in specs/, and their laws in proofs/; no code.

@@ -1,0 +1,296 @@
+-- `walk::subgraph_size` meets its contract: found are objects that had the mark or can be reached, and what an object with the mark leads to was found
+-- or is still to come. The measure is the objects that have not the mark, and the rows left of the one before them. Assumes nothing.
+use Prim.Native.Nat.{ℕ, _+_, _-_, _*_, _<_, _≤_}
+use mathlib.Core.Path.{ap}
+use native.Mathlib.Omega.{arith}
+use lib.ListN.{getD, set, length-set}
+use denote.Ref.{now}
+use borrow.Author.Needs.{needs}
+use Rattle.folds.specs.Folds.{sum, before}
+use Rattle.folds.proofs.Tally.{count}
+use Rattle.store_rules.specs.Store.{lent}
+use Rattle.store_rules.proofs.Sound.{Fits, sound-fits, sizes-most}
+use Rattle.store_reader.specs.Rows.{keyOf, FirstRow}
+use Rattle.store_walk.proofs.Ends.{rows-start}
+use Rattle.store_walk.proofs.Marks.{marks-closed, walked, marks-bytes, walked-bytes}
+use Rattle.store_walk.proofs.Turns.{Inv, Used, used, rowChild, sizeAt, unread, start, skip, push, push-unread, pop, pop-ends, pop-unread, top-used, top-high, top-few, done, total-most, falls}
+use Rattle.store_walk.proofs.subgraph_size.Statement.{statement}
+use Rattle.store_walk.proofs.subgraph_size.Tie as tie
+
+abbrev Inv-loop : tie.InvT-loop
+Inv-loop objects links counts lo hi epoch walk₀ n sum₀ row₀ stop₀ top₀ walk sum row stop top = Inv objects links (getD counts 1 0) (getD counts 2 0) lo hi epoch walk₀ walk sum row stop top
+
+abbrev μ-loop : tie.MeasureT-loop
+μ-loop objects links counts lo hi epoch walk₀ n sum₀ row₀ stop₀ top₀ walk sum row stop top = count (unread epoch walk) (getD counts 1 0) * (getD counts 2 0 + 1) + (stop - row)
+
+-- the function's start, from the loop's head
+abbrev begin : tie.At-loop Inv-loop μ-loop → tie.Start Inv-loop μ-loop
+begin a = a .before .before .before .before .before
+
+-- what the store has, as it is sound
+fit : (s : tie.Start Inv-loop μ-loop) → Fits (lent (s .pre .1 .1 .bytes) (now (s .args .objects)) (now (s .args .links)) (now (s .args .counts)))
+fit s = sound-fits (lent (s .pre .1 .1 .bytes) (now (s .args .objects)) (now (s .args .links)) (now (s .args .counts))) (s .pre .1 .1 .is-sound)
+
+use-of : (s : tie.Start Inv-loop μ-loop) → Used (now (s .args .links)) (getD (now (s .args .counts)) 2 0) (getD (now (s .args .counts)) 1 0)
+use-of s = used (lent (s .pre .1 .1 .bytes) (now (s .args .objects)) (now (s .args .links)) (now (s .args .counts))) (fit s)
+
+-- the row's child is an object
+child : (c : tie.Then1 Inv-loop μ-loop) → rowChild (now (begin (c .before) .args .links)) (c .before .loop .row) < getD (now (begin (c .before) .args .counts)) 1 0
+child c = use-of (begin (c .before)) .children (c .before .loop .row) (omega arith)
+
+abbrev then1 : tie.Then2 Inv-loop μ-loop → tie.Then1 Inv-loop μ-loop
+then1 c = c .before .before .before
+
+-- what holds once the row's child, which was not found yet, stands in the stack
+entered : (c : tie.Then2 Inv-loop μ-loop) → (let a = then1 c .before in let x = begin a .args in let d = rowChild (now (x .links)) (a .loop .row) in
+    Inv (now (x .objects)) (now (x .links)) (getD (now (x .counts)) 1 0) (getD (now (x .counts)) 2 0) (x .lo) (x .hi) (x .epoch) (now (x .walk))
+    (set (a .loop .walk) d (x .epoch + 1 + a .loop .top)) (a .loop .sum + sizeAt (now (x .objects)) d) (a .loop .row + 1) (a .loop .stop) (d + 1))
+entered c =
+    let t = then1 c in
+    let a = t .before in
+    let s = begin a in
+    push (s .pre .1 .1 .marks .latest) (a .loop .inv) (use-of s) (s .pre .1 .1 .marks .room) (t .if1 .taken) (c .if2 .taken)
+
+-- the lengths of all objects add up to no more than the data
+sizes : (s : tie.Start Inv-loop μ-loop) → sum (sizeAt (now (s .args .objects))) (getD (now (s .args .counts)) 1 0) ≤ 16777216
+sizes s = sizes-most (lent (s .pre .1 .1 .bytes) (now (s .args .objects)) (now (s .args .links)) (now (s .args .counts))) (fit s)
+
+-- the stack's last object
+parent-used : (c : tie.Else3 Inv-loop μ-loop) → (let a = c .before .before in a .loop .top - 1 < getD (now (begin a .args .counts)) 1 0)
+parent-used c =
+    let a = c .before .before in
+    let m = begin a .pre .1 .1 .marks in
+    top-used (m .latest) (a .loop .inv) (use-of (begin a)) (m .room) (omega arith)
+
+parent-high : (c : tie.Else3 Inv-loop μ-loop) → (let a = c .before .before in begin a .args .epoch < getD (a .loop .walk) (a .loop .top - 1) 0)
+parent-high c =
+    let a = c .before .before in
+    let m = begin a .pre .1 .1 .marks in
+    top-high (m .latest) (a .loop .inv) (use-of (begin a)) (m .room) (omega arith)
+
+-- its rows end where the scratch says, with its own mark set
+ends : (c : tie.Else3 Inv-loop μ-loop) → (let a = c .before .before in let x = begin a .args in
+    (i : ℕ) → i < getD (now (x .counts)) 1 0 → FirstRow (now (x .links)) (getD (now (x .counts)) 2 0) (keyOf (i + 1) 0) (getD (set (a .loop .walk) (a .loop .top - 1) (x .epoch)) (getD (now (x .counts)) 1 0 + i) 0))
+ends c =
+    let a = c .before .before in
+    let m = begin a .pre .1 .1 .marks in
+    pop-ends (m .latest) (a .loop .inv) (use-of (begin a)) (m .room) (omega arith) (m .ends)
+
+-- and start where those of the object before it end
+starts : (c : tie.After-first-row-of Inv-loop μ-loop) → (let a = c .before .before .before .before .before in let x = begin a .args in
+    FirstRow (now (x .links)) (getD (now (x .counts)) 2 0) (keyOf (a .loop .top - 1) 0) (c .first-row-of .result))
+starts c =
+    let b = c .before .before .before in
+    let a = b .before .before in
+    let x = begin a .args in
+    rw (c .first-row-of .ensures)
+    (rows-start (now (x .links)) (getD (now (x .counts)) 2 0) (getD (now (x .counts)) 1 0) (set (a .loop .walk) (a .loop .top - 1) (x .epoch)) (ends b) (a .loop .top - 1) (parent-used b))
+
+loop-holds : tie.Need-loop-holds Inv-loop μ-loop
+loop-holds c =
+    let s = c .before .before .before .before in
+    start (s .pre .1 .1 .marks .latest) (s .pre .0) (marks-closed (fit s) (s .pre .1 .1 .marks))
+
+mul-child : tie.Need-mul-child Inv-loop μ-loop
+mul-child c = omega (arith, fit (begin (c .before)) .linksMost)
+
+add-child : tie.Need-add-child Inv-loop μ-loop
+add-child c = omega (arith, fit (begin (c .before)) .linksMost)
+
+mul-child-2 : tie.Need-mul-child-2 Inv-loop μ-loop
+mul-child-2 c = omega (arith, fit (begin (c .before)) .linksMost)
+
+shared-slice-read-child : tie.Need-shared-slice-read-child Inv-loop μ-loop
+shared-slice-read-child c = omega (arith, fit (begin (c .before .before)) .linksIn)
+
+cast-c : tie.Need-cast-c Inv-loop μ-loop
+cast-c c = omega (arith, child (c .before))
+
+add-row : tie.Need-add-row Inv-loop μ-loop
+add-row c = omega (arith, fit (begin (c .before .before)) .linksMost)
+
+mul-if2 : tie.Need-mul-if2 Inv-loop μ-loop
+mul-if2 c = omega (arith, child (c .before), fit (begin (c .before .before)) .objectsMost)
+
+slice-read-if2 : tie.Need-slice-read-if2 Inv-loop μ-loop
+slice-read-if2 c = omega (arith, child (c .before .before))
+
+add-walk : tie.Need-add-walk Inv-loop μ-loop
+add-walk c = omega (arith, begin (then1 c .before) .pre .1 .1 .early)
+
+add-walk-2 : tie.Need-add-walk-2 Inv-loop μ-loop
+add-walk-2 c =
+    let a = then1 c .before in
+    let s = begin a in
+    omega (arith, s .pre .1 .1 .early, top-few (s .pre .1 .1 .marks .latest) (a .loop .inv) (use-of s), fit s .objectsMost)
+
+mul-walk : tie.Need-mul-walk Inv-loop μ-loop
+mul-walk c = omega (arith, child (then1 c), fit (begin (then1 c .before)) .objectsMost)
+
+slice-write-walk : tie.Need-slice-write-walk Inv-loop μ-loop
+slice-write-walk c = omega (arith, child (then1 c))
+
+add-top : tie.Need-add-top Inv-loop μ-loop
+add-top c = omega (arith, child (then1 c), fit (begin (then1 c .before)) .objectsMost)
+
+size-of-requires : tie.Need-size-of-requires Inv-loop μ-loop
+size-of-requires c κs =
+    let t = then1 c in
+    let a = t .before in
+    let f = fit (begin a) in
+    (omega (arith, f .objectsIn, child t), f .object (rowChild (now (begin a .args .links)) (a .loop .row)) (child t) .ordered)
+
+add-sum : tie.Need-add-sum Inv-loop μ-loop
+add-sum c =
+    let s = begin (then1 (c .before) .before) in
+    omega (arith, total-most (s .pre .1 .1 .marks .latest) (entered (c .before)) (sizes s), c .size-of .ensures)
+
+loop-less : tie.Need-loop-less Inv-loop μ-loop
+loop-less c =
+    let t = then1 (c .before) in
+    let a = t .before in
+    let s = begin a in
+    let m = getD (now (s .args .counts)) 2 0 in
+    omega (arith, ap (λ (x : ℕ). x * (m + 1)) (push-unread (s .pre .1 .1 .marks .latest) (a .loop .inv) (use-of s) (s .pre .1 .1 .marks .room) (t .if1 .taken) (c .before .if2 .taken)))
+
+loop-again : tie.Need-loop-again Inv-loop μ-loop
+loop-again c = rw (c .size-of .ensures) (entered (c .before))
+
+loop-less-2 : tie.Need-loop-less-2 Inv-loop μ-loop
+loop-less-2 c = omega arith
+
+loop-again-2 : tie.Need-loop-again-2 Inv-loop μ-loop
+loop-again-2 c =
+    let a = c .before .before .before .before in
+    skip (begin a .pre .1 .1 .marks .latest) (a .loop .inv) (omega arith)
+
+same-length : tie.Need-same-length Inv-loop μ-loop
+same-length c = c .before .before .loop .inv .long
+
+returns : tie.Need-returns Inv-loop μ-loop
+returns c =
+    let a = c .before .before in
+    let s = begin a in
+    let o = now (s .args .objects) in
+    let l = now (s .args .links) in
+    let k = now (s .args .counts) in
+    λ b from v.
+    walked-bytes (s .pre .1 .1 .bytes) b o l k
+    (walked (fit s) (marks-bytes b (s .pre .1 .1 .bytes) o l k v) (done (s .pre .1 .1 .marks .latest) (a .loop .inv) (use-of s) (s .pre .0) (c .before .if1 .left) (c .if3 .taken)))
+
+sub-parent : tie.Need-sub-parent Inv-loop μ-loop
+sub-parent c = omega arith
+
+cast-parent : tie.Need-cast-parent Inv-loop μ-loop
+cast-parent c = omega (arith, parent-used c, fit (begin (c .before .before)) .objectsMost)
+
+mul-top : tie.Need-mul-top Inv-loop μ-loop
+mul-top c = omega (arith, parent-used c, fit (begin (c .before .before)) .objectsMost)
+
+slice-read-top : tie.Need-slice-read-top Inv-loop μ-loop
+slice-read-top c = omega (arith, parent-used (c .before))
+
+sub-top : tie.Need-sub-top Inv-loop μ-loop
+sub-top c = omega (arith, parent-high (c .before))
+
+sub-top-2 : tie.Need-sub-top-2 Inv-loop μ-loop
+sub-top-2 c = omega (arith, parent-high (c .before))
+
+mul-walk-2 : tie.Need-mul-walk-2 Inv-loop μ-loop
+mul-walk-2 c = omega (arith, parent-used (c .before), fit (begin (c .before .before .before)) .objectsMost)
+
+slice-write-walk-2 : tie.Need-slice-write-walk-2 Inv-loop μ-loop
+slice-write-walk-2 c = omega (arith, parent-used (c .before))
+
+first-row-of-requires : tie.Need-first-row-of-requires Inv-loop μ-loop
+first-row-of-requires c κs =
+    let b = c .before .before in
+    let a = b .before .before in
+    let s = begin a in
+    (simp length-set (omega (arith, parent-used b, a .loop .inv .long, s .pre .1 .1 .marks .room)), omega (arith, parent-used b, fit s .objectsMost))
+
+cast-row : tie.Need-cast-row Inv-loop μ-loop
+cast-row c = omega (arith, starts c .within, fit (begin (c .before .before .before .before .before)) .linksMost)
+
+add-stop : tie.Need-add-stop Inv-loop μ-loop
+add-stop c = omega (arith, parent-used (c .before .before .before), fit (begin (c .before .before .before .before .before)) .objectsMost)
+
+mul-stop : tie.Need-mul-stop Inv-loop μ-loop
+mul-stop c = omega (arith, parent-used (c .before .before .before), fit (begin (c .before .before .before .before .before)) .objectsMost)
+
+slice-read-stop : tie.Need-slice-read-stop Inv-loop μ-loop
+slice-read-stop c =
+    let b = c .before .before .before .before in
+    let a = b .before .before in
+    simp length-set (omega (arith, parent-used b, a .loop .inv .long, begin a .pre .1 .1 .marks .room))
+
+cast-stop : tie.Need-cast-stop Inv-loop μ-loop
+cast-stop c =
+    let b = c .before .before .before .before in
+    omega (arith, ends b (b .before .before .loop .top - 1) (parent-used b) .within, fit (begin (b .before .before)) .linksMost)
+
+loop-less-3 : tie.Need-loop-less-3 Inv-loop μ-loop
+loop-less-3 c =
+    let b = c .before .before .before .before in
+    let a = b .before .before in
+    let x = begin a .args in
+    let p = begin a .pre .1 .1 .marks in
+    let n = getD (now (x .counts)) 1 0 in
+    let w = set (a .loop .walk) (a .loop .top - 1) (x .epoch) in
+    falls (getD (now (x .counts)) 2 0) (count (unread (x .epoch) (a .loop .walk)) n) (count (unread (x .epoch) w) n) (c .before .first-row-of .result) (getD w (n + (a .loop .top - 1)) 0) (a .loop .stop - a .loop .row)
+    (pop-unread (p .latest) (a .loop .inv) (use-of (begin a)) (p .room) (omega arith)) (ends b (a .loop .top - 1) (parent-used b) .within)
+
+loop-again-3 : tie.Need-loop-again-3 Inv-loop μ-loop
+loop-again-3 c =
+    let b = c .before .before .before .before in
+    let a = b .before .before in
+    let p = begin a .pre .1 .1 .marks in
+    pop (p .latest) (a .loop .inv) (use-of (begin a)) (p .room) (omega arith) (b .before .if1 .left) (starts (c .before)) (ends b (a .loop .top - 1) (parent-used b))
+
+pub subgraph-size-spec : {M : Type 1} → statement M
+subgraph-size-spec =
+    tie.close
+    (tie.spec
+    Inv-loop
+    μ-loop
+    (λ c. search needs)
+    (λ c. search needs)
+    loop-holds
+    mul-child
+    add-child
+    mul-child-2
+    shared-slice-read-child
+    cast-c
+    add-row
+    mul-if2
+    slice-read-if2
+    add-walk
+    add-walk-2
+    mul-walk
+    slice-write-walk
+    add-top
+    size-of-requires
+    (λ c. search needs)
+    add-sum
+    loop-less
+    loop-again
+    loop-less-2
+    loop-again-2
+    same-length
+    returns
+    sub-parent
+    cast-parent
+    mul-top
+    slice-read-top
+    sub-top
+    sub-top-2
+    mul-walk-2
+    slice-write-walk-2
+    first-row-of-requires
+    cast-row
+    add-stop
+    mul-stop
+    slice-read-stop
+    cast-stop
+    loop-less-3
+    loop-again-3)

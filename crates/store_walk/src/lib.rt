@@ -1,0 +1,129 @@
+// What can be reached along the link rows of a sound store: how many bytes it has, each object counted once, and whether a table is among it.
+use buffers::clear_u32;
+use store_reader::next_row;
+ghost use Prim.Native.Nat.{ℕ, _+_, _≤_, _<_};
+ghost use mathlib.Core.Bool.{Bool};
+ghost use mathlib.Core.Path.{_≡_};
+ghost use mathlib.Core.List.{List};
+ghost use lib.ListN.{length, getD, replicate};
+ghost use Rattle.folds.specs.Folds.{before};
+ghost use Rattle.store_rules.specs.Store.{lent};
+ghost use Rattle.folds.specs.Moments.{came, left};
+ghost use Rattle.store_walk.specs.Marks.{noRow, Blank, Lasts, Prepared, Ready, Walks, Begun};
+
+// Prepares the scratch, which may hold anything: no object has a mark, and the row where each object's rows end is at hand.
+pub fn prepare(links: &[u32], counts: &[u32; 3], walk: &mut [u32])
+    requires { ⌜ Blank (now links) (now counts) (now walk) ⌝ }
+    ensures { λ _. ⌜ Prepared (came links) (came counts) (left walk) ⌝ }
+{
+    clear_u32(walk);
+    last_rows(links, counts, walk);
+    row_ends(links, counts, walk);
+}
+
+// For each object one more than the last of its rows, 0 where it has none.
+fn last_rows(links: &[u32], counts: &[u32; 3], walk: &mut [u32])
+    requires { ⌜ Blank (now links) (now counts) (now walk) × (now walk ≡ replicate (length (now walk)) 0) ⌝ }
+    ensures { λ _. ⌜ Lasts (came links) (came counts) (left walk) ⌝ }
+{
+    let n = counts[1] as usize;
+    let m = counts[2] as usize;
+    let mut k: usize = 0;
+    while k < m {
+        let parent = links[store_reader::PER_LINK * k + store_reader::PARENT] as usize;
+        k += 1;
+        walk[n + parent] = k as u32;
+    }
+}
+
+// Where each object's rows end: those of an object with none where those of the object before it do.
+fn row_ends(links: &[u32], counts: &[u32; 3], walk: &mut [u32])
+    requires { ⌜ Blank (now links) (now counts) (now walk) × Lasts (now links) (now counts) (now walk) ⌝ }
+    ensures { λ _. ⌜ Prepared (came links) (came counts) (left walk) ⌝ }
+{
+    let n = counts[1] as usize;
+    let mut end: u32 = 0;
+    let mut i: usize = 0;
+    while i < n {
+        let last = walk[n + i];
+        if end < last {
+            end = last;
+        }
+        walk[n + i] = end;
+        i += 1;
+    }
+}
+
+// The row where the rows of object `i` of `n` start: where those of the object before it end.
+fn first_row_of(walk: &[u32], n: usize, i: usize) -> u32
+    requires { ⌜ (n + i ≤ length (now walk)) × (n + i < 4294967296) ⌝ }
+    ensures { λ r. ⌜ r ≡ before (λ j. getD (came walk) (n + j) 0) i ⌝ }
+{
+    if i == 0 {
+        return 0;
+    }
+    walk[n + (i - 1)]
+}
+
+// The length of all objects that can be reached from the children of the link rows `lo` up to `hi` and have not the mark `epoch` yet; each is
+// counted once. Those whose rows are still to come are a stack: `top` is one more than the last of them, 0 where there is none, and each has
+// in the place of its mark one more than the epoch and the `top` that it found.
+pub fn subgraph_size(
+    objects: &[u32],
+    links: &[u32],
+    counts: &[u32; 3],
+    lo: usize,
+    hi: usize,
+    epoch: u32,
+    walk: &mut [u32],
+) -> u64
+    requires { ⌜ (hi ≤ getD (now counts) 2 0) × ((from : ℕ → Bool) × Ready (now objects) (now links) (now counts) from epoch (now walk)) ⌝ }
+    ensures { λ r. ⌜ Walks (came objects) (came links) (came counts) lo hi epoch (came walk) (left walk) r ⌝ }
+{
+    let n = counts[1] as usize;
+    let mut sum: u64 = 0;
+    let mut row = lo;
+    let mut stop = hi;
+    let mut top: u32 = 0;
+    loop {
+        if row < stop {
+            let child = links[store_reader::PER_LINK * row + store_reader::CHILD];
+            let c = child as usize;
+            row += 1;
+            if walk[c] < epoch {
+                walk[c] = epoch + 1 + top;
+                top = child + 1;
+                sum += store_reader::size_of(objects, c) as u64;
+            }
+        } else {
+            if top == 0 {
+                return sum;
+            }
+            let parent = (top - 1) as usize;
+            top = walk[parent] - epoch - 1;
+            walk[parent] = epoch;
+            row = first_row_of(walk, n, parent) as usize;
+            stop = walk[n + parent] as usize;
+        }
+    }
+}
+
+// Walks what the links of `table` before position `end` lead to, in the first epoch: so that from then on, as its other links are walked, the
+// table has a mark exactly if those walked so far lead back to it.
+pub fn walk_before(
+    objects: &[u32],
+    links: &[u32],
+    counts: &[u32; 3],
+    table: u32,
+    end: u32,
+    walk: &mut [u32],
+)
+    requires { ⌜ (table < getD (now counts) 1 0) × Ready (now objects) (now links) (now counts) noRow 1 (now walk) ⌝ }
+    ensures { λ _. ⌜ ((b : List ℕ) → Begun (lent b (came objects) (came links) (came counts)) table end (left walk)) ⌝ }
+{
+    let n = counts[1] as usize;
+    let m = counts[2] as usize;
+    let lo = first_row_of(walk, n, table as usize) as usize;
+    let hi = next_row(links, m, lo, table, end);
+    subgraph_size(objects, links, counts, lo, hi, 1, walk);
+}
