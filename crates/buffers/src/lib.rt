@@ -1,9 +1,16 @@
-// Lent buffers: numbers zeroed, and bytes copied further up.
+// Lent buffers: numbers zeroed, bytes copied further up, and lengths compared.
 ghost use mathlib.Core.Path.{_≡_};
-ghost use Prim.Native.Nat.{_+_, _≤_};
+ghost use Prim.Native.Nat.{_+_, _≤_, min};
 ghost use lib.ListN.{length, replicate};
 ghost use Rattle.folds.specs.Lists.{put, part};
 ghost use Rattle.folds.specs.Moments.{came, left};
+
+// The smaller of two lengths.
+pub fn lesser(a: usize, b: usize) -> usize
+    ensures { λ r. ⌜ r ≡ min a b ⌝ }
+{
+    if a <= b { a } else { b }
+}
 
 // Writes `count` zeros from byte `at` on.
 pub fn zero_bytes(s: &mut [u8], at: usize, count: usize)

@@ -1,1 +1,4 @@
 pub mod Cases
+pub mod Pinned
+pub mod Room
+pub mod Scratch

@@ -1,4 +1,4 @@
-// Answers, scratch and outcomes of calls: in specs/ as definitions, and here the answer that these share with code.
+// Answers, scratch, room and outcomes of calls: in specs/ as definitions, and here what these share with code.
 ghost use mathlib.Core.Path.{_≡_};
 ghost use Rattle.call_rules.specs.Answers.{number};
 
@@ -13,6 +13,31 @@ pub enum Answer {
     ShortScratch,
     BadLinks,
     NoRoom,
+}
+
+// How long each scratch is.
+pub struct Lengths {
+    pub walk: usize,
+    pub glyph_set: usize,
+    pub glyphs: usize,
+    pub classes: usize,
+    pub cuts: usize,
+}
+
+// How long the data, the object rows, the link rows and the result list are that the caller has lent.
+pub struct Lent {
+    pub data: usize,
+    pub objects: usize,
+    pub links: usize,
+    pub list: usize,
+}
+
+// What a call needs beside what is in use: new objects, new links, their bytes, and entries of the result list.
+pub struct Needs {
+    pub objects: usize,
+    pub links: usize,
+    pub bytes: usize,
+    pub entries: usize,
 }
 
 // Document 01's number of an answer.

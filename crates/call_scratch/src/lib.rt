@@ -1,20 +1,11 @@
-// The scratch that a call is lent: check 6, and the zeros that it leaves.
+// The scratch that a call is lent: check 6, and the zeros that it leaves. The Rust text allocates what it needs instead.
 use buffers::clear_u8;
 use buffers::clear_u16;
 use buffers::clear_u32;
+use call_rules::Lengths;
 ghost use mathlib.Core.Path.{_≡_};
-ghost use Rattle.call_rules.specs.Scratch.{cleared};
+ghost use Rattle.call_rules.specs.Scratch.{lengthsShort, cleared};
 ghost use Rattle.call_rules.specs.Moments.{scratchCame, scratchLeft};
-ghost use Rattle.call_scratch.specs.Lengths.{lengthsShort};
-
-// How long each scratch is.
-pub struct Lengths {
-    pub walk: usize,
-    pub glyph_set: usize,
-    pub glyphs: usize,
-    pub classes: usize,
-    pub cuts: usize,
-}
 
 // Check 6: whether one is too short for a store of so many objects and a table of so many covered glyphs and items.
 pub fn is_short(lent: Lengths, objects: u32, glyphs: usize, items: u16) -> bool

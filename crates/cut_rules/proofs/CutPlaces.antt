@@ -12,11 +12,7 @@ use lib.Seq.{getD-at}
 use Rattle.folds.proofs.Tests.{cond-has, either}
 use Rattle.folds.proofs.Parts.{getD-default}
 use Rattle.cut_rules.specs.Cuts.{Rule, Cutting, step, weigh, cutHere, goOn, exceeds, after}
-
--- "Cuts p0 < p1 < ...", each below n
-pub record Places (n : ℕ) (cs : List ℕ) : Type 0 where
-  pub below : (j : ℕ) → j < length cs → getD cs j 0 < n
-  pub rising : (j : ℕ) → j + 1 < length cs → getD cs j 0 < getD cs (j + 1) 0
+use Rattle.cut_rules.specs.Places.{Places}
 
 -- so that there are no more than n
 module _ (n : ℕ) (cs : List ℕ) (p : Places n cs) where

@@ -1,5 +1,6 @@
 // The sizes of coverage and class definition 1, estimated over the classes since the last cut: the counterpart of `ClassDefSizeEstimator`.
 // The glyphs of these classes are in a set that the caller lends; runs are counted as glyphs come in.
+use buffers::lesser;
 ghost use mathlib.Core.Path.{_≡_};
 ghost use mathlib.Core.Bool.{cond};
 ghost use mathlib.Core.List.{[]};
@@ -170,13 +171,6 @@ fn starts_run(glyphs: &[u16], k: usize) -> usize
         return 0;
     }
     1
-}
-
-// The smaller of two sizes.
-fn lesser(a: usize, b: usize) -> usize
-    ensures { λ r. ⌜ r ≡ min a b ⌝ }
-{
-    if a <= b { a } else { b }
 }
 
 // The larger of two sizes.

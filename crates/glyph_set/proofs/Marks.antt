@@ -1,16 +1,15 @@
 -- What is in the set after a glyph is put in, and after its byte is emptied. Assumes nothing.
 use Prim.Native.Nat.{ℕ, _*_, _/_, _%_, _^_, _<_}
-use mathlib.Core.Path.{_≡_, refl, ap}
-use mathlib.Core.Bool.{true, not, _&&_, _||_}
+use mathlib.Core.Path.{_≡_, ap}
+use mathlib.Core.Bool.{true}
 use mathlib.Core.List.{List}
 use native.Mathlib.Decide.{ℕ-discrete}
-use native.Mathlib.Nat.{zero-div}
 use native.Mathlib.Omega.{arith}
 use lib.Bits.{bitOr}
 use lib.Dec.{eqb}
 use lib.ListN.{length, getD, set, length-set}
 use lib.Seq.{getD-set-same, getD-set-other}
-use borrow.Author.Tests.{eq-eqb, ne-eqb}
+use borrow.Author.Tests.{eq-eqb}
 use Rattle.folds.proofs.Bits.{one-shifted, bit-or, bit-same, bit-other}
 use Rattle.glyph_set.specs.GlyphSet.{member, mark, blank}
 
@@ -52,20 +51,3 @@ module _ (s : List ℕ) (g : ℕ) (l : g / 8 < length s) where
       go (yes q) =
           rw (q, getD-set-same s (g / 8) marked 0 l)
           (omega (arith, bit-or byte (2 ^ (g % 8)) (k % 8), bit-other (g % 8) (k % 8) (omega arith)))
-
-pub member-mark : (s : List ℕ) (g k : ℕ) → g / 8 < length s → member (mark s g) k ≡ eqb k g || member s k
-member-mark s g k l = go (ℕ-discrete k g)
-  where
-    go : Dec (k ≡ g) → member (mark s g) k ≡ eqb k g || member s k
-    go (yes e) = rw (e, eq-eqb g g refl) (mark-here s g l)
-    go (no e) = rw (ne-eqb k g e) (mark-other s g l k e)
-
--- ---- emptied
-
-pub member-blank : (s : List ℕ) (g k : ℕ) → g / 8 < length s → member (blank s g) k ≡ not (eqb (k / 8) (g / 8)) && member s k
-unfolding member blank
-member-blank s g k l = go (ℕ-discrete (k / 8) (g / 8))
-  where
-    go : Dec (k / 8 ≡ g / 8) → eqb (getD (set s (g / 8) 0) (k / 8) 0 / 2 ^ (k % 8) % 2) 1 ≡ not (eqb (k / 8) (g / 8)) && eqb (getD s (k / 8) 0 / 2 ^ (k % 8) % 2) 1
-    go (yes q) = rw (q, eq-eqb (g / 8) (g / 8) refl, getD-set-same s (g / 8) 0 0 l) (ne-eqb (0 / 2 ^ (k % 8) % 2) 1 (omega (arith, zero-div (2 ^ (k % 8)))))
-    go (no q) = rw (ne-eqb (k / 8) (g / 8) q, getD-set-other s (g / 8) (k / 8) 0 0 q)

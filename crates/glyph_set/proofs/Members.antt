@@ -3,11 +3,11 @@
 use Prim.Native.Nat.{ℕ, _+_, _<_, _≤_, min, max}
 use mathlib.Core.Path.{_≡_, refl, sym, ap, _∙_}
 use mathlib.Core.Bool.{false, cond}
-use mathlib.Core.List.{List, [], map}
+use mathlib.Core.List.{List, map}
 use native.Mathlib.Omega.{arith}
 use lib.Dec.{eqb}
 use lib.ListN.{length, length-map}
-use Rattle.folds.proofs.Picked.{picked, Adds, picked-none, picked-same, map-picked, sift-upto, length-adds}
+use Rattle.folds.proofs.Picked.{picked, Adds, picked-same, map-picked, sift-upto, length-adds}
 use Rattle.ot_layouts.specs.Coverage.{Entry, plain, Ascends, Under}
 use Rattle.ot_layouts.specs.ClassDef.{firstGlyph, lastGlyph, classIn}
 use Rattle.ot_layouts.proofs.RunStarts.{entry, alone, runs-adds}
@@ -21,9 +21,6 @@ members-picked s = sift-upto (member s) (λ g. g) 65536
 
 pub members-alone : (s : List ℕ) → plain (members s) ≡ alone (member s) 65536
 members-alone s = ap plain (members-picked s) ∙ map-picked (λ g. entry g 0) (member s) (λ g. g) 65536
-
-pub members-none : (s : List ℕ) → ((g : ℕ) → g < 65536 → member s g ≡ false) → members s ≡ []
-members-none s h = members-picked s ∙ picked-none (member s) (λ g. g) 65536 h
 
 -- the set has the glyphs of some entries in ascending order
 pub members-of : (s : List ℕ) (es : List Entry) → Ascends 0 es → Under 65536 es → ((g : ℕ) → g < 65536 → member s g ≡ has es g) → members s ≡ map (λ e. e .glyph) es

@@ -64,11 +64,10 @@ fn present_behind(set: &[u8], glyph: u16) -> usize
     present(set, glyph + 1)
 }
 
-// The glyph's bit.
+// 1 where the glyph is in the set, else 0.
 fn present(set: &[u8], glyph: u16) -> usize
     requires { ⌜ 8192 ≤ length (now set) ⌝ }
     ensures { λ r. ⌜ r ≡ present (came set) glyph ⌝ }
 {
-    let at = (glyph / 8) as usize;
-    ((set[at] >> (glyph % 8)) & 1) as usize
+    contains(set, glyph) as usize
 }

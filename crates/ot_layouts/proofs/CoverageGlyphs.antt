@@ -8,8 +8,7 @@ use native.Mathlib.Omega.{arith}
 use Rattle.folds.specs.Folds.{before, flat, upto, run}
 use Rattle.folds.proofs.Halving.{Rising}
 use Rattle.ot_layouts.specs.Numbers.{u16At}
-use Rattle.ot_layouts.specs.Coverage.{Entry, plain, glyphAt, startAt, endAt, coverReadable, coverGlyphs, Ascends, Under}
-use Rattle.ot_layouts.proofs.Runs.{plain-glyphs}
+use Rattle.ot_layouts.specs.Coverage.{Entry, glyphAt, startAt, endAt, coverReadable, coverGlyphs, Ascends, Under}
 use Rattle.ot_layouts.proofs.CoverageRead.{Listed, Ranged, rangeAt, either-format}
 
 -- ---- numbers in ascending order, from lo on and below hi
@@ -87,6 +86,3 @@ module _ (b : List ℕ) (h : coverReadable b ≡ true) where
         rw (r .glyphs) (sorted-ranges b (u16At b 2) (r .read .rising)),
       ))
       (either-format b h)
-
-  pub cover-ascends : Ascends 0 (plain (coverGlyphs b))
-  cover-ascends = sorted-ascends (plain (coverGlyphs b)) 0 (cover-sorted .0) (rw (plain-glyphs (coverGlyphs b)) (cover-sorted .2))

@@ -22,3 +22,4 @@ pub mod Octets
 pub mod Entries
 pub mod RangesCounted
 pub mod BytesWritten
+pub mod Pinned

@@ -34,12 +34,33 @@ recordSize b = 2 * (fieldCount (value1 b) + fieldCount (value2 b))
 unfoldable pub deviceSlots : List ℕ → List ℕ
 deviceSlots b = map (λ k. 2 * k) (devices (value1 b)) ++ map (λ k. 2 * (fieldCount (value1 b) + k)) (devices (value2 b))
 
+-- where a header has the link to the coverage
+abbrev pub coverAt : ℕ
+coverAt = 2
+
+-- in format 2, to class definition 1
+abbrev pub class1At : ℕ
+class1At = 8
+
+-- and to class definition 2
+abbrev pub class2At : ℕ
+class2At = 10
+
+-- the links of a header to parts that are a table's own: "coverage, class definition 1 (format 2)"
+abbrev pub ownIn : ℕ → List ℕ
+ownIn format = cond (eqb format 1) (coverAt ∷ []) (coverAt ∷ class1At ∷ [])
+
+-- and to those that tables share: "Class definition 2 is shared."
+abbrev pub sharedIn : ℕ → List ℕ
+sharedIn format = cond (eqb format 1) [] (class2At ∷ [])
+
 -- what the two formats share: a header with link slots and a count of items (pair sets, class-1 rows), then the items, each of one size;
 -- an item is one or more units, and each unit has link slots at the same places
 pub record Shape : Type 0 where
   pub format : ℕ
   pub header : ℕ
-  pub heads : List ℕ
+  pub own : List ℕ
+  pub shared : List ℕ
   pub countAt : ℕ
   pub count : ℕ
   pub item : ℕ
@@ -48,7 +69,18 @@ pub record Shape : Type 0 where
 
 -- "10 + 2·sets (format 1)": an item is the offset of a pair set
 unfoldable pub shape1 : List ℕ → Shape
-shape1 b = record { format = 1; header = 10; heads = 2 ∷ []; countAt = 8; count = u16At b 8; item = 2; unit = 2; slots = 0 ∷ [] }
+shape1 b =
+    record {
+      format = 1;
+      header = 10;
+      own = ownIn 1;
+      shared = sharedIn 1;
+      countAt = 8;
+      count = u16At b 8;
+      item = 2;
+      unit = 2;
+      slots = 0 ∷ [];
+    }
 
 -- "16 + rows·row size (format 2)", "row size = 2·(fields1 + fields2)·class2Count": an item is a row, a unit a pair's two value records
 unfoldable pub shape2 : List ℕ → Shape
@@ -56,7 +88,8 @@ shape2 b =
     record {
       format = 2;
       header = 16;
-      heads = 2 ∷ 8 ∷ 10 ∷ [];
+      own = ownIn 2;
+      shared = sharedIn 2;
       countAt = 12;
       count = u16At b 12;
       item = recordSize b * columns b;
@@ -68,6 +101,10 @@ shape2 b =
 unfoldable pub shapeOf : List ℕ → Shape
 shapeOf b = cond (eqb (formatOf b) 1) (shape1 b) (shape2 b)
 
+-- all links of a header, in order
+abbrev pub heads : Shape → List ℕ
+heads sh = sh .own ++ sh .shared
+
 -- where item i starts, and where the table ends
 abbrev pub itemAt : Shape → ℕ → ℕ
 itemAt sh i = sh .header + sh .item * i
@@ -78,7 +115,7 @@ exact b = eqb (length b) (itemAt (shapeOf b) (shapeOf b .count))
 
 -- a link may stand at q
 unfoldable pub isSlot : Shape → ℕ → Bool
-isSlot sh q = among q (sh .heads) || leb (sh .header) q && among ((q - sh .header) % sh .unit) (sh .slots)
+isSlot sh q = among q (heads sh) || leb (sh .header) q && among ((q - sh .header) % sh .unit) (sh .slots)
 
 -- "a set is a count, then records of 2 + field bytes; a set under 2 bytes or too short for its count has no pairs"
 unfoldable pub setReadable : List ℕ → ℕ → Bool

@@ -1,2 +1,3 @@
 pub mod Opening
 pub mod Slots
+pub mod Layouts

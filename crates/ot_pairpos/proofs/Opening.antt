@@ -27,7 +27,7 @@ module _ (b : List ℕ) where
     bad-format1 n = rw (le-ltb (length b) 2 long, eq-eqb (formatOf b) 1 one, ne-eqb (length b) (10 + 2 * u16At b 8) n)
 
     pub opened-format1 : length b ≡ 10 + 2 * u16At b 8
-        → Pair (record { format = 1; header = 10; count = u16At b 8; item = 2; unit = 2; value1 = u16At b 4; value2 = u16At b 6; columns = 0 }) ≡ openedOf b
+        → Pair (record { format = 1; header = 10; own = 1; heads = 1; «count_at» = 8; count = u16At b 8; item = 2; unit = 2; value1 = u16At b 4; value2 = u16At b 6; columns = 0 }) ≡ openedOf b
     unfolding openedOf exact shapeOf shape1 layoutOf
     opened-format1 e = rw (le-ltb (length b) 2 long, eq-eqb (formatOf b) 1 one, eq-eqb (length b) (10 + 2 * u16At b 8) e)
 
@@ -53,7 +53,7 @@ module _ (b : List ℕ) where
           ne-eqb (length b) (16 + recordSize b * columns b * u16At b 12) (λ e. n (e ∙ sym rows)),
         )
 
-    pub opened-format2 : length b ≡ 16 + u * c * r → Pair (record { format = 2; header = 16; count = r; item = u * c; unit = u; value1 = v; value2 = w; columns = c }) ≡ openedOf b
+    pub opened-format2 : length b ≡ 16 + u * c * r → Pair (record { format = 2; header = 16; own = 2; heads = 3; «count_at» = 12; count = r; item = u * c; unit = u; value1 = v; value2 = w; columns = c }) ≡ openedOf b
     unfolding openedOf exact shapeOf shape2 layoutOf
     opened-format2 e =
         rw (
@@ -65,6 +65,9 @@ module _ (b : List ℕ) where
         (λ k. Pair (record {
           format = 2;
           header = 16;
+          own = 2;
+          heads = 3;
+          «count_at» = 12;
           count = at12 k;
           item = records k * at14 k;
           unit = records k;

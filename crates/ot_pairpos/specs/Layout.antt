@@ -1,11 +1,12 @@
 -- A table's shape as the code holds it, and what opening a table answers. Assumes nothing.
 use Prim.Native.Nat.{ℕ, _+_, _*_}
 use mathlib.Core.Bool.{cond, _||_}
-use mathlib.Core.List.{List, _++_, map}
+use mathlib.Core.Path.{_≡_}
+use mathlib.Core.List.{List, [], _∷_, _++_, map}
 use lib.ListN.{length}
 use lib.Dec.{ltb, eqb}
 use Rattle.ot_layouts.specs.Values.{fieldCount, devices}
-use Rattle.ot_layouts.specs.PairPos.{formatOf, value1, value2, columns, shapeOf, exact}
+use Rattle.ot_layouts.specs.PairPos.{Shape, ownIn, sharedIn, heads, formatOf, value1, value2, columns, shapeOf, exact}
 use Rattle.ot_pairpos.specs.declared.Layout.{Layout}
 use Rattle.ot_pairpos.specs.declared.Opened.{Opened}
 use Rattle.ot_pairpos.specs.declared.Opened.the-variants.{Pair, Other, Bad}
@@ -16,6 +17,9 @@ layoutOf b =
     record {
       format = shapeOf b .format;
       header = shapeOf b .header;
+      own = length (shapeOf b .own);
+      heads = length (heads (shapeOf b));
+      «count_at» = shapeOf b .countAt;
       count = shapeOf b .count;
       item = shapeOf b .item;
       unit = shapeOf b .unit;
@@ -33,3 +37,23 @@ openedOf b =
 -- the device slots of a pair's two value records, by their formats
 abbrev pub slotsOf : ℕ → ℕ → List ℕ
 slotsOf v w = map (λ k. 2 * k) (devices v) ++ map (λ k. 2 * (fieldCount v + k)) (devices w)
+
+-- the shape of which a layout holds the numbers
+abbrev pub shapeWith : Layout → Shape
+shapeWith l =
+    record {
+      format = l .format;
+      header = l .header;
+      own = ownIn (l .format);
+      shared = sharedIn (l .format);
+      countAt = l .«count_at»;
+      count = l .count;
+      item = l .item;
+      unit = l .unit;
+      slots = cond (eqb (l .format) 1) (0 ∷ []) (slotsOf (l .value1) (l .value2));
+    }
+
+-- the layout counts the links of its header
+pub record Numbered (l : Layout) : Type 0 where
+  pub own-is : l .own ≡ length (ownIn (l .format))
+  pub heads-is : l .heads ≡ length (ownIn (l .format) ++ sharedIn (l .format))

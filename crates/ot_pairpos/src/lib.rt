@@ -3,22 +3,24 @@ use ot_values::field_count;
 use ot_values::is_device;
 use ot_wire::u16_at;
 ghost use mathlib.Core.Path.{_≡_};
-ghost use mathlib.Core.Bool.{cond};
-ghost use mathlib.Core.List.{List, [], _∷_};
+ghost use mathlib.Core.List.{List, _++_};
 ghost use Prim.Native.Nat.{ℕ, _+_, _*_, _≤_};
 ghost use lib.ListN.{length};
-ghost use lib.Dec.{eqb};
 ghost use Rattle.folds.specs.Lists.{among};
 ghost use Rattle.ot_layouts.specs.Numbers.{u16At};
 ghost use Rattle.ot_layouts.specs.Values.{fieldCount};
-ghost use Rattle.ot_layouts.specs.PairPos.{formatOf, recordSize, shapeOf, shape1, shape2, isSlot};
+ghost use Rattle.ot_layouts.specs.PairPos.{ownIn, sharedIn, formatOf, recordSize, shapeOf, shape1, shape2, isSlot};
 ghost use Rattle.folds.specs.Moments.{came};
 ghost use Rattle.ot_pairpos.specs.Layout.{layoutOf, openedOf, slotsOf};
 
-// What stands where in a table: both formats are a header and a count of items, each of some units (a slot, or a pair's two value records).
+// What stands where in a table: both formats are a header and a count of items, each of some units (a slot, or a pair's two value records). The header has
+// `heads` links, of which `own` lead to parts that are the table's own, and the count at `count_at`.
 pub struct Layout {
     pub format: u16,
     pub header: usize,
+    pub own: usize,
+    pub heads: usize,
+    pub count_at: usize,
     pub count: u16,
     pub item: usize,
     pub unit: usize,
@@ -65,6 +67,9 @@ fn open_format1(table: &[u8]) -> Opened
     Opened::Pair(Layout {
         format: 1,
         header: 10,
+        own: 1,
+        heads: 1,
+        count_at: 8,
         count,
         item: 2,
         unit: 2,
@@ -100,6 +105,9 @@ fn open_format2(table: &[u8]) -> Opened
     Opened::Pair(Layout {
         format: 2,
         header: 16,
+        own: 2,
+        heads: 3,
+        count_at: 12,
         count,
         item,
         unit,
@@ -109,9 +117,9 @@ fn open_format2(table: &[u8]) -> Opened
     })
 }
 
-// Objects that a split makes for a new table: itself, its coverage, in format 2 its class definition 1.
+// Objects that a split makes for a new table: its own parts and itself.
 pub fn objects_per_table(format: u16) -> usize
-    ensures { λ r. ⌜ r ≡ cond (eqb format 1) 2 3 ⌝ }
+    ensures { λ r. ⌜ r ≡ length (ownIn format) + 1 ⌝ }
 {
     if format == 1 { 2 } else { 3 }
 }
@@ -154,7 +162,7 @@ fn is_slot2(unit: usize, value1: u16, value2: u16, position: usize) -> bool
 
 // Where the header of format 2 has its links.
 fn is_head2(position: usize) -> bool
-    ensures { λ r. ⌜ r ≡ among position (2 ∷ 8 ∷ 10 ∷ []) ⌝ }
+    ensures { λ r. ⌜ r ≡ among position (ownIn 2 ++ sharedIn 2) ⌝ }
 {
     if position == 2 {
         return true;

@@ -1,6 +1,6 @@
 // A value format's fields: how many, which, and where each stands in a value record. The counterpart of `get_device_table_indices`.
 ghost use mathlib.Core.Path.{_≡_};
-ghost use Prim.Native.Nat.{_<_, _≤_};
+ghost use Prim.Native.Nat.{_<_};
 ghost use lib.Dec.{eqb};
 ghost use Rattle.folds.specs.Lists.{among};
 ghost use Rattle.ot_layouts.specs.Values.{bit, fieldCount, position, devices};
@@ -21,18 +21,31 @@ pub fn has_field(format: u16, j: usize) -> bool
     format & mask == mask
 }
 
-// Where field `j` of the table stands: the fields of `format` before it.
+// Where field `j` of the table stands: the fields of `format` in the rows before it.
 pub fn position(format: u16, j: usize) -> usize
-    requires { ⌜ j ≤ 8 ⌝ }
+    requires { ⌜ j < 8 ⌝ }
     ensures { λ r. ⌜ r ≡ position format j ⌝ }
 {
-    let below = (1u16 << j) - 1;
+    let below = ot_layouts::field_at(j).mask - 1;
     u16::count_ones(format & below) as usize
 }
 
-// Whether a device stands at position `k`: the devices are the last four rows of the table, so they stand behind the plain fields.
+// Whether a device stands at position `k`: the row of the table that has the field at this position says so.
 pub fn is_device(format: u16, k: usize) -> bool
     ensures { λ r. ⌜ r ≡ among k (devices format) ⌝ }
 {
-    position(format, 4) <= k && k < field_count(format)
+    let mut at: usize = 0;
+    let mut j: usize = 0;
+    while j < 8 {
+        if has_field(format, j) {
+            if at == k {
+                return ot_layouts::field_at(j).device;
+            }
+            at += 1;
+            j += 1;
+        } else {
+            j += 1;
+        }
+    }
+    false
 }

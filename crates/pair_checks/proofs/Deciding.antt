@@ -25,7 +25,7 @@ use Rattle.pair_checks.specs.declared.Part.{Part}
 use Rattle.pair_checks.specs.declared.Linked.{Linked}
 use Rattle.pair_checks.specs.declared.Linked.the-variants.{To, Nothing}
 use Rattle.pair_checks.specs.declared.Checked.{Checked}
-use Rattle.pair_checks.specs.declared.Checked.the-variants.{Open, Refused}
+use Rattle.pair_checks.specs.declared.Checked.the-variants.{Open, Settled}
 
 -- ---- a part that is linked
 
@@ -58,7 +58,7 @@ module _ (read : List ℕ → Reading) (s : Store) (t q : ℕ) {r : Linked} {p :
 -- ---- format 1
 
 module _ (s : Store) (l : Layout) (c : Part) {glyphs : ℕ} (e : glyphs ≡ length (coverGlyphs (bytesOf s (c .object)))) where
-  pub too-few : glyphs < l .count → Refused FewGlyphs ≡ setsBy s l c
+  pub too-few : glyphs < l .count → Settled FewGlyphs ≡ setsBy s l c
   unfolding setsBy
   too-few h = rw (lt-ltb (length (coverGlyphs (bytesOf s (c .object)))) (l .count) (omega arith))
 
@@ -71,10 +71,10 @@ module _ (s : Store) (l : Layout) (c : Part) {glyphs : ℕ} (e : glyphs ≡ leng
 -- ---- format 2
 
 module _ (s : Store) (l : Layout) (c : Part) {x y r q : Linked} (e : r ≡ x) (f : q ≡ y) where
-  pub no-first : r ≡ Nothing → Refused BadParts ≡ rowsBy s l c x y
+  pub no-first : r ≡ Nothing → Settled BadParts ≡ rowsBy s l c x y
   no-first n = sym (ap (λ (z : Linked). rowsBy s l c z y) (sym e ∙ n))
 
-  pub no-second : {d : Part} → r ≡ To d → q ≡ Nothing → Refused BadParts ≡ rowsBy s l c x y
+  pub no-second : {d : Part} → r ≡ To d → q ≡ Nothing → Settled BadParts ≡ rowsBy s l c x y
   no-second {d} h n = sym (ap₂ (λ (z w : Linked). rowsBy s l c z w) (sym e ∙ h) (sym f ∙ n))
 
   pub both-there : {d g : Part} {glyphs : ℕ} → r ≡ To d → q ≡ To g → glyphs ≡ length (coverGlyphs (bytesOf s (c .object)))
@@ -86,7 +86,7 @@ module _ (s : Store) (l : Layout) (c : Part) {x y r q : Linked} (e : r ≡ x) (f
 -- ---- by format
 
 module _ (s : Store) (t : ℕ) (l : Layout) {x r : Linked} (e : r ≡ x) where
-  pub no-coverage : r ≡ Nothing → Refused BadParts ≡ partsBy s t l x
+  pub no-coverage : r ≡ Nothing → Settled BadParts ≡ partsBy s t l x
   no-coverage n = sym (ap (partsBy s t l) (sym e ∙ n))
 
   module _ {c : Part} {v : Checked} (h : r ≡ To c) where
@@ -109,7 +109,7 @@ is-true true h = refl
 is-true false h = let z : _≡_ {A = Bool} true false = h in cc
 
 module _ (s : Store) (t : ℕ) {b : Bool} (e : b ≡ sound s) where
-  pub not-sound : not b ≡ true → Refused Unsound ≡ checkedOf s t
+  pub not-sound : not b ≡ true → Settled Unsound ≡ checkedOf s t
   unfolding checkedOf
   not-sound h = rw (← e, h)
 
@@ -117,7 +117,7 @@ module _ (s : Store) (t : ℕ) {b : Bool} (e : b ≡ sound s) where
     pub tested : sound s ≡ true
     tested = sym e ∙ is-true b h
 
-    pub no-table : s .objectCount ≤ t → Refused NoTable ≡ checkedOf s t
+    pub no-table : s .objectCount ≤ t → Settled NoTable ≡ checkedOf s t
     unfolding checkedOf
     no-table l = rw (tested, le-leb (s .objectCount) t l)
 

@@ -2,3 +2,4 @@ pub mod Linking
 pub mod Deciding
 pub mod AtSlots
 pub mod Refusals
+pub mod Called

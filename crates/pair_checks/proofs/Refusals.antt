@@ -29,13 +29,13 @@ use Rattle.pair_rules.specs.Calls.{readCases}
 use Rattle.pair_rules.specs.Reads.{Reads}
 use Rattle.pair_rules.proofs.Checks.{no-case-reads, class-read}
 use Rattle.pair_checks.proofs.Deciding.{part-linked, part-read}
-use Rattle.pair_checks.specs.Checked.{readBy, linkedBy, linkedOf, setsBy, rowsBy, partsBy, openBy, checkedOf, refusal}
+use Rattle.pair_checks.specs.Checked.{readBy, linkedBy, linkedOf, setsBy, rowsBy, partsBy, openBy, checkedOf, settledAs}
 use Rattle.pair_checks.specs.declared.Part.{Part}
 use Rattle.pair_checks.specs.declared.Linked.{Linked}
 use Rattle.pair_checks.specs.declared.Linked.the-variants.{To, Nothing}
 use Rattle.pair_checks.specs.declared.PairTable.{PairTable}
 use Rattle.pair_checks.specs.declared.Checked.{Checked}
-use Rattle.pair_checks.specs.declared.Checked.the-variants.{Open, Refused}
+use Rattle.pair_checks.specs.declared.Checked.the-variants.{Open, Settled}
 use Rattle.pair_checks.specs.Opens.{Opens, LinkedPart}
 
 -- ---- a linked part
@@ -97,12 +97,12 @@ module _ (s : Store) (t : ℕ) where
   class q = cond isOne coverage (partOf classHeader s (linkedAt s t q))
 
   by-coverage : (p : Bool) → partsBy s t (layoutOf (bytesOf s t)) (cond p (To coverage) Nothing)
-      ≡ cond p (cond isOne (cond few (Refused FewGlyphs) (Open (table coverage coverage))) (rowsBy s (layoutOf (bytesOf s t)) coverage (linkedOf classDefOf s t 8) (linkedOf classDefOf s t 10))) (Refused BadParts)
+      ≡ cond p (cond isOne (cond few (Settled FewGlyphs) (Open (table coverage coverage))) (rowsBy s (layoutOf (bytesOf s t)) coverage (linkedOf classDefOf s t 8) (linkedOf classDefOf s t 10))) (Settled BadParts)
   unfolding setsBy layoutOf
   by-coverage true = refl
   by-coverage false = refl
 
-  by-classes : (d e : Part) (q r : Bool) → rowsBy s (layoutOf (bytesOf s t)) coverage (cond q (To d) Nothing) (cond r (To e) Nothing) ≡ cond (q && r) (Open (table d e)) (Refused BadParts)
+  by-classes : (d e : Part) (q r : Bool) → rowsBy s (layoutOf (bytesOf s t)) coverage (cond q (To d) Nothing) (cond r (To e) Nothing) ≡ cond (q && r) (Open (table d e)) (Settled BadParts)
   by-classes d e true true = refl
   by-classes d e true false = refl
   by-classes d e false true = refl
@@ -110,8 +110,8 @@ module _ (s : Store) (t : ℕ) where
 
   -- the tests of the coverage, of the format, of both class definitions and of the count of glyphs, in document 01's order
   in-order : (d e : Part) (p f q i r w : Bool)
-      → cond p (cond f (cond w (Refused FewGlyphs) (Open (table coverage coverage))) (cond (q && (i && r)) (Open (table d e)) (Refused BadParts))) (Refused BadParts)
-      ≡ cond (not (p && cond f true (q && i && r))) (Refused BadParts) (cond (f && w) (Refused FewGlyphs) (Open (table (cond f coverage d) (cond f coverage e))))
+      → cond p (cond f (cond w (Settled FewGlyphs) (Open (table coverage coverage))) (cond (q && (i && r)) (Open (table d e)) (Settled BadParts))) (Settled BadParts)
+      ≡ cond (not (p && cond f true (q && i && r))) (Settled BadParts) (cond (f && w) (Settled FewGlyphs) (Open (table (cond f coverage d) (cond f coverage e))))
   in-order d e false f q i r w = refl
   in-order d e true true q i r w = refl
   in-order d e true false false i r w = refl
@@ -120,12 +120,12 @@ module _ (s : Store) (t : ℕ) where
   in-order d e true false true true false w = refl
 
   -- 4 and 5
-  parts-choice : partsBy s t (layoutOf (bytesOf s t)) (linkedOf coverageOf s t 2) ≡ cond (not (partsReadable s t)) (Refused BadParts) (cond (isOne && few) (Refused FewGlyphs) (Open (table (class 8) (class 10))))
+  parts-choice : partsBy s t (layoutOf (bytesOf s t)) (linkedOf coverageOf s t 2) ≡ cond (not (partsReadable s t)) (Settled BadParts) (cond (isOne && few) (Settled FewGlyphs) (Open (table (class 8) (class 10))))
   unfolding partsReadable
   parts-choice =
       ap (partsBy s t (layoutOf (bytesOf s t))) (coverage-choice s t 2)
       ∙ by-coverage (linkedTest coverReadable s (childAt s t 2))
-      ∙ ap (λ (x : Checked). cond (linkedTest coverReadable s (childAt s t 2)) (cond isOne (cond few (Refused FewGlyphs) (Open (table coverage coverage))) x) (Refused BadParts))
+      ∙ ap (λ (x : Checked). cond (linkedTest coverReadable s (childAt s t 2)) (cond isOne (cond few (Settled FewGlyphs) (Open (table coverage coverage))) x) (Settled BadParts))
       (ap₂ (λ (x y : Linked). rowsBy s (layoutOf (bytesOf s t)) coverage x y) (class-choice s t 8) (class-choice s t 10)
       ∙ by-classes (partOf classHeader s (linkedAt s t 8)) (partOf classHeader s (linkedAt s t 10)) (linkedTest classReadable s (childAt s t 8)) (linkedTest classReadable s (childAt s t 10)))
       ∙ in-order (partOf classHeader s (linkedAt s t 8)) (partOf classHeader s (linkedAt s t 10))
@@ -133,19 +133,19 @@ module _ (s : Store) (t : ℕ) where
 
   -- 3 to 5
   opened-choice : openBy s t (openedOf (bytesOf s t))
-      ≡ cond (ltb (length (bytesOf s t)) 2) (Refused BadTable)
-      (cond (not (eqb (formatOf (bytesOf s t)) 1 || eqb (formatOf (bytesOf s t)) 2)) (Refused Done)
-      (cond (not (exact (bytesOf s t))) (Refused BadTable)
-      (cond (not (partsReadable s t)) (Refused BadParts)
-      (cond (eqb (formatOf (bytesOf s t)) 1 && few) (Refused FewGlyphs) (Open (table (class 8) (class 10)))))))
+      ≡ cond (ltb (length (bytesOf s t)) 2) (Settled BadTable)
+      (cond (not (eqb (formatOf (bytesOf s t)) 1 || eqb (formatOf (bytesOf s t)) 2)) (Settled Done)
+      (cond (not (exact (bytesOf s t))) (Settled BadTable)
+      (cond (not (partsReadable s t)) (Settled BadParts)
+      (cond (eqb (formatOf (bytesOf s t)) 1 && few) (Settled FewGlyphs) (Open (table (class 8) (class 10)))))))
   unfolding openedOf
   opened-choice =
       go (ltb (length (bytesOf s t)) 2) (eqb (formatOf (bytesOf s t)) 1 || eqb (formatOf (bytesOf s t)) 2) (exact (bytesOf s t))
-      (parts-choice ∙ ap (λ (f : Bool). cond (not (partsReadable s t)) (Refused BadParts) (cond (f && few) (Refused FewGlyphs) (Open (table (class 8) (class 10))))) (format-test (bytesOf s t)))
+      (parts-choice ∙ ap (λ (f : Bool). cond (not (partsReadable s t)) (Settled BadParts) (cond (f && few) (Settled FewGlyphs) (Open (table (class 8) (class 10))))) (format-test (bytesOf s t)))
     where
       go : {v : Checked} (x y z : Bool) → partsBy s t (layoutOf (bytesOf s t)) (linkedOf coverageOf s t 2) ≡ v
           → openBy s t (cond x Opened.Bad (cond y (cond z (Opened.Pair (layoutOf (bytesOf s t))) Opened.Bad) Opened.Other))
-          ≡ cond x (Refused BadTable) (cond (not y) (Refused Done) (cond (not z) (Refused BadTable) v))
+          ≡ cond x (Settled BadTable) (cond (not y) (Settled Done) (cond (not z) (Settled BadTable) v))
       go true y z e = refl
       go false false z e = refl
       go false true false e = refl
@@ -153,25 +153,25 @@ module _ (s : Store) (t : ℕ) where
 
   -- 1 to 5
   decision : checkedOf s t
-      ≡ cond (not (sound s)) (Refused Unsound)
-      (cond (leb (s .objectCount) t) (Refused NoTable)
-      (cond (ltb (length (bytesOf s t)) 2) (Refused BadTable)
-      (cond (not (eqb (formatOf (bytesOf s t)) 1 || eqb (formatOf (bytesOf s t)) 2)) (Refused Done)
-      (cond (not (exact (bytesOf s t))) (Refused BadTable)
-      (cond (not (partsReadable s t)) (Refused BadParts)
-      (cond (eqb (formatOf (bytesOf s t)) 1 && few) (Refused FewGlyphs) (Open (table (class 8) (class 10)))))))))
+      ≡ cond (not (sound s)) (Settled Unsound)
+      (cond (leb (s .objectCount) t) (Settled NoTable)
+      (cond (ltb (length (bytesOf s t)) 2) (Settled BadTable)
+      (cond (not (eqb (formatOf (bytesOf s t)) 1 || eqb (formatOf (bytesOf s t)) 2)) (Settled Done)
+      (cond (not (exact (bytesOf s t))) (Settled BadTable)
+      (cond (not (partsReadable s t)) (Settled BadParts)
+      (cond (eqb (formatOf (bytesOf s t)) 1 && few) (Settled FewGlyphs) (Open (table (class 8) (class 10)))))))))
   unfolding checkedOf
-  decision = ap (λ (x : Checked). cond (not (sound s)) (Refused Unsound) (cond (leb (s .objectCount) t) (Refused NoTable) x)) opened-choice
+  decision = ap (λ (x : Checked). cond (not (sound s)) (Settled Unsound) (cond (leb (s .objectCount) t) (Settled NoTable) x)) opened-choice
 
 -- a refusal behind a test
-refused : (b : Bool) (a : Answer) (v : Checked) → refusal (cond b (Refused a) v) ≡ cond b (some (number a)) (refusal v)
+refused : (b : Bool) (a : Answer) (v : Checked) → settledAs (cond b (Settled a) v) ≡ cond b (some (number a)) (settledAs v)
 refused true a v = refl
 refused false a v = refl
 
 -- the decision has document 01's number, and document 01's cases go by the same tests
-pub refusals : (s : Store) (t : ℕ) → firstCase (readCases s t) ≡ refusal (checkedOf s t)
+pub refusals : (s : Store) (t : ℕ) → firstCase (readCases s t) ≡ settledAs (checkedOf s t)
 unfolding firstCase readCases
-refusals s t = sym (ap refusal (decision s t) ∙ simp refused)
+refusals s t = sym (ap settledAs (decision s t) ∙ simp refused)
 
 -- ---- an open table
 
@@ -182,7 +182,7 @@ linked-part read s t q p e =
 
 module _ (s : Store) (t : ℕ) (p : PairTable) (e : checkedOf s t ≡ Open p) where
   reads : Reads s t
-  reads = no-case-reads s t (refusals s t ∙ ap refusal e)
+  reads = no-case-reads s t (refusals s t ∙ ap settledAs e)
 
   settled : checkedOf s t ≡ Open (table s t (class s t 8) (class s t 10))
   unfolding exact

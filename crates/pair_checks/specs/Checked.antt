@@ -20,7 +20,7 @@ use Rattle.pair_checks.specs.declared.Part.{Part}
 use Rattle.pair_checks.specs.declared.Linked.{Linked}
 use Rattle.pair_checks.specs.declared.Linked.the-variants.{To, Nothing}
 use Rattle.pair_checks.specs.declared.Checked.{Checked}
-use Rattle.pair_checks.specs.declared.Checked.the-variants.{Open, Refused}
+use Rattle.pair_checks.specs.declared.Checked.the-variants.{Open, Settled}
 
 -- ---- a linked part
 
@@ -43,31 +43,31 @@ linkedOf read s t q = linkedBy read s (childAt s t q)
 -- a table of format 1: "fewer covered glyphs than sets" is 5
 unfoldable pub setsBy : Store → Layout → Part → Checked
 setsBy s l c =
-    cond (ltb (length (coverGlyphs (bytesOf s (c .object)))) (l .count)) (Refused FewGlyphs)
+    cond (ltb (length (coverGlyphs (bytesOf s (c .object)))) (l .count)) (Settled FewGlyphs)
     (Open (record { layout = l; coverage = c; glyphs = length (coverGlyphs (bytesOf s (c .object))); class1 = c; class2 = c }))
 
 -- a table of format 2, by its class definitions
 abbrev pub rowsBy : Store → Layout → Part → Linked → Linked → Checked
 rowsBy s l c (To d) (To e) = Open (record { layout = l; coverage = c; glyphs = length (coverGlyphs (bytesOf s (c .object))); class1 = d; class2 = e })
-rowsBy s l c (To d) Nothing = Refused BadParts
-rowsBy s l c Nothing e = Refused BadParts
+rowsBy s l c (To d) Nothing = Settled BadParts
+rowsBy s l c Nothing e = Settled BadParts
 
 -- 4 and 5, by the coverage
 abbrev pub partsBy : Store → ℕ → Layout → Linked → Checked
 partsBy s t l (To c) = cond (eqb (l .format) 1) (setsBy s l c) (rowsBy s l c (linkedOf classDefOf s t 8) (linkedOf classDefOf s t 10))
-partsBy s t l Nothing = Refused BadParts
+partsBy s t l Nothing = Settled BadParts
 
 -- 3 to 5, by what opening the table answered
 abbrev pub openBy : Store → ℕ → Opened → Checked
 openBy s t (Opened.Pair l) = partsBy s t l (linkedOf coverageOf s t 2)
-openBy s t Opened.Other = Refused Done
-openBy s t Opened.Bad = Refused BadTable
+openBy s t Opened.Other = Settled Done
+openBy s t Opened.Bad = Settled BadTable
 
 -- 1 to 5
 unfoldable pub checkedOf : Store → ℕ → Checked
-checkedOf s t = cond (not (sound s)) (Refused Unsound) (cond (leb (s .objectCount) t) (Refused NoTable) (openBy s t (openedOf (bytesOf s t))))
+checkedOf s t = cond (not (sound s)) (Settled Unsound) (cond (leb (s .objectCount) t) (Settled NoTable) (openBy s t (openedOf (bytesOf s t))))
 
--- document 01's number of a refusal; none where the table is open
-abbrev pub refusal : Checked → Option ℕ
-refusal (Open p) = none
-refusal (Refused a) = some (number a)
+-- document 01's number where the call has its answer; none where the table is open
+abbrev pub settledAs : Checked → Option ℕ
+settledAs (Open p) = none
+settledAs (Settled a) = some (number a)

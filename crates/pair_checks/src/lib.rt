@@ -1,4 +1,6 @@
-// The checks 1 to 5 of a table, in document 01's order: one decision, which splits, cut plans and pair readings share.
+// The checks 1 to 5 of a table, in document 01's order: one decision, which splits, cut plans and pair readings share; then those of a call that
+// is lent scratch. The Rust text asks some of this in `PairPosFormat1::sanitize`, `PairPosFormat2::sanitize` and `get_table_info`.
+pub mod call;
 pub mod slots;
 
 use call_rules::Answer;
@@ -48,10 +50,10 @@ pub struct PairTable {
     pub class2: Part,
 }
 
-// What the checks say. A table of another format is refused as done.
+// What the checks say: the table is open, or the call has its answer, which for a table of another format is 0.
 pub enum Checked {
     Open(PairTable),
-    Refused(Answer),
+    Settled(Answer),
 }
 
 // Checks a table of any store.
@@ -65,15 +67,15 @@ pub fn check_table(
     ensures { λ r. ⌜ r ≡ checkedOf (storeCame «data» objects links counts) table ⌝ }
 {
     if !is_sound(data, objects, links, counts) {
-        return Checked::Refused(Answer::Unsound);
+        return Checked::Settled(Answer::Unsound);
     }
     if counts[1] <= table {
-        return Checked::Refused(Answer::NoTable);
+        return Checked::Settled(Answer::NoTable);
     }
     let opened = open(bytes_of(data, objects, table as usize));
     match opened {
-        Opened::Bad => Checked::Refused(Answer::BadTable),
-        Opened::Other => Checked::Refused(Answer::Done),
+        Opened::Bad => Checked::Settled(Answer::BadTable),
+        Opened::Other => Checked::Settled(Answer::Done),
         Opened::Pair(layout) => check_parts(data, objects, links, counts, table, layout),
     }
 }
@@ -95,7 +97,7 @@ fn check_parts(
 {
     let linked = linked_coverage(data, objects, links, counts, table);
     let Linked::To(coverage) = linked else {
-        return Checked::Refused(Answer::BadParts);
+        return Checked::Settled(Answer::BadParts);
     };
     let glyphs = glyphs_of(data, objects, coverage);
     if layout.format == 1 {
@@ -119,7 +121,7 @@ fn check_sets(layout: Layout, coverage: Part, glyphs: usize) -> Checked
     ensures { λ r. ⌜ ((s : Store) → glyphs ≡ length (coverGlyphs (bytesOf s (coverage .object))) → r ≡ setsBy s layout coverage) ⌝ }
 {
     if glyphs < (layout.count as usize) {
-        return Checked::Refused(Answer::FewGlyphs);
+        return Checked::Settled(Answer::FewGlyphs);
     }
     Checked::Open(PairTable {
         layout,
@@ -152,11 +154,11 @@ fn check_rows(
 {
     let first = linked_class_def(data, objects, links, counts, table, 8);
     let Linked::To(class1) = first else {
-        return Checked::Refused(Answer::BadParts);
+        return Checked::Settled(Answer::BadParts);
     };
     let second = linked_class_def(data, objects, links, counts, table, 10);
     let Linked::To(class2) = second else {
-        return Checked::Refused(Answer::BadParts);
+        return Checked::Settled(Answer::BadParts);
     };
     Checked::Open(PairTable {
         layout,

@@ -6,18 +6,20 @@ use native.Mathlib.Omega.{arith}
 use lib.ListN.{length, getD, length-append}
 use Rattle.folds.specs.Lists.{put}
 use Rattle.folds.proofs.Put.{put-put, put-before, put-over, length-put}
-use Rattle.ot_layouts.specs.PairPos.{Shape}
+use Rattle.ot_layouts.specs.PairPos.{Shape, ownIn}
+use Rattle.ot_pairpos.specs.declared.Layout.{Layout}
+use Rattle.ot_pairpos.specs.Layout.{shapeWith}
 use Rattle.store_rules.specs.Store.{Store, Link, lent, linksOf, childAt}
-use Rattle.pair_rules.specs.Written.{perTable, tableLinks, newLinks}
-use Rattle.store_rules.specs.Appended.{rowNumbers, newNumber}
+use Rattle.pair_rules.specs.Written.{needLinks, tableLinks, newLinks}
+use Rattle.store_rules.specs.Appended.{rowNumbers}
 use Rattle.store_rules.proofs.LinkRows.{rows-numbers}
 use Rattle.store_link_rows.specs.Rows.{seg, span, row, rows}
-use Rattle.pair_links.specs.Blocks.{Plan, plan, newRows, parted, headCount, grown, keptRow, PartedRows}
+use Rattle.pair_links.specs.Blocks.{Plan, plan, tableId, newRows, parted, grown, keptRow, PartedRows}
 use Rattle.pair_links.specs.Parting.{Between, Parted}
 use Rattle.store_link_rows.proofs.Spans.{seg-ext, span-join, span-ext}
 use Rattle.store_link_rows.proofs.RowLaws.{rows-long, row-below, row-of-rows, own-rows}
 use Rattle.pair_links.proofs.Keeping.{kept-is, kept-long}
-use Rattle.pair_links.proofs.Parting.{planOf, header-count}
+use Rattle.pair_links.proofs.Parting.{planOf}
 use Rattle.pair_links.proofs.Written.{link-numbers}
 
 module _ (ls : List ℕ) (a b m : ℕ) (p : Plan) (ab : a ≤ b) (bm : b ≤ m) (room : 4 * grown m p ≤ length ls) (out : List ℕ) (done : PartedRows ls out a b m p) where
@@ -40,14 +42,14 @@ module _ (ls : List ℕ) (a b m : ℕ) (p : Plan) (ab : a ≤ b) (bm : b ≤ m) 
       ∙ row-below d (4 * q) N (omega arith) (a + i) (omega arith)
       ∙ row-of-rows ls ls a b (m - b) i (omega arith) l
 
-  stay : (t v : ℕ) → span (keptRow out t v) 0 (m - (b - a)) ≡ span (keptRow ls t v) 0 a ++ span (keptRow ls t v) b m
-  stay t v =
+  stay : (own : List ℕ) (t v : ℕ) → span (keptRow out own t v) 0 (m - (b - a)) ≡ span (keptRow ls own t v) 0 a ++ span (keptRow ls own t v) b m
+  stay own t v =
       let q = m - (b - a) in
       let n : q - a ≡ m - b = omega arith in
-      span-join (keptRow out t v) 0 a q (omega arith) (omega arith)
+      span-join (keptRow out own t v) 0 a q (omega arith) (omega arith)
       ∙ ap₂ (λ (x y : List ℕ). x ++ y)
-      (span-ext (keptRow out t v) (keptRow ls t v) 0 a (λ k l h. kept-is ls out t v k k (before-a k h)))
-      (ap (seg (keptRow out t v) a) n ∙ seg-ext (keptRow out t v) (keptRow ls t v) a b (m - b) (λ i l. kept-is ls out t v (b + i) (a + i) (from-b i l)))
+      (span-ext (keptRow out own t v) (keptRow ls own t v) 0 a (λ k l h. kept-is ls out own t v k k (before-a k h)))
+      (ap (seg (keptRow out own t v) a) n ∙ seg-ext (keptRow out own t v) (keptRow ls own t v) a b (m - b) (λ i l. kept-is ls out own t v (b + i) (a + i) (from-b i l)))
 
   -- written once, from the first row on
   whole : out ≡ put (put ls 0 (rows ls 0 a ++ rows ls b m)) (4 * (m - (b - a))) (newRows ls a b p)
@@ -64,68 +66,75 @@ module _ (ls : List ℕ) (a b m : ℕ) (p : Plan) (ab : a ≤ b) (bm : b ≤ m) 
       ∙ ap (put ls 0) (sym (append-assoc A R N))
       ∙ sym (put-put ls 0 (A ++ R) (4 * (m - (b - a))) N (omega arith) f)
 
-  pub finished : (t v : ℕ) (out′ : List ℕ) → out′ ≡ put out 0 (span (keptRow out t v) 0 (m - (b - a)))
-      → out′ ≡ put ls 0 ((span (keptRow ls t v) 0 a ++ span (keptRow ls t v) b m) ++ newRows ls a b p)
-  finished t v out′ h =
+  pub finished : (own : List ℕ) (t v : ℕ) (out′ : List ℕ) → out′ ≡ put out 0 (span (keptRow out own t v) 0 (m - (b - a)))
+      → out′ ≡ put ls 0 ((span (keptRow ls own t v) 0 a ++ span (keptRow ls own t v) b m) ++ newRows ls a b p)
+  finished own t v out′ h =
       let q = m - (b - a) in
       let A = rows ls 0 a in
       let R = rows ls b m in
       let N = newRows ls a b p in
-      let S = span (keptRow ls t v) 0 a ++ span (keptRow ls t v) b m in
+      let S = span (keptRow ls own t v) 0 a ++ span (keptRow ls own t v) b m in
       let front = rows-long ls 0 a (omega arith) in
       let nr = length-append A R in
-      let ns : length S ≡ 4 * q = ap length (sym (stay t v)) ∙ (let l = kept-long out t v 0 q (omega arith) in omega arith) in
+      let ns : length S ≡ 4 * q = ap length (sym (stay own t v)) ∙ (let l = kept-long out own t v 0 q (omega arith) in omega arith) in
       let nn = length-append R N in
       let nw = length-append S N in
       let long = done .long in
       let d = put ls 0 (A ++ R) in
       let nd : length d ≡ length ls = length-put ls 0 (A ++ R) (omega (arith, ahead)) in
       h
-      ∙ ap₂ (λ (o x : List ℕ). put o 0 x) whole (stay t v)
+      ∙ ap₂ (λ (o x : List ℕ). put o 0 x) whole (stay own t v)
       ∙ put-before d 0 S (4 * q) N (omega arith) (omega (arith, ahead))
       ∙ put-over ls 0 (A ++ R) (S ++ N) (omega (arith, ahead)) (omega (arith, ahead))
 
-  pub finished-long : (t v : ℕ) → length ((span (keptRow ls t v) 0 a ++ span (keptRow ls t v) b m) ++ newRows ls a b p) ≡ 4 * grown m p
-  finished-long t v =
-      let x = kept-long ls t v 0 a (omega arith) in
-      let y = kept-long ls t v b m bm in
-      let u = length-append (span (keptRow ls t v) 0 a) (span (keptRow ls t v) b m) in
-      let w = length-append (span (keptRow ls t v) 0 a ++ span (keptRow ls t v) b m) (newRows ls a b p) in
+  pub finished-long : (own : List ℕ) (t v : ℕ) → length ((span (keptRow ls own t v) 0 a ++ span (keptRow ls own t v) b m) ++ newRows ls a b p) ≡ 4 * grown m p
+  finished-long own t v =
+      let x = kept-long ls own t v 0 a (omega arith) in
+      let y = kept-long ls own t v b m bm in
+      let u = length-append (span (keptRow ls own t v) 0 a) (span (keptRow ls own t v) b m) in
+      let w = length-append (span (keptRow ls own t v) 0 a ++ span (keptRow ls own t v) b m) (newRows ls a b p) in
       let z = length-append (rows ls b m) (newRows ls a b p) in
       omega (arith, ahead, done .long)
 
 -- what the code has written is what is to be written
-pub parted-links : (s : Store) (t : ℕ) (sh : Shape) (cs : List ℕ) (a b class2 : ℕ) → Between s t sh cs a b class2 → (out out′ : List ℕ)
-    → PartedRows (s .links) out a b (s .linkCount) (planOf s sh cs class2)
-    → out′ ≡ put out 0 (span (keptRow out t (newNumber s (perTable sh) (length cs))) 0 (s .linkCount - (b - a)))
-    → Parted s t sh cs out′ (s .linkCount + headCount (perTable sh) * length cs)
-parted-links s t sh cs a b class2 g out out′ done h =
-    let v = newNumber s (perTable sh) (length cs) in
-    let p = planOf s sh cs class2 in
-    let e = link-numbers s t sh cs a b class2 g in
-    let room : 4 * grown (s .linkCount) p ≤ length (s .links) = rw (header-count sh) at (g .known .linkRoom) in
-    let n = finished-long (s .links) a b (s .linkCount) p (g .ordered) (g .used) room out done t v in
-    record {
-      count-is = omega (arith, rows-numbers (newLinks s t sh cs), ap length e);
-      added = ap (λ (k : ℕ). s .linkCount + k * length cs) (sym (header-count sh));
-      rows-are = finished (s .links) a b (s .linkCount) p (g .ordered) (g .used) room out done t v out′ h ∙ ap (put (s .links) 0) (sym e);
-    }
+module _ (s : Store) (t : ℕ) (l : Layout) (cs : List ℕ) (a b class2 : ℕ) (g : Between s t l cs a b class2) where
+  abbrev sh : Shape
+  sh = shapeWith l
+
+  -- the first of the kept table's new objects
+  abbrev v : ℕ
+  v = tableId (planOf s l cs class2) (length cs)
+
+  pub parted-links : (out out′ : List ℕ) → PartedRows (s .links) out a b (s .linkCount) (planOf s l cs class2)
+      → out′ ≡ put out 0 (span (keptRow out (ownIn (l .format)) t v) 0 (s .linkCount - (b - a)))
+      → Parted s t sh cs out′ (s .linkCount + l .heads * length cs)
+  unfolding needLinks
+  parted-links out out′ done h =
+      let p = planOf s l cs class2 in
+      let own = ownIn (l .format) in
+      let e = link-numbers s t l cs a b class2 g in
+      let room = g .known .linkRoom in
+      let n = finished-long (s .links) a b (s .linkCount) p (g .ordered) (g .used) room out done own t v in
+      record {
+        count-is = omega (arith, rows-numbers (newLinks s t sh cs), ap length e);
+        added = ap (λ (k : ℕ). s .linkCount + k * length cs) (g .known .numbered .heads-is);
+        rows-are = finished (s .links) a b (s .linkCount) p (g .ordered) (g .used) room out done own t v out′ h ∙ ap (put (s .links) 0) (sym e);
+      }
 
 -- the bytes and the object rows of a store have no part in it
 pub rows-alone : (x y x′ y′ ls cts : List ℕ) (t : ℕ) (sh : Shape) (cs : List ℕ) → newLinks (lent x y ls cts) t sh cs ≡ newLinks (lent x′ y′ ls cts) t sh cs
 unfolding newLinks tableLinks linksOf childAt
 rows-alone x y x′ y′ ls cts t sh cs = refl
 
-pub parted-call : (ls cts : List ℕ) (t : ℕ) (sh : Shape) (cs : List ℕ) (a b class2 n : ℕ) → Between (lent [] [] ls cts) t sh cs a b class2 → n ≡ perTable sh
-    → (out out′ : List ℕ) → PartedRows ls out a b (getD cts 2 0) (plan cs (sh .header) (sh .item) (getD cts 1 0) n class2)
-    → out′ ≡ put out 0 (span (keptRow out t (getD cts 1 0 + n * length cs)) 0 (getD cts 2 0 - (b - a)))
-    → (x y : List ℕ) → Parted (lent x y ls cts) t sh cs out′ (getD cts 2 0 + headCount n * length cs)
-parted-call ls cts t sh cs a b class2 n g e out out′ done h x y =
-    let r = parted-links (lent [] [] ls cts) t sh cs a b class2 g out out′ (rw e at done) (rw e at h) in
-    let same = rows-alone [] [] x y ls cts t sh cs in
-    rw e
-    (record {
+pub parted-call : (ls cts : List ℕ) (t : ℕ) (l : Layout) (cs : List ℕ) (a b class2 : ℕ) → Between (lent [] [] ls cts) t l cs a b class2
+    → (out out′ : List ℕ) → PartedRows ls out a b (getD cts 2 0) (plan cs l (getD cts 1 0) class2)
+    → out′ ≡ put out 0 (span (keptRow out (ownIn (l .format)) t (getD cts 1 0 + (l .own + 1) * length cs)) 0 (getD cts 2 0 - (b - a)))
+    → (x y : List ℕ) → Parted (lent x y ls cts) t (shapeWith l) cs out′ (getD cts 2 0 + l .heads * length cs)
+parted-call ls cts t l cs a b class2 g out out′ done h x y =
+    let r = parted-links (lent [] [] ls cts) t l cs a b class2 g out out′ done h in
+    let same = rows-alone [] [] x y ls cts t (shapeWith l) cs in
+    record {
       count-is = r .count-is ∙ ap length same;
       added = r .added;
       rows-are = r .rows-are ∙ ap (λ (l : List Link). put ls 0 (rowNumbers l)) same;
-    })
+    }

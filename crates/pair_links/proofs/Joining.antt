@@ -7,10 +7,9 @@ use lib.ListN.{length, getD, length-append}
 use Rattle.folds.specs.Lists.{put}
 use Rattle.folds.proofs.Put.{put-put, length-put, put-over}
 use Rattle.store_link_rows.specs.Rows.{seg, positionIn, widthIn, childIn, row, rows, Ordered}
-use Rattle.pair_links.specs.Blocks.{Plan, tables, tableId, movedRow, share, heads, tableRows, newRows, grown, Spread, PartedRows}
+use Rattle.pair_links.specs.Blocks.{Plan, tables, tableId, movedRow, share, headRows, tableRows, newRows, grown, Spread, PartedRows}
 use Rattle.store_link_rows.proofs.Spans.{seg-ext, span-ext}
 use Rattle.store_link_rows.proofs.RowLaws.{rows-long, row-of-rows}
-use Rattle.pair_rules.specs.Written.{perTable}
 
 module _ (ls out : List ℕ) (i k : ℕ) (e : row out k ≡ row ls i) where
   pub position-is : positionIn out k ≡ positionIn ls i
@@ -70,7 +69,7 @@ module _ (ls : List ℕ) (a b m : ℕ) (ab : a ≤ b) (bm : b ≤ m) (room : 4 *
       let n : m - q ≡ b - a = omega arith in
       span-ext (tableRows out q m p) (tableRows ls a b p) 0 (tables p)
       (λ j l h.
-      ap (λ (x : List ℕ). heads (p .perTable) (p .class2) (tableId p j) ++ x)
+      ap (λ (x : List ℕ). headRows (p .layout .format) (p .class2) (tableId p j) ++ x)
       (ap (seg (share out p j) q) n ∙ seg-ext (share out p j) (share ls p j) q a (b - a) (λ i u. share-is ls out (a + i) (q + i) (there i u) p j)))
 
   pub parted-done : (p : Plan) (out′ : List ℕ) → 4 * grown m p ≤ length ls → Spread out out′ (a + (m - b)) m p → PartedRows ls out′ a b m p

@@ -5,26 +5,29 @@ use mathlib.Core.List.{List}
 use native.Mathlib.Omega.{arith}
 use lib.ListN.{length, getD, set}
 use lib.Seq.{set-getD}
+use lib.Dec.{eqb}
 use borrow.Author.Tests.{eq-eqb, ne-eqb}
 use Rattle.folds.specs.Lists.{put}
+use Rattle.folds.proofs.Tests.{by-test}
 use Rattle.folds.proofs.Put.{put-nil, put-put, put-four}
-use Rattle.pair_rules.specs.Written.{keptChild}
+use Rattle.ot_layouts.specs.PairPos.{coverAt, class1At, ownIn}
+use Rattle.store_rules.specs.Header.{ownChild}
 use Rattle.store_link_rows.specs.Rows.{span, parentIn, positionIn, widthIn, childIn, row}
 use Rattle.pair_links.specs.Blocks.{keptRow}
 use Rattle.store_link_rows.proofs.Spans.{span-empty, span-back}
 use Rattle.store_link_rows.proofs.RowLaws.{row-above, put-same, length-span}
 
-length-kept : (ls : List ℕ) (t v k : ℕ) → length (keptRow ls t v k) ≡ 4
+length-kept : (ls own : List ℕ) (t v k : ℕ) → length (keptRow ls own t v k) ≡ 4
 unfolding keptRow
-length-kept ls t v k = refl
+length-kept ls own t v k = refl
 
-pub kept-long : (ls : List ℕ) (t v lo hi : ℕ) → lo ≤ hi → 4 * lo + length (span (keptRow ls t v) lo hi) ≡ 4 * hi
-kept-long ls t v lo hi l = length-span (keptRow ls t v) (length-kept ls t v) lo hi l
+pub kept-long : (ls own : List ℕ) (t v lo hi : ℕ) → lo ≤ hi → 4 * lo + length (span (keptRow ls own t v) lo hi) ≡ 4 * hi
+kept-long ls own t v lo hi l = length-span (keptRow ls own t v) (length-kept ls own t v) lo hi l
 
 -- the same row stays in the same way
-pub kept-is : (ls out : List ℕ) (t v i k : ℕ) → row out k ≡ row ls i → keptRow out t v k ≡ keptRow ls t v i
+pub kept-is : (ls out own : List ℕ) (t v i k : ℕ) → row out k ≡ row ls i → keptRow out own t v k ≡ keptRow ls own t v i
 unfolding row keptRow
-kept-is ls out t v i k e =
+kept-is ls out own t v i k e =
     let p : parentIn out k ≡ parentIn ls i = ap (λ (l : List ℕ). getD l 0 0) e in
     let q : positionIn out k ≡ positionIn ls i = ap (λ (l : List ℕ). getD l 1 0) e in
     let w : widthIn out k ≡ widthIn ls i = ap (λ (l : List ℕ). getD l 2 0) e in
@@ -32,51 +35,72 @@ kept-is ls out t v i k e =
     rw (p, q, w, c)
 
 -- a row of another table is as it was
-pub kept-other : (d : List ℕ) (t v k : ℕ) → 4 * k + 3 < length d → (parentIn d k ≡ t → ⊥) → d ≡ put d (4 * k) (keptRow d t v k)
+pub kept-other : (d own : List ℕ) (t v k : ℕ) → 4 * k + 3 < length d → (parentIn d k ≡ t → ⊥) → d ≡ put d (4 * k) (keptRow d own t v k)
 unfolding row keptRow
-kept-other d t v k l n = rw (ne-eqb (parentIn d k) t n) (sym (put-same d k l))
+kept-other d own t v k l n = rw (ne-eqb (parentIn d k) t n) (sym (put-same d k l))
 
 -- a row of the kept table has another child
-pub kept-own : (d : List ℕ) (t v k x : ℕ) → 4 * k + 3 < length d → parentIn d k ≡ t → x ≡ keptChild v (positionIn d k) (childIn d k)
-    → set d (4 * k + 3) x ≡ put d (4 * k) (keptRow d t v k)
+pub kept-own : (d own : List ℕ) (t v k x : ℕ) → 4 * k + 3 < length d → parentIn d k ≡ t → x ≡ ownChild own v (positionIn d k) (childIn d k)
+    → set d (4 * k + 3) x ≡ put d (4 * k) (keptRow d own t v k)
 unfolding keptRow
-kept-own d t v k x l e h =
+kept-own d own t v k x l e h =
     let s : put d (4 * k) _ ≡ set d (4 * k + 3) x = sym (put-four d (4 * k) (parentIn d k) (positionIn d k) (widthIn d k) x l) ∙ simp set-getD in
     rw (eq-eqb (parentIn d k) t e, ← h) (sym s)
 
+-- ---- where a link of the kept table leads, by its position and the format
+
+module _ (f v q c : ℕ) where
+  pub child-cover : q ≡ coverAt → v ≡ ownChild (ownIn f) v q c
+  unfolding ownChild
+  child-cover e = by-test (eqb f 1) (λ x. rw (x, eq-eqb q coverAt e)) (λ x. rw (x, eq-eqb q coverAt e))
+
+  pub child-class1 : (f ≡ 1 → ⊥) → q ≡ class1At → v + 1 ≡ ownChild (ownIn f) v q c
+  unfolding ownChild
+  child-class1 two e = rw (ne-eqb f 1 two, e)
+
+  pub child-one : (q ≡ coverAt → ⊥) → f ≡ 1 → c ≡ ownChild (ownIn f) v q c
+  unfolding ownChild
+  child-one n e = rw (eq-eqb f 1 e, ne-eqb q coverAt n)
+
+  pub child-two : (q ≡ coverAt → ⊥) → (f ≡ 1 → ⊥) → (q ≡ class1At → ⊥) → c ≡ ownChild (ownIn f) v q c
+  unfolding ownChild
+  child-two n two m = rw (ne-eqb f 1 two, ne-eqb q coverAt n, ne-eqb q class1At m)
+
+-- ---- row by row
+
 -- the first k of the rows are done
-pub record Kept (ls : List ℕ) (count t v : ℕ) (out : List ℕ) (k : ℕ) : Type 0 where
+pub record Kept (ls own : List ℕ) (count t v : ℕ) (out : List ℕ) (k : ℕ) : Type 0 where
   pub few : k ≤ count
   pub room : 4 * count ≤ length ls
   pub same : length out ≡ length ls
-  pub is : out ≡ put ls 0 (span (keptRow ls t v) 0 k)
+  pub is : out ≡ put ls 0 (span (keptRow ls own t v) 0 k)
 
-module _ (ls : List ℕ) (count t v : ℕ) where
-  pub kept-start : 4 * count ≤ length ls → Kept ls count t v ls 0
+module _ (ls own : List ℕ) (count t v : ℕ) where
+  pub kept-start : 4 * count ≤ length ls → Kept ls own count t v ls 0
   kept-start r =
       record {
         few = omega arith;
         room = r;
         same = refl;
-        is = put-nil ls 0 ∙ ap (put ls 0) (sym (span-empty (keptRow ls t v) 0));
+        is = put-nil ls 0 ∙ ap (put ls 0) (sym (span-empty (keptRow ls own t v) 0));
       }
 
-  pub kept-turn : (out : List ℕ) (k : ℕ) → Kept ls count t v out k → (out′ : List ℕ) → k < count → length out′ ≡ length out
-      → out′ ≡ put out (4 * k) (keptRow out t v k) → Kept ls count t v out′ (k + 1)
+  pub kept-turn : (out : List ℕ) (k : ℕ) → Kept ls own count t v out k → (out′ : List ℕ) → k < count → length out′ ≡ length out
+      → out′ ≡ put out (4 * k) (keptRow out own t v k) → Kept ls own count t v out′ (k + 1)
   kept-turn out k i out′ l n h =
-      let A = span (keptRow ls t v) 0 k in
-      let long : 4 * 0 + length A ≡ 4 * k = kept-long ls t v 0 k (omega arith) in
-      let own : row out k ≡ row ls k = ap (λ (o : List ℕ). row o k) (i .is) ∙ row-above ls 0 A (omega arith) k (omega arith) in
+      let A = span (keptRow ls own t v) 0 k in
+      let long : 4 * 0 + length A ≡ 4 * k = kept-long ls own t v 0 k (omega arith) in
+      let same : row out k ≡ row ls k = ap (λ (o : List ℕ). row o k) (i .is) ∙ row-above ls 0 A (omega arith) k (omega arith) in
       record {
         few = omega arith;
         room = i .room;
         same = n ∙ i .same;
         is =
             h
-            ∙ ap₂ (λ (o x : List ℕ). put o (4 * k) x) (i .is) (kept-is ls out t v k k own)
-            ∙ put-put ls 0 A (4 * k) (keptRow ls t v k) (omega arith) (omega arith)
-            ∙ ap (put ls 0) (sym (span-back (keptRow ls t v) 0 k (omega arith)));
+            ∙ ap₂ (λ (o x : List ℕ). put o (4 * k) x) (i .is) (kept-is ls out own t v k k same)
+            ∙ put-put ls 0 A (4 * k) (keptRow ls own t v k) (omega arith) (omega arith)
+            ∙ ap (put ls 0) (sym (span-back (keptRow ls own t v) 0 k (omega arith)));
       }
 
-  pub kept-done : (out : List ℕ) (k : ℕ) → Kept ls count t v out k → count ≤ k → out ≡ put ls 0 (span (keptRow ls t v) 0 count)
+  pub kept-done : (out : List ℕ) (k : ℕ) → Kept ls own count t v out k → count ≤ k → out ≡ put ls 0 (span (keptRow ls own t v) 0 count)
   kept-done out k i l = let e : k ≡ count = omega (arith, i .few) in rw e at (i .is)

@@ -1,40 +1,54 @@
 -- The new tables' rows, from the last table on. Assumes nothing.
 use mathlib.Core.Path.{_≡_, refl, sym, ap, ap₂, _∙_}
-use mathlib.Core.Logic.{_⊎_, ⊎-elim}
+use mathlib.Core.Logic.{⊎-elim}
 use mathlib.Core.List.{List, [], _++_, append-assoc, append-nil}
 use Prim.Native.Nat.{ℕ, _+_, _-_, _*_, _≤_, _<_}
 use native.Mathlib.Nat.{mul-le-mul-left, mul-add, mul-one, mul-zero}
 use native.Mathlib.Omega.{arith}
 use lib.ListN.{length, getD, length-append}
-use lib.Dec.{leb, ltb}
+use lib.Dec.{leb, ltb, eqb}
 use borrow.Author.Tests.{lt-ltb, le-ltb, le-leb, lt-leb, eq-eqb, ne-eqb}
 use Rattle.folds.specs.Lists.{put}
-use Rattle.folds.proofs.Tests.{either, and-second}
+use Rattle.folds.proofs.Tests.{by-test, either, and-second}
 use Rattle.folds.proofs.Put.{put-nil, put-below, put-before}
 use Rattle.store_link_rows.specs.Rows.{span, positionIn, four, Ordered}
-use Rattle.pair_links.specs.Blocks.{Plan, tables, shift, edge, inside, tableId, movedRow, share, heads, headCount, tableRows, grown, Fit, Moved, Spread}
+use Rattle.pair_links.specs.Blocks.{Plan, tables, shift, edge, inside, tableId, movedRow, share, per, headRows, headCount, tableRows, grown, Fit, Moved, Spread}
 use Rattle.store_link_rows.proofs.Spans.{span-empty, span-join, span-front, span-none, span-ext}
 use Rattle.pair_links.proofs.Moving.{moved-long}
-use Rattle.pair_rules.specs.Written.{perTable}
+use Rattle.ot_layouts.specs.PairPos.{coverAt, class1At, class2At, ownIn, sharedIn}
+use Rattle.ot_pairpos.specs.Layout.{Numbered}
+use Rattle.ot_pairpos.proofs.Layouts.{few-heads}
+use Rattle.store_rules.specs.Store.{perLink}
+use Rattle.store_rules.specs.Appended.{rowNumbers}
+use Rattle.store_rules.specs.Header.{ownChild, headerLinks}
+use Rattle.store_rules.proofs.LinkRows.{rows-numbers}
+use Rattle.store_rules.proofs.Header.{header-many}
 
 -- ---- the heads
-pub one-head : (perTable class2 t : ℕ) → perTable ≡ 2 → four t 2 2 (t + 1) ≡ heads perTable class2 t
-unfolding heads
-one-head perTable class2 t e = rw (eq-eqb perTable 2 e)
+pub one-head : (f class2 t : ℕ) → f ≡ 1 → four t coverAt 2 (t + 1) ≡ headRows f class2 t
+unfolding headRows headerLinks ownChild rowNumbers
+one-head f class2 t e = rw (eq-eqb f 1 e)
 
-pub three-heads : (perTable class2 t : ℕ) → (perTable ≡ 2 → ⊥) → four t 2 2 (t + 1) ++ four t 8 2 (t + 2) ++ four t 10 2 class2 ≡ heads perTable class2 t
-unfolding heads
-three-heads perTable class2 t e = rw (ne-eqb perTable 2 e)
+pub three-heads : (f class2 t : ℕ) → (f ≡ 1 → ⊥)
+    → four t coverAt 2 (t + 1) ++ four t class1At 2 (t + 2) ++ four t class2At 2 class2 ≡ headRows f class2 t
+unfolding headRows headerLinks ownChild rowNumbers
+three-heads f class2 t e = let z : t + 1 + 1 ≡ t + 2 = omega arith in rw (ne-eqb f 1 e, z)
 
-pub length-heads : (perTable class2 t : ℕ) → 2 ≤ perTable → perTable ≤ 3 → length (heads perTable class2 t) ≡ 4 * headCount perTable
-length-heads perTable class2 t l h =
-    ⊎-elim
-    (λ lt. let e : perTable ≡ 2 = omega arith in omega (arith, ap length (one-head perTable class2 t e)))
-    (λ ge. omega (arith, ap length (three-heads perTable class2 t (omega arith))))
-    (either perTable 3)
+pub some-heads : (f : ℕ) → (1 ≤ length (ownIn f)) × (1 ≤ length (ownIn f ++ sharedIn f))
+some-heads f = by-test (eqb f 1) (λ e. rw e (omega arith, omega arith)) (λ e. rw e (omega arith, omega arith))
+
+pub more-heads : (f : ℕ) → (f ≡ 1 → ⊥) → (2 ≤ length (ownIn f)) × (3 ≤ length (ownIn f ++ sharedIn f))
+more-heads f e = rw (ne-eqb f 1 e) (omega arith, omega arith)
+
+pub length-heads : (p : Plan) (t : ℕ) → Fit p → length (headRows (p .layout .format) (p .class2) t) ≡ perLink * headCount p
+unfolding headRows
+length-heads p t f =
+    let format = p .layout .format in
+    let links = headerLinks (ownIn format) (ownIn format ++ sharedIn format) t (λ q. p .class2) in
+    omega (arith, rows-numbers links, header-many (ownIn format) t (λ q. p .class2) (ownIn format ++ sharedIn format), f .numbered .heads-is)
 
 -- ---- the edges
-pub edge-at : (p : Plan) (j : ℕ) → j < tables p → edge p j ≡ p .header + shift p j
+pub edge-at : (p : Plan) (j : ℕ) → j < tables p → edge p j ≡ p .layout .header + shift p j
 unfolding edge
 edge-at p j l = rw (lt-ltb j (tables p) l)
 
@@ -46,7 +60,7 @@ pub edge-climb : (p : Plan) → Fit p → (j : ℕ) → j < tables p → edge p 
 edge-climb p f j l =
     ⊎-elim
     (λ lt.
-    let h : shift p j ≤ shift p (j + 1) = mul-le-mul-left (p .item) (f .climb j (j + 1) (omega arith) lt) in
+    let h : shift p j ≤ shift p (j + 1) = mul-le-mul-left (p .layout .item) (f .climb j (j + 1) (omega arith) lt) in
     omega (arith, edge-at p j l, edge-at p (j + 1) lt))
     (λ (ge : tables p ≤ j + 1).
     let e : j + 1 ≡ tables p = omega arith in
@@ -97,7 +111,7 @@ pub record At (ls : List ℕ) (q m : ℕ) (p : Plan) (out : List ℕ) (j left at
   pub given : Given ls q m p
   pub turns : j ≤ tables p
   pub few : q + left ≤ m
-  pub place : at ≡ q + left + headCount (p .perTable) * j
+  pub place : at ≡ q + left + headCount p * j
   pub name : table ≡ tableId p j
   pub same : length out ≡ length ls
   pub low : (k : ℕ) → q ≤ k → k < q + left → positionIn ls k < edge p j
@@ -105,7 +119,7 @@ pub record At (ls : List ℕ) (q m : ℕ) (p : Plan) (out : List ℕ) (j left at
   pub long : 4 * at + length (span (tableRows ls q m p) j (tables p)) ≡ 4 * grown m p
   pub is : out ≡ put ls (4 * at) (span (tableRows ls q m p) j (tables p))
 
-pub at-start : (ls : List ℕ) (q m : ℕ) (p : Plan) → Given ls q m p → ((i : ℕ) → getD ls i 0 < 4294967296) → At ls q m p ls (tables p) (m - q) (m + headCount (p .perTable) * tables p) (tableId p (tables p))
+pub at-start : (ls : List ℕ) (q m : ℕ) (p : Plan) → Given ls q m p → ((i : ℕ) → getD ls i 0 < 4294967296) → At ls q m p ls (tables p) (m - q) (m + headCount p * tables p) (tableId p (tables p))
 at-start ls q m p g w =
     let e = span-empty (tableRows ls q m p) (tables p) in
     let z : length (span (tableRows ls q m p) (tables p) (tables p)) ≡ 0 = ap length e in
@@ -119,7 +133,7 @@ at-start ls q m p g w =
       low = λ k l h. omega (arith, w (4 * k + 1), edge-end p);
       high = λ k l h. absurd (omega (arith, g .some));
       long = omega (arith, z);
-      is = put-nil ls (4 * (m + headCount (p .perTable) * tables p)) ∙ ap (put ls (4 * (m + headCount (p .perTable) * tables p))) (sym e);
+      is = put-nil ls (4 * (m + headCount p * tables p)) ∙ ap (put ls (4 * (m + headCount p * tables p))) (sym e);
     }
 
 module _ (ls : List ℕ) (q m : ℕ) (p : Plan) (out : List ℕ) (j left at table : ℕ) (s : At ls q m p out j left at table) where
@@ -137,7 +151,7 @@ module _ (ls : List ℕ) (q m : ℕ) (p : Plan) (out : List ℕ) (j left at tabl
       (λ lt. omega arith)
       (λ ge. absurd (omega (arith, ap (edge p) e, s .low q (omega arith) (omega arith), s .given .floor q (omega arith) (omega (arith, s .few)))))
       (either left 1) in
-      let n : headCount (p .perTable) * j ≡ 0 = ap (λ (x : ℕ). headCount (p .perTable) * x) e ∙ mul-zero (headCount (p .perTable)) in
+      let n : headCount p * j ≡ 0 = ap (λ (x : ℕ). headCount p * x) e ∙ mul-zero (headCount p) in
       let a : at ≡ q = omega (arith, s .place) in
       record {
         long = rw (a, e) at (s .long);
@@ -146,20 +160,20 @@ module _ (ls : List ℕ) (q m : ℕ) (p : Plan) (out : List ℕ) (j left at tabl
 
 -- one table: its rows move up, and its heads stand before them
 module _ (ls : List ℕ) (q m : ℕ) (p : Plan) (out : List ℕ) (j left at table : ℕ) (s : At ls q m p out j left at table) (i : ℕ) (e : j ≡ i + 1) where
-  counted : headCount (p .perTable) * j ≡ headCount (p .perTable) * i + headCount (p .perTable)
-  counted = ap (λ (x : ℕ). headCount (p .perTable) * x) e ∙ more (headCount (p .perTable)) i
+  counted : headCount p * j ≡ headCount p * i + headCount p
+  counted = ap (λ (x : ℕ). headCount p * x) e ∙ more (headCount p) i
 
-  pub table-next : table ≡ tableId p i + p .perTable
-  table-next = omega (arith, s .name, ap (λ (x : ℕ). p .perTable * x) e ∙ more (p .perTable) i)
+  pub table-next : table ≡ tableId p i + per p
+  table-next = omega (arith, s .name, ap (λ (x : ℕ). per p * x) e ∙ more (per p) i)
 
   pub table-fits : table ≤ 4294967296
-  table-fits = omega (arith, s .name, mul-le-mul-left (p .perTable) (s .turns), s .given .fit .numbers)
+  table-fits = omega (arith, s .name, mul-le-mul-left (per p) (s .turns), s .given .fit .numbers)
 
-  pub room-left : q + left + headCount (p .perTable) ≤ at
+  pub room-left : q + left + headCount p ≤ at
   room-left = omega (arith, s .place, counted)
 
   -- a row that has not moved yet
-  moved-same : (k : ℕ) → k < q + left → table - p .perTable ≡ tableId p i → movedRow out (table - p .perTable) (shift p i) k ≡ movedRow ls (tableId p i) (shift p i) k
+  moved-same : (k : ℕ) → k < q + left → table - per p ≡ tableId p i → movedRow out (table - per p) (shift p i) k ≡ movedRow ls (tableId p i) (shift p i) k
   unfolding movedRow
   moved-same k u t =
       let rl = room-left in
@@ -170,25 +184,25 @@ module _ (ls : List ℕ) (q m : ℕ) (p : Plan) (out : List ℕ) (j left at tabl
 
   -- the heads, the rows that moved, and the tables after them
   joined : (rest : ℕ) → i < tables p → span (share ls p i) q m ≡ span (movedRow ls (tableId p i) (shift p i)) (q + rest) (q + left)
-      → heads (p .perTable) (p .class2) (tableId p i) ++ (span (movedRow ls (tableId p i) (shift p i)) (q + rest) (q + left) ++ span (tableRows ls q m p) j (tables p))
+      → headRows (p .layout .format) (p .class2) (tableId p i) ++ (span (movedRow ls (tableId p i) (shift p i)) (q + rest) (q + left) ++ span (tableRows ls q m p) j (tables p))
       ≡ span (tableRows ls q m p) i (tables p)
   unfolding tableRows
   joined rest ik part =
       let T = tableRows ls q m p in
-      let H = heads (p .perTable) (p .class2) (tableId p i) in
+      let H = headRows (p .layout .format) (p .class2) (tableId p i) in
       let S = span (movedRow ls (tableId p i) (shift p i)) (q + rest) (q + left) in
       sym (append-assoc H S (span T j (tables p)))
       ∙ ap₂ (λ (x : List ℕ) (y : ℕ). (H ++ x) ++ span T y (tables p)) (sym part) e
       ∙ sym (span-front T i (tables p) ik)
 
-  pub at-turn : (mid out′ : List ℕ) (rest : ℕ) → Moved out mid q left at (p .header + shift p i) (shift p i) (table - p .perTable) rest
-      → length out′ ≡ length out → out′ ≡ put mid (4 * (at - (left - rest) - headCount (p .perTable))) (heads (p .perTable) (p .class2) (table - p .perTable))
-      → At ls q m p out′ i rest (at - (left - rest) - headCount (p .perTable)) (table - p .perTable)
+  pub at-turn : (mid out′ : List ℕ) (rest : ℕ) → Moved out mid q left at (p .layout .header + shift p i) (shift p i) (table - per p) rest
+      → length out′ ≡ length out → out′ ≡ put mid (4 * (at - (left - rest) - headCount p)) (headRows (p .layout .format) (p .class2) (table - per p))
+      → At ls q m p out′ i rest (at - (left - rest) - headCount p) (table - per p)
   at-turn mid out′ rest mv n h =
       let K = tables p in
-      let t : table - p .perTable ≡ tableId p i = omega (arith, table-next) in
+      let t : table - per p ≡ tableId p i = omega (arith, table-next) in
       let ik : i < K = omega (arith, s .turns) in
-      let ee : edge p i ≡ p .header + shift p i = edge-at p i ik in
+      let ee : edge p i ≡ p .layout .header + shift p i = edge-at p i ik in
       let ej : edge p j ≡ edge p (i + 1) = ap (edge p) e in
       let fw : rest ≤ left = mv .few in
       let rl = room-left in
@@ -201,17 +215,17 @@ module _ (ls : List ℕ) (q m : ℕ) (p : Plan) (out : List ℕ) (j left at tabl
       let f = movedRow ls (tableId p i) (shift p i) in
       let S = span f (q + rest) (q + left) in
       let T = span (tableRows ls q m p) j K in
-      let H = heads (p .perTable) (p .class2) (tableId p i) in
+      let H = headRows (p .layout .format) (p .class2) (tableId p i) in
       let part : span (share ls p i) q m ≡ S = share-part ls p q (q + rest) (q + left) m i (omega arith) (omega arith) (s .few) low own under over in
-      let moved : span (movedRow out (table - p .perTable) (shift p i)) (q + rest) (q + left) ≡ S =
-      span-ext (movedRow out (table - p .perTable) (shift p i)) f (q + rest) (q + left) (λ k l u. moved-same k u t) in
+      let moved : span (movedRow out (table - per p) (shift p i)) (q + rest) (q + left) ≡ S =
+      span-ext (movedRow out (table - per p) (shift p i)) f (q + rest) (q + left) (λ k l u. moved-same k u t) in
       let ns : 4 * (q + rest) + length S ≡ 4 * (q + left) = moved-long ls (tableId p i) (shift p i) (q + rest) (q + left) (omega arith) in
-      let nh : length H ≡ 4 * headCount (p .perTable) = length-heads (p .perTable) (p .class2) (tableId p i) (s .given .fit .two) (s .given .fit .three) in
+      let nh : length H ≡ 4 * headCount p = length-heads p (tableId p i) (s .given .fit) in
       let nt = s .long in
       let room = s .given .room in
       let at1 = at - (left - rest) in
       let e1 : 4 * at ≡ 4 * at1 + length S = omega arith in
-      let e2 : 4 * at1 ≡ 4 * (at1 - headCount (p .perTable)) + length H = omega arith in
+      let e2 : 4 * at1 ≡ 4 * (at1 - headCount p) + length H = omega arith in
       let nst = length-append S T in
       let nhst = length-append H (S ++ T) in
       let whole : H ++ (S ++ T) ≡ span (tableRows ls q m p) i K = joined rest ik part in
@@ -229,26 +243,26 @@ module _ (ls : List ℕ) (q m : ℕ) (p : Plan) (out : List ℕ) (j left at tabl
         long = omega (arith, ap length whole);
         is =
             h
-            ∙ ap₂ (λ (o : List ℕ) (x : ℕ). put o (4 * (at1 - headCount (p .perTable))) (heads (p .perTable) (p .class2) x)) mid-is t
-            ∙ put-before ls (4 * (at1 - headCount (p .perTable))) H (4 * at1) (S ++ T) e2 (omega arith)
-            ∙ ap (put ls (4 * (at1 - headCount (p .perTable)))) whole;
+            ∙ ap₂ (λ (o : List ℕ) (x : ℕ). put o (4 * (at1 - headCount p)) (headRows (p .layout .format) (p .class2) x)) mid-is t
+            ∙ put-before ls (4 * (at1 - headCount p)) H (4 * at1) (S ++ T) e2 (omega arith)
+            ∙ ap (put ls (4 * (at1 - headCount p))) whole;
       }
 
 -- the numbers of a turn
 pub record Numbers (ls : List ℕ) (p : Plan) (q left at table i : ℕ) : Type 0 where
-  pub two : 2 ≤ p .perTable
-  pub three : p .perTable ≤ 3
-  pub named : p .perTable ≤ table
+  pub numbered : Numbered (p .layout)
+  pub few : (p .layout .own ≤ 2) × (p .layout .heads ≤ 3)
+  pub named : per p ≤ table
   pub fits : table ≤ 4294967296
-  pub roomy : q + left + headCount (p .perTable) ≤ at
+  pub roomy : q + left + headCount p ≤ at
   pub within : 4 * at ≤ length ls
-  pub placed : p .header + shift p i < 4294967296
+  pub placed : p .layout .header + shift p i < 4294967296
 
 pub numbers : (ls : List ℕ) (q m : ℕ) (p : Plan) (out : List ℕ) (j left at table : ℕ) → At ls q m p out j left at table → (i : ℕ) → j ≡ i + 1 → Numbers ls p q left at table i
 numbers ls q m p out j left at table s i e =
     record {
-      two = s .given .fit .two;
-      three = s .given .fit .three;
+      numbered = s .given .fit .numbered;
+      few = few-heads (p .layout) (s .given .fit .numbered);
       named = omega (arith, table-next ls q m p out j left at table s i e);
       fits = table-fits ls q m p out j left at table s i e;
       roomy = room-left ls q m p out j left at table s i e;

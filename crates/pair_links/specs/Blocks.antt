@@ -7,22 +7,24 @@ use lib.ListN.{length, getD}
 use lib.Dec.{eqb, leb, ltb}
 use Rattle.folds.specs.Lists.{put}
 use Rattle.store_rules.specs.Store.{perLink}
-use Rattle.pair_rules.specs.Written.{keptChild}
+use Rattle.ot_layouts.specs.PairPos.{ownIn, sharedIn}
+use Rattle.ot_pairpos.specs.declared.Layout.{Layout}
+use Rattle.ot_pairpos.specs.Layout.{Numbered}
+use Rattle.store_rules.specs.Appended.{rowNumbers}
+use Rattle.store_rules.specs.Header.{ownChild, headerLinks}
 use Rattle.store_link_rows.specs.Rows.{span, parentIn, positionIn, widthIn, childIn, four, rows}
 
--- Items of `item` bytes each, from byte `header` of a table on, are parted: new table j, of number first + perTable * j, gets those from cuts[j] on.
--- perTable is 2 or 3; new tables of 3 objects share the object class2.
+-- The items of a table of this layout are parted: new table j gets those from cuts[j] on. `first` is the number of the first new table, class2 the object
+-- that new tables share.
 pub record Plan : Type 0 where
   pub cuts : List ℕ
-  pub header : ℕ
-  pub item : ℕ
+  pub layout : Layout
   pub first : ℕ
-  pub perTable : ℕ
   pub class2 : ℕ
 
 -- a plan from what a call is handed
-abbrev pub plan : List ℕ → ℕ → ℕ → ℕ → ℕ → ℕ → Plan
-plan cuts header item first perTable class2 = record { cuts = cuts; header = header; item = item; first = first; perTable = perTable; class2 = class2 }
+abbrev pub plan : List ℕ → Layout → ℕ → ℕ → Plan
+plan cuts layout first class2 = record { cuts = cuts; layout = layout; first = first; class2 = class2 }
 
 -- how many new tables there are
 abbrev pub tables : Plan → ℕ
@@ -30,19 +32,23 @@ tables p = length (p .cuts)
 
 -- how far the items of new table j move down, in bytes
 abbrev pub shift : Plan → ℕ → ℕ
-shift p j = p .item * getD (p .cuts) j 0
+shift p j = p .layout .item * getD (p .cuts) j 0
 
 -- where, in the old table, the items of new table j start; past the last table, a bound on every position
 unfoldable pub edge : Plan → ℕ → ℕ
-edge p j = cond (ltb j (tables p)) (p .header + shift p j) 4294967296
+edge p j = cond (ltb j (tables p)) (p .layout .header + shift p j) 4294967296
 
 -- a row at this position moves to new table j
 unfoldable pub inside : Plan → ℕ → ℕ → Bool
 inside p j position = leb (edge p j) position && ltb position (edge p (j + 1))
 
+-- the objects of a new table: its own parts and itself
+abbrev pub per : Plan → ℕ
+per p = p .layout .own + 1
+
 -- the number of new table j
 abbrev pub tableId : Plan → ℕ → ℕ
-tableId p j = p .first + p .perTable * j
+tableId p j = p .first + per p * j
 
 -- row k as a row of another parent, with its position moved down
 unfoldable pub movedRow : List ℕ → ℕ → ℕ → ℕ → List ℕ
@@ -52,17 +58,17 @@ movedRow ls parent down k = four parent (positionIn ls k - down) (widthIn ls k) 
 unfoldable pub share : List ℕ → Plan → ℕ → ℕ → List ℕ
 share ls p j k = cond (inside p j (positionIn ls k)) (movedRow ls (tableId p j) (shift p j) k) []
 
--- the rows of the new table u before those that move
-unfoldable pub heads : ℕ → ℕ → ℕ → List ℕ
-heads perTable class2 u = cond (eqb perTable 2) (four u 2 2 (u + 1)) (four u 2 2 (u + 1) ++ four u 8 2 (u + 2) ++ four u 10 2 class2)
+-- the rows of the new table u before those that move: its header's, in this format
+unfoldable pub headRows : ℕ → ℕ → ℕ → List ℕ
+headRows format class2 u = rowNumbers (headerLinks (ownIn format) (ownIn format ++ sharedIn format) u (λ q. class2))
 
--- how many those are: 1 or 3
-abbrev pub headCount : ℕ → ℕ
-headCount perTable = 2 * perTable - 3
+-- how many those are
+abbrev pub headCount : Plan → ℕ
+headCount p = p .layout .heads
 
 -- the rows of new table j, where rows a up to b move
 unfoldable pub tableRows : List ℕ → ℕ → ℕ → Plan → ℕ → List ℕ
-tableRows ls a b p j = heads (p .perTable) (p .class2) (tableId p j) ++ span (share ls p j) a b
+tableRows ls a b p j = headRows (p .layout .format) (p .class2) (tableId p j) ++ span (share ls p j) a b
 
 -- the rows of all new tables
 abbrev pub newRows : List ℕ → ℕ → ℕ → Plan → List ℕ
@@ -74,15 +80,14 @@ parted ls a b m p = rows ls b m ++ newRows ls a b p
 
 -- the number of rows after it
 abbrev pub grown : ℕ → Plan → ℕ
-grown m p = m + headCount (p .perTable) * tables p
+grown m p = m + headCount p * tables p
 
 -- what a plan has to be: the cuts do not descend, each starts at a position, and the numbers of the new tables fit
 pub record Fit (p : Plan) : Type 0 where
-  pub two : 2 ≤ p .perTable
-  pub three : p .perTable ≤ 3
+  pub numbered : Numbered (p .layout)
   pub climb : (i j : ℕ) → i ≤ j → j < tables p → getD (p .cuts) i 0 ≤ getD (p .cuts) j 0
-  pub placed : (j : ℕ) → j < tables p → p .header + shift p j < 4294967296
-  pub numbers : p .first + p .perTable * tables p ≤ 4294967296
+  pub placed : (j : ℕ) → j < tables p → p .layout .header + shift p j < 4294967296
+  pub numbers : p .first + per p * tables p ≤ 4294967296
 
 -- `move_up` leaves r of the rows; the others are at the bound or above, and stand before row `to`
 pub record Moved (ls out : List ℕ) (q count to bound down parent r : ℕ) : Type 0 where
@@ -101,8 +106,8 @@ pub record PartedRows (ls out : List ℕ) (a b m : ℕ) (p : Plan) : Type 0 wher
   pub long : perLink * a + length (parted ls a b m p) ≡ perLink * grown m p
   pub is : out ≡ put ls (perLink * a) (parted ls a b m p)
 
--- row k where it stays: the kept table t's coverage and class definition 1 are new objects, of which v is the first
-unfoldable pub keptRow : List ℕ → ℕ → ℕ → ℕ → List ℕ
-keptRow ls t v k =
+-- row k where it stays: the kept table t's own parts are new objects, of which v is the first
+unfoldable pub keptRow : List ℕ → List ℕ → ℕ → ℕ → ℕ → List ℕ
+keptRow ls own t v k =
     four (parentIn ls k) (positionIn ls k) (widthIn ls k)
-    (cond (eqb (parentIn ls k) t) (keptChild v (positionIn ls k) (childIn ls k)) (childIn ls k))
+    (cond (eqb (parentIn ls k) t) (ownChild own v (positionIn ls k) (childIn ls k)) (childIn ls k))

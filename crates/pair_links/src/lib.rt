@@ -1,17 +1,18 @@
 // Link rows, four numbers each, rewritten in place when a table is split: the rows of the items that are cut off become rows of the new tables.
 ghost use mathlib.Core.Path.{_≡_};
-ghost use mathlib.Core.List.{List, []};
+ghost use mathlib.Core.List.{List, [], _++_};
 ghost use Prim.Native.Nat.{ℕ, _+_, _-_, _*_, _≤_, _<_};
 ghost use lib.ListN.{length};
 ghost use Rattle.folds.specs.Lists.{put};
 ghost use Rattle.store_rules.specs.Store.{lent, perLink};
-ghost use Rattle.pair_rules.specs.Written.{keptChild};
+ghost use Rattle.store_rules.specs.Header.{ownChild};
+ghost use Rattle.ot_layouts.specs.PairPos.{ownIn, sharedIn};
+ghost use Rattle.ot_pairpos.specs.Layout.{shapeWith};
 ghost use Rattle.store_link_rows.specs.Rows.{span, positionIn, Ordered};
 ghost use Rattle.folds.specs.Moments.{came, left};
-ghost use Rattle.pair_links.specs.Blocks.{plan, edge, heads, headCount, grown, keptRow, Fit, Moved, Spread, PartedRows};
-ghost use Rattle.pair_links.specs.Parting.{shapeWith, Parting, Between, Parted};
+ghost use Rattle.pair_links.specs.Blocks.{plan, edge, headRows, grown, keptRow, Fit, Moved, Spread, PartedRows};
+ghost use Rattle.pair_links.specs.Parting.{Parting, Between, Parted};
 use ot_pairpos::Layout;
-use ot_pairpos::objects_per_table;
 use store_link_rows::put_row;
 use store_link_rows::rotate_rows;
 use store_reader::PER_LINK;
@@ -49,15 +50,13 @@ fn move_up(
 }
 
 // Writes the header's rows of the new table: to its coverage, and in format 2 to its class definition 1 and the shared class definition 2.
-fn put_heads(links: &mut [u32], k: usize, per_table: usize, table: u32, class2: u32)
-    requires { ⌜
-        (2 ≤ «per_table») × («per_table» ≤ 3) × (perLink * (k + headCount «per_table») ≤ length (now links)) ×
-        (table + «per_table» ≤ 4294967296)
-        ⌝ }
-    ensures { λ _. ⌜ left links ≡ put (came links) (perLink * k) (heads «per_table» class2 table) ⌝ }
+fn put_heads(links: &mut [u32], k: usize, format: u16, table: u32, class2: u32)
+    requires { ⌜ perLink * (k + length (ownIn format ++ sharedIn format)) ≤ length (now links) ⌝ }
+    requires { ⌜ table + length (ownIn format) < 4294967296 ⌝ }
+    ensures { λ _. ⌜ left links ≡ put (came links) (perLink * k) (headRows format class2 table) ⌝ }
 {
     put_row(links, k, table, 2, 2, table + 1);
-    if per_table != 2 {
+    if format != 1 {
         put_row(links, k + 1, table, 8, 2, table + 2);
         put_row(links, k + 2, table, 10, 2, class2);
     }
@@ -69,30 +68,28 @@ fn spread(
     q: usize,
     m: usize,
     cuts: &[u16],
-    header: usize,
-    item: usize,
+    layout: Layout,
     first: usize,
-    per_table: usize,
     class2: u32,
 )
-    requires { ⌜ Fit (plan (now cuts) header item first «per_table» class2) ⌝ }
-    requires { ⌜ (q ≤ m) × (perLink * grown m (plan (now cuts) header item first «per_table» class2) ≤ length (now links)) ⌝ }
+    requires { ⌜ Fit (plan (now cuts) layout first class2) ⌝ }
+    requires { ⌜ (q ≤ m) × (perLink * grown m (plan (now cuts) layout first class2) ≤ length (now links)) ⌝ }
     requires { ⌜ Ordered (now links) q m ⌝ }
-    requires { ⌜ ((k : ℕ) → q ≤ k → k < m → edge (plan (now cuts) header item first «per_table» class2) 0 ≤ positionIn (now links) k) ⌝ }
-    ensures { λ _. ⌜ Spread (came links) (left links) q m (plan (came cuts) header item first «per_table» class2) ⌝ }
+    requires { ⌜ ((k : ℕ) → q ≤ k → k < m → edge (plan (now cuts) layout first class2) 0 ≤ positionIn (now links) k) ⌝ }
+    ensures { λ _. ⌜ Spread (came links) (left links) q m (plan (came cuts) layout first class2) ⌝ }
 {
     let mut j = cuts.len();
     let mut left = m - q;
-    let mut at = m + (2 * per_table - 3) * j;
-    let mut table = first + per_table * j;
+    let mut at = m + layout.heads * j;
+    let mut table = first + (layout.own + 1) * j;
     while 0 < j {
         j -= 1;
-        table -= per_table;
-        let down = item * (cuts[j] as usize);
-        let rest = move_up(links, q, left, at, header + down, down, table as u32);
-        at = at - (left - rest) - (2 * per_table - 3);
+        table -= layout.own + 1;
+        let down = layout.item * (cuts[j] as usize);
+        let rest = move_up(links, q, left, at, layout.header + down, down, table as u32);
+        at = at - (left - rest) - layout.heads;
         left = rest;
-        put_heads(links, at, per_table, table as u32, class2);
+        put_heads(links, at, layout.format, table as u32, class2);
     }
 }
 
@@ -103,39 +100,30 @@ fn part_rows(
     a: usize,
     b: usize,
     cuts: &[u16],
-    header: usize,
-    item: usize,
+    layout: Layout,
     first: usize,
-    per_table: usize,
     class2: u32,
 )
-    requires { ⌜ Fit (plan (now cuts) header item first «per_table» class2) ⌝ }
-    requires { ⌜ (a ≤ b) × (b ≤ m) × (perLink * grown m (plan (now cuts) header item first «per_table» class2) ≤ length (now links)) ⌝ }
+    requires { ⌜ Fit (plan (now cuts) layout first class2) ⌝ }
+    requires { ⌜ (a ≤ b) × (b ≤ m) × (perLink * grown m (plan (now cuts) layout first class2) ≤ length (now links)) ⌝ }
     requires { ⌜ Ordered (now links) a b ⌝ }
-    requires { ⌜ ((k : ℕ) → a ≤ k → k < b → edge (plan (now cuts) header item first «per_table» class2) 0 ≤ positionIn (now links) k) ⌝ }
-    ensures { λ _. ⌜ PartedRows (came links) (left links) a b m (plan (came cuts) header item first «per_table» class2) ⌝ }
+    requires { ⌜ ((k : ℕ) → a ≤ k → k < b → edge (plan (now cuts) layout first class2) 0 ≤ positionIn (now links) k) ⌝ }
+    ensures { λ _. ⌜ PartedRows (came links) (left links) a b m (plan (came cuts) layout first class2) ⌝ }
 {
     rotate_rows(links, a, b, m);
-    spread(
-        links,
-        a + (m - b),
-        m,
-        cuts,
-        header,
-        item,
-        first,
-        per_table,
-        class2,
-    );
+    spread(links, a + (m - b), m, cuts, layout, first, class2);
 }
 
-// The child of a link of the kept table: its coverage and class definition 1 are new objects, of which `first` is the first.
-fn kept_child(position: u32, child: u32, first: u32) -> u32
+// The child of a link of the kept table: its own parts, coverage and in format 2 class definition 1, are new objects, of which `first` is the first.
+fn kept_child(format: u16, position: u32, child: u32, first: u32) -> u32
     requires { ⌜ first + 1 < 4294967296 ⌝ }
-    ensures { λ r. ⌜ r ≡ keptChild first position child ⌝ }
+    ensures { λ r. ⌜ r ≡ ownChild (ownIn format) first position child ⌝ }
 {
     if position == 2 {
         return first;
+    }
+    if format == 1 {
+        return child;
     }
     if position == 8 {
         return first + 1;
@@ -144,24 +132,24 @@ fn kept_child(position: u32, child: u32, first: u32) -> u32
 }
 
 // Row k, where it is the kept table's, leads to the kept table's new objects.
-fn keep_row(links: &mut [u32], k: usize, table: u32, first: u32)
+fn keep_row(links: &mut [u32], k: usize, format: u16, table: u32, first: u32)
     requires { ⌜ (perLink * k + 3 < length (now links)) × (first + 1 < 4294967296) ⌝ }
-    ensures { λ _. ⌜ left links ≡ put (came links) (perLink * k) (keptRow (came links) table first k) ⌝ }
+    ensures { λ _. ⌜ left links ≡ put (came links) (perLink * k) (keptRow (came links) (ownIn format) table first k) ⌝ }
 {
     let at = PER_LINK * k;
     if links[at] == table {
-        links[at + 3] = kept_child(links[at + 1], links[at + 3], first);
+        links[at + 3] = kept_child(format, links[at + 1], links[at + 3], first);
     }
 }
 
 // The same of the first `count` rows.
-fn keep_rows(links: &mut [u32], count: usize, table: u32, first: u32)
+fn keep_rows(links: &mut [u32], count: usize, format: u16, table: u32, first: u32)
     requires { ⌜ (perLink * count ≤ length (now links)) × (first + 1 < 4294967296) ⌝ }
-    ensures { λ _. ⌜ left links ≡ put (came links) 0 (span (keptRow (came links) table first) 0 count) ⌝ }
+    ensures { λ _. ⌜ left links ≡ put (came links) 0 (span (keptRow (came links) (ownIn format) table first) 0 count) ⌝ }
 {
     let mut k = 0;
     while k < count {
-        keep_row(links, k, table, first);
+        keep_row(links, k, format, table, first);
         k += 1;
     }
 }
@@ -178,33 +166,21 @@ fn part_between(
     after: usize,
     class2: u32,
 ) -> usize
-    requires { ⌜ Between (lent [] [] (now links) (now counts)) table (shapeWith layout) (now cuts) first after class2 ⌝ }
+    requires { ⌜ Between (lent [] [] (now links) (now counts)) table layout (now cuts) first after class2 ⌝ }
     ensures { λ r. ⌜ ((b o : List ℕ) → Parted (lent b o (came links) (came counts)) table (shapeWith layout) (came cuts) (left links) r) ⌝ }
 {
     let objects = counts[1] as usize;
     let count = counts[2] as usize;
-    let header = layout.header;
-    let item = layout.item;
-    let per_table = objects_per_table(layout.format);
-    part_rows(
-        links,
-        count,
-        first,
-        after,
-        cuts,
-        header,
-        item,
-        objects,
-        per_table,
-        class2,
-    );
+    let first_kept = objects + (layout.own + 1) * cuts.len();
+    part_rows(links, count, first, after, cuts, layout, objects, class2);
     keep_rows(
         links,
         count - (after - first),
+        layout.format,
         table,
-        (objects + per_table * cuts.len()) as u32,
+        first_kept as u32,
     );
-    count + (2 * per_table - 3) * cuts.len()
+    count + layout.heads * cuts.len()
 }
 
 // Rewrites the link rows for a split of `table` at `cuts`; `class2` is the object that new tables of format 2 share. Returns how many rows are in use then.
@@ -216,7 +192,7 @@ pub fn part_links(
     cuts: &[u16],
     class2: u32,
 ) -> usize
-    requires { ⌜ Parting (lent [] [] (now links) (now counts)) table (shapeWith layout) (now cuts) class2 ⌝ }
+    requires { ⌜ Parting (lent [] [] (now links) (now counts)) table layout (now cuts) class2 ⌝ }
     ensures { λ r. ⌜ ((b o : List ℕ) → Parted (lent b o (came links) (came counts)) table (shapeWith layout) (came cuts) (left links) r) ⌝ }
 {
     let count = counts[2] as usize;

@@ -21,7 +21,8 @@ use Rattle.ot_layouts.proofs.RunStarts.{entry}
 use Rattle.glyph_rules.specs.Entries.{within}
 use Rattle.cut_rules.specs.Ranges.{from}
 use Rattle.glyph_rules.proofs.Entries.{inRange}
-use Rattle.cut_rules.proofs.CutPlaces.{Places, cuts-rise}
+use Rattle.cut_rules.proofs.CutPlaces.{cuts-rise}
+use Rattle.cut_rules.specs.Places.{Places}
 use Rattle.glyph_sort.specs.ByClass.{ByClass}
 use Rattle.pair_new_objects.specs.Tables.{paired, lowAt, highAt, entriesAt, PartEnd, Halved}
 use Rattle.pair_new_objects.specs.Order.{Sorted, Ordered, Arranged}

@@ -15,20 +15,25 @@ use Rattle.folds.proofs.FromTheFront.{length-even}
 use Rattle.ot_layouts.specs.Numbers.{be16}
 use Rattle.ot_layouts.specs.Coverage.{Entry, coverageBytes, runs}
 use Rattle.ot_layouts.specs.ClassDef.{classIn, firstGlyph, span, named, inRanges, classDefBytes}
-use Rattle.ot_layouts.specs.PairPos.{Shape}
+use Rattle.ot_layouts.specs.PairPos.{ownIn, shapeOf}
+use Rattle.ot_layouts.proofs.Shapes.{own-of}
 use Rattle.ot_layouts.proofs.Numbers.{length-be16}
 use Rattle.ot_layouts.proofs.RunCount.{many, many-le}
 use Rattle.ot_layouts.proofs.CoverageLength.{cover-length}
 use Rattle.ot_layouts.proofs.RangeBytes.{ranged-length}
 use Rattle.glyph_rules.specs.Entries.{within, reduced}
-use Rattle.pair_rules.specs.Written.{newParts}
+use Rattle.pair_rules.specs.Written.{partOf, newParts}
 use Rattle.ot_class_def_writer.specs.Entries.{reducedEntries}
 use Rattle.pair_new_objects.specs.Tables.{paired}
 use Rattle.pair_new_objects.specs.Objects.{partsOf}
 
-pub parts-same : (sh : Shape) (es : List Entry) (lo hi : ℕ) → newParts sh es lo hi ≡ partsOf (sh .format) (within lo hi es) lo
+pub parts-same : (b : List ℕ) (es : List Entry) (lo hi : ℕ) → newParts (shapeOf b) es lo hi ≡ partsOf (shapeOf b .format) (within lo hi es) lo
 unfolding newParts partsOf
-parts-same sh es lo hi = refl
+parts-same b es lo hi = ap (map (partOf (within lo hi es) lo)) (own-of b)
+
+pub parts-many : (f : ℕ) (es : List Entry) (lo : ℕ) → length (partsOf f es lo) ≡ length (ownIn f)
+unfolding partsOf
+parts-many f es lo = length-map (partOf es lo) (ownIn f)
 
 pub paired-reduced : (gs ks : List ℕ) (first : ℕ) → reducedEntries gs ks first ≡ reduced first (paired gs ks)
 unfolding paired reducedEntries
@@ -40,11 +45,11 @@ paired-reduced (g ∷ gs) (k ∷ ks) first = ap (λ (x : List Entry). record { g
 
 module _ (f : ℕ) (es : List Entry) (lo : ℕ) where
   pub parts-one : eqb f 1 ≡ true → partsOf f es lo ≡ coverageBytes (map (λ e. e .glyph) es) ∷ []
-  unfolding partsOf
+  unfolding partsOf partOf
   parts-one e = rw e
 
   pub parts-two : eqb f 1 ≡ false → partsOf f es lo ≡ coverageBytes (map (λ e. e .glyph) es) ∷ classDefBytes (reduced lo es) ∷ []
-  unfolding partsOf
+  unfolding partsOf partOf
   parts-two e = rw e
 
 pub join-one : (x : List ℕ) → length (join (x ∷ [])) ≡ length x

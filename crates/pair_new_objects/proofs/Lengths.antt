@@ -133,7 +133,7 @@ module _ (gs ks cs : List ℕ) (l : Layout) (at total j : ℕ) (t : Total gs ks 
             let objects : ℕ → List (List ℕ) = λ i. newTable sh b (from cs i) (to (sh .count) cs i) ∷ newParts sh es (from cs i) (to (sh .count) cs i) in
             t .is
             ∙ ap₂ (λ (f n : ℕ). besideLength f es 0 (from cs 0) + sum (tableLength l es cs) n) (s .format-is) z
-            ∙ ap₂ (λ (m n : ℕ). m + n) (ap (λ (y : List (List ℕ)). length (join y)) (sym (parts-same sh es 0 (from cs 0))))
+            ∙ ap₂ (λ (m n : ℕ). m + n) (ap (λ (y : List (List ℕ)). length (join y)) (sym (parts-same b es 0 (from cs 0))))
             (sum-same (tableLength l es cs) (λ i. length (join (objects i))) (length cs) (λ i m. one b e w i m) ∙ sym (join-flat objects (length cs)))
             ∙ omega (arith, join-long (flat objects (length cs)) (newParts sh es 0 (from cs 0)));
       }
@@ -148,7 +148,7 @@ module _ (gs ks cs : List ℕ) (l : Layout) (at total j : ℕ) (t : Total gs ks 
           let c = s .count-is in
           ap₂ (λ (x y : ℕ). x + y) (sym (new-size b l e w (from cs i) (getD cs (i + 1) (l .count)) (omega (arith, r .0)) (r .1)))
           (ap (λ (f : ℕ). besideLength f es (from cs i) (getD cs (i + 1) (l .count))) (s .format-is)
-          ∙ ap (λ (y : List (List ℕ)). length (join y)) (sym (parts-same sh es (from cs i) (getD cs (i + 1) (l .count)))))
+          ∙ ap (λ (y : List (List ℕ)). length (join y)) (sym (parts-same b es (from cs i) (getD cs (i + 1) (l .count)))))
           ∙ ap (λ (n : ℕ). length (newTable sh b (from cs i) (getD cs (i + 1) n)) + length (join (newParts sh es (from cs i) (getD cs (i + 1) n)))) c
           ∙ sym (join-cons (newTable sh b (from cs i) (to (sh .count) cs i)) (newParts sh es (from cs i) (to (sh .count) cs i)))
         where

@@ -1,14 +1,11 @@
 -- Writing the new tables one behind another, and all new objects of a split. Assumes nothing.
 use Prim.Native.Nat.{ℕ, _+_, _*_, _<_, _≤_}
 use mathlib.Core.Path.{_≡_, refl, sym, subst, ap, ap₂, _∙_}
-use mathlib.Core.Bool.{cond}
 use mathlib.Core.List.{List, _∷_, _++_}
 use native.Mathlib.Omega.{arith}
 use lib.ListN.{length, getD, length-append}
-use lib.Dec.{eqb}
 use Rattle.folds.specs.Folds.{flat}
 use Rattle.folds.specs.Lists.{part}
-use Rattle.folds.proofs.Tests.{by-test}
 use Rattle.folds.proofs.Folds.{flat-none, flat-more, flat-split}
 use Rattle.folds.proofs.FromTheFront.{flat-same, length-even}
 use Rattle.ot_layouts.specs.Coverage.{Entry}
@@ -19,25 +16,29 @@ use Rattle.pair_rules.specs.Written.{newTable, newParts, newObjects}
 use Rattle.ot_pairpos.specs.declared.Layout.{Layout}
 use Rattle.pair_new_objects.specs.Tables.{paired, highAt, PartEnd, Halved, Beside, Planned}
 use Rattle.pair_new_objects.specs.Objects.{partsOf, Room, Written, oldTable, Old, tableOf, tableObjects, tablesOf, objectsOf}
-use Rattle.pair_new_objects.proofs.Beside.{parts-same}
+use Rattle.pair_new_objects.proofs.Beside.{parts-same, parts-many}
+use Rattle.ot_pairpos.specs.Layout.{Numbered}
+use Rattle.ot_pairpos.proofs.Layouts.{layout-numbered, few-heads}
 use Rattle.pair_new_objects.proofs.Planning.{cuts-few, same-part, kept-half, kept-entries, kept-beside, new-rises, new-inside, new-half, new-entries, new-same, new-beside}
 use Rattle.pair_new_objects.proofs.Writing.{written-none, data-long, rows-long, room-first, room-rest, written-more, old-kept, old-after}
 use Rattle.pair_new_objects.proofs.Tables.{shaped}
 
--- objects of a new table: itself, coverage, in format 2 class definition 1
-abbrev pub perFormat : ℕ → ℕ
-perFormat f = cond (eqb f 1) 2 3
+module _ (d : List ℕ) (head : ℕ) (l : Layout) (at : ℕ) (old : Old d head l at) where
+  numbered : Numbered l
+  numbered = subst Numbered (sym (old .layout-is)) (layout-numbered (oldTable d head l))
 
-pub objects-many : (d : List ℕ) (head : ℕ) (l : Layout) (es : List Entry) (cs : List ℕ) (j : ℕ) → length (tableObjects d head l es cs j) ≡ perFormat (l .format)
-unfolding partsOf
-objects-many d head l es cs j = by-test (eqb (l .format) 1) (λ e. rw e) (λ e. rw e)
+  pub own-few : l .own ≤ 2
+  own-few = few-heads l numbered .0
+
+  -- the objects of a new table
+  pub objects-many : (es : List Entry) (cs : List ℕ) (j : ℕ) → length (tableObjects d head l es cs j) ≡ l .own + 1
+  objects-many es cs j = omega (arith, numbered .own-is, parts-many (l .format) (within (from cs j) (getD cs (j + 1) (l .count)) es) (from cs j))
 
 -- the objects of the first j new tables are written, and the glyphs of the next one start at `start`
-pub record Tables (d o gs ks cs : List ℕ) (l : Layout) (head bytes count per : ℕ) (d′ o′ : List ℕ) (start at row j : ℕ) : Type 0 where
+pub record Tables (d o gs ks cs : List ℕ) (l : Layout) (head bytes count : ℕ) (d′ o′ : List ℕ) (start at row j : ℕ) : Type 0 where
   pub known : Planned gs ks cs l
   pub old : Old d head l bytes
   pub room : Room d o bytes count (tablesOf d head l (paired gs ks) cs)
-  pub per-is : per ≡ perFormat (l .format)
   pub some : j ≤ length cs
   pub halved : Halved ks (highAt (l .count) cs j) start
   pub written : Written d o bytes count (flat (tableObjects d head l (paired gs ks) cs) j) d′ o′ at
@@ -45,18 +46,17 @@ pub record Tables (d o gs ks cs : List ℕ) (l : Layout) (head bytes count per :
   pub same-data : length d′ ≡ length d
   pub same-rows : length o′ ≡ length o
 
-module _ (d o gs ks cs : List ℕ) (l : Layout) (head bytes count per : ℕ) where
+module _ (d o gs ks cs : List ℕ) (l : Layout) (head bytes count : ℕ) where
   abbrev objects : ℕ → List (List ℕ)
   objects j = tableObjects d head l (paired gs ks) cs j
 
-  pub tables-start : (start : ℕ) → Planned gs ks cs l → PartEnd ks 0 (from cs 0) start → Old d head l bytes → Room d o bytes count (tablesOf d head l (paired gs ks) cs) → per ≡ perFormat (l .format)
-      → Tables d o gs ks cs l head bytes count per d o start bytes count 0
-  tables-start start p e old room q =
+  pub tables-start : (start : ℕ) → Planned gs ks cs l → PartEnd ks 0 (from cs 0) start → Old d head l bytes → Room d o bytes count (tablesOf d head l (paired gs ks) cs)
+      → Tables d o gs ks cs l head bytes count d o start bytes count 0
+  tables-start start p e old room =
       record {
         known = p;
         old = old;
         room = room;
-        per-is = q;
         some = omega arith;
         halved = kept-half gs ks cs l p start e;
         written = subst (λ (new : List (List ℕ)). Written d o bytes count new d o bytes) (sym (flat-none objects)) (written-none d o bytes count);
@@ -65,7 +65,7 @@ module _ (d o gs ks cs : List ℕ) (l : Layout) (head bytes count per : ℕ) whe
         same-rows = refl;
       }
 
-  module _ (d′ o′ : List ℕ) (start at row j : ℕ) (t : Tables d o gs ks cs l head bytes count per d′ o′ start at row j) where
+  module _ (d′ o′ : List ℕ) (start at row j : ℕ) (t : Tables d o gs ks cs l head bytes count d′ o′ start at row j) where
     pub tables-stop : length cs ≤ j → Written d o bytes count (tablesOf d head l (paired gs ks) cs) d′ o′ at
     tables-stop h =
         let z : j ≡ length cs = omega (arith, t .some) in
@@ -84,8 +84,8 @@ module _ (d o gs ks cs : List ℕ) (l : Layout) (head bytes count per : ℕ) whe
       next-room : Room d′ o′ at row (objects j)
       next-room = subst (λ (n : ℕ). Room d′ o′ at n (objects j)) (sym (t .row-is)) (room-rest (flat objects j) (objects j) more-room (t .written))
 
-      pub row-fits : row + per ≤ length o
-      row-fits = let m = next-room .rows in omega (arith, objects-many d head l (paired gs ks) cs j, t .per-is, t .same-rows)
+      pub row-fits : row + (l .own + 1) ≤ length o
+      row-fits = let m = next-room .rows in omega (arith, objects-many d head l bytes (t .old) (paired gs ks) cs j, t .same-rows)
 
       pub next-few : j + 1 < 65536
       next-few = omega (arith, cuts-few gs ks cs l (t .known))
@@ -119,7 +119,7 @@ module _ (d o gs ks cs : List ℕ) (l : Layout) (head bytes count per : ℕ) whe
         turn-room = subst (λ (new : List (List ℕ)). Room d′ o′ at row new) objects-are next-room
 
         pub tables-turn : (d″ o″ : List ℕ) (r : ℕ) → Written d′ o′ at row (tableOf d′ head l lo hi ∷ partsOf (l .format) (paired (part gs start end) (part ks start end)) lo) d″ o″ r
-            → Tables d o gs ks cs l head bytes count per d″ o″ end r (row + per) (j + 1)
+            → Tables d o gs ks cs l head bytes count d″ o″ end r (row + (l .own + 1)) (j + 1)
         tables-turn d″ o″ r w =
             let both : Written d o bytes count (flat objects j ++ objects j) d″ o″ r
             = written-more (flat objects j) (objects j) more-room (t .written)
@@ -129,7 +129,6 @@ module _ (d o gs ks cs : List ℕ) (l : Layout) (head bytes count per : ℕ) whe
               known = t .known;
               old = t .old;
               room = t .room;
-              per-is = t .per-is;
               some = omega arith;
               halved = new-half gs ks cs l (t .known) j start end h (t .halved) e′;
               written = subst (λ (new : List (List ℕ)). Written d o bytes count new d″ o″ r) (sym (flat-more objects j)) both;
@@ -139,10 +138,9 @@ module _ (d o gs ks cs : List ℕ) (l : Layout) (head bytes count per : ℕ) whe
                   omega (
                     arith,
                     t .row-is,
-                    t .per-is,
                     ap length (flat-more objects j),
                     length-append (flat objects j) (objects j),
-                    objects-many d head l (paired gs ks) cs j,
+                    objects-many d head l bytes (t .old) (paired gs ks) cs j,
                   );
             }
 
@@ -167,9 +165,9 @@ module _ (d o gs ks cs : List ℕ) (l : Layout) (head bytes count first : ℕ) (
       ap₂ (λ (x y : List (List ℕ)). x ++ y)
       (flat-same (λ j. newTable sh b (from cs j) (to (sh .count) cs j) ∷ newParts sh es (from cs j) (to (sh .count) cs j)) (tableObjects d head l es cs) (length cs)
       (λ j m.
-      ap (λ (y : List (List ℕ)). newTable sh b (from cs j) (to (sh .count) cs j) ∷ y) (parts-same sh es (from cs j) (to (sh .count) cs j))
+      ap (λ (y : List (List ℕ)). newTable sh b (from cs j) (to (sh .count) cs j) ∷ y) (parts-same b es (from cs j) (to (sh .count) cs j))
       ∙ ap₂ (λ (n f : ℕ). newTable sh b (from cs j) (getD cs (j + 1) n) ∷ partsOf f (within (from cs j) (getD cs (j + 1) n) es) (from cs j)) (sym (s .count-is)) (sym (s .format-is))))
-      (parts-same sh es 0 (from cs 0)
+      (parts-same b es 0 (from cs 0)
       ∙ ap₂ (λ (f : ℕ) (x : List Entry). partsOf f x 0) (sym (s .format-is)) (kept-entries gs ks cs l p first e))
 
   whole : Room d o bytes count (tables ++ parts)
@@ -178,11 +176,12 @@ module _ (d o gs ks cs : List ℕ) (l : Layout) (head bytes count first : ℕ) (
   pub tables-room : Room d o bytes count tables
   tables-room = room-first tables parts whole
 
-  pub tables-many : length tables ≡ perFormat (l .format) * length cs
-  tables-many = length-even (tableObjects d head l (paired gs ks) cs) (perFormat (l .format)) (objects-many d head l (paired gs ks) cs) (length cs)
+  pub tables-many : length tables ≡ (l .own + 1) * length cs
+  tables-many =
+      length-even (tableObjects d head l (paired gs ks) cs) (l .own + 1) (objects-many d head l bytes old (paired gs ks) cs) (length cs)
 
-  pub tables-small : (per : ℕ) → per ≡ perFormat (l .format) → count + per * length cs ≤ length o
-  tables-small per q = let m = tables-room .rows in omega (arith, tables-many, ap (λ (n : ℕ). n * length cs) q)
+  pub tables-small : count + (l .own + 1) * length cs ≤ length o
+  tables-small = let m = tables-room .rows in omega (arith, tables-many)
 
   pub first-same : length (part ks 0 first) ≡ length (part gs 0 first)
   first-same = same-part gs ks cs l p 0 first (omega arith) (e .inside)
@@ -190,7 +189,7 @@ module _ (d o gs ks cs : List ℕ) (l : Layout) (head bytes count first : ℕ) (
   pub first-beside : Beside (l .format) 0 (paired (part gs 0 first) (part ks 0 first))
   first-beside = kept-beside gs ks cs l p first e
 
-  module _ (row : ℕ) (q : row ≡ count + perFormat (l .format) * length cs) (d′ o′ : List ℕ) (at : ℕ) (w : Written d o bytes count tables d′ o′ at) where
+  module _ (row : ℕ) (q : row ≡ count + (l .own + 1) * length cs) (d′ o′ : List ℕ) (at : ℕ) (w : Written d o bytes count tables d′ o′ at) where
     row-is : row ≡ count + length tables
     row-is = omega (arith, tables-many)
 

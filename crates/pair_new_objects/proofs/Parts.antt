@@ -8,6 +8,7 @@ use lib.ListN.{length, getD}
 use lib.Dec.{eqb}
 use borrow.Author.Tests.{eq-eqb, ne-eqb}
 use Rattle.folds.specs.Lists.{put, join}
+use Rattle.folds.proofs.Tests.{by-test}
 use Rattle.folds.proofs.Moved.{length-map}
 use Rattle.ot_layouts.specs.Coverage.{Entry, coverageBytes, runs}
 use Rattle.ot_layouts.specs.ClassDef.{named, classDefBytes}
@@ -22,7 +23,7 @@ use Rattle.ot_pairpos.specs.declared.Layout.{Layout}
 use Rattle.pair_new_objects.specs.Tables.{paired, Beside}
 use Rattle.pair_new_objects.specs.Objects.{partsOf, Room, Written, oldTable, tableOf}
 use Rattle.pair_new_objects.proofs.Parting.{paired-glyphs, length-paired}
-use Rattle.pair_new_objects.proofs.Beside.{paired-reduced, join-one, join-two, class-def-short}
+use Rattle.pair_new_objects.proofs.Beside.{parts-one, parts-two, paired-reduced, join-one, join-two, class-def-short}
 use Rattle.pair_new_objects.proofs.Writing.{written-one, room-first, room-rest, written-more}
 
 module _ (gs ks : List ℕ) (f lo : ℕ) (same : length ks ≡ length gs) where
@@ -31,9 +32,12 @@ module _ (gs ks : List ℕ) (f lo : ℕ) (same : length ks ≡ length gs) where
   rest = cond (eqb f 1) [] (classDefBytes (reducedEntries gs ks lo) ∷ [])
 
   pub parts-are : partsOf f (paired gs ks) lo ≡ (coverageBytes gs ∷ []) ++ rest
-  unfolding partsOf
   parts-are =
-      ap₂ (λ (x : List ℕ) (y : List Entry). coverageBytes x ∷ cond (eqb f 1) [] (classDefBytes y ∷ [])) (paired-glyphs gs ks same) (sym (paired-reduced gs ks lo))
+      by-test (eqb f 1)
+      (λ e. parts-one f (paired gs ks) lo e ∙ rw e (ap (λ (x : List ℕ). coverageBytes x ∷ []) (paired-glyphs gs ks same)))
+      (λ e.
+      parts-two f (paired gs ks) lo e
+      ∙ rw e (ap₂ (λ (x : List ℕ) (y : List Entry). coverageBytes x ∷ classDefBytes y ∷ []) (paired-glyphs gs ks same) (sym (paired-reduced gs ks lo))))
 
   rest-none : f ≡ 1 → rest ≡ []
   rest-none e = rw (eq-eqb f 1 e)

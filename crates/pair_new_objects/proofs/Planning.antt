@@ -11,7 +11,8 @@ use Rattle.folds.proofs.Folds.{before-none, before-more}
 use Rattle.ot_layouts.specs.Coverage.{Entry}
 use Rattle.glyph_rules.specs.Entries.{within}
 use Rattle.cut_rules.specs.Ranges.{from}
-use Rattle.cut_rules.proofs.CutPlaces.{Places, range-high}
+use Rattle.cut_rules.proofs.CutPlaces.{range-high}
+use Rattle.cut_rules.specs.Places.{Places}
 use Rattle.ot_pairpos.specs.declared.Layout.{Layout}
 use Rattle.pair_new_objects.specs.Tables.{paired, highAt, PartEnd, Halved, Beside, Planned}
 use Rattle.pair_new_objects.proofs.Parting.{halved-none, halved-next, within-part}

@@ -1,5 +1,5 @@
 -- What a caller has of the covered glyphs of a table in a store: the plan, the old table, and that the new objects are those of document 01. Assumes nothing.
-use Prim.Native.Nat.{ℕ, _+_, _-_, _*_, _<_, _≤_}
+use Prim.Native.Nat.{ℕ, _+_, _*_, _<_, _≤_}
 use mathlib.Core.Path.{_≡_, refl, sym, subst, ap, ap₂, _∙_}
 use mathlib.Core.Bool.{true, false}
 use mathlib.Core.List.{List, [], _∷_, _++_, map}
@@ -26,9 +26,9 @@ use Rattle.store_rules.specs.Store.{Store, headOf, tailOf, bytesOf, linkedAt, l
 use Rattle.glyph_rules.specs.Entries.{within}
 use Rattle.pair_rules.specs.Table.{shape, entriesOf, glyphsOf}
 use Rattle.cut_rules.specs.Ranges.{from, to}
-use Rattle.pair_rules.specs.Written.{newTable, newParts, newObjects, newOf}
+use Rattle.pair_rules.specs.Written.{partOf, newTable, newParts, newObjects, newOf}
 use Rattle.store_rules.proofs.Sound.{Fits, sound-fits, size-bytes}
-use Rattle.cut_rules.proofs.CutPlaces.{Places}
+use Rattle.cut_rules.specs.Places.{Places}
 use Rattle.pair_rules.proofs.Entries.{entries1, entries-agree}
 use Rattle.glyph_rules.proofs.Entries.{within-ascends}
 use Rattle.pair_rules.specs.Reads.{Reads}
@@ -40,8 +40,7 @@ use Rattle.ot_pairpos.specs.Layout.{layoutOf}
 use Rattle.glyph_sort.specs.ByClass.{ByClass}
 use Rattle.pair_new_objects.specs.Tables.{paired, lowAt, highAt, Beside, Planned}
 use Rattle.pair_new_objects.specs.Order.{Sorted, Ordered, Arranged}
-use Rattle.pair_new_objects.specs.Objects.{partsOf, Room, Written, oldTable, Old, objectsOf, Length}
-use Rattle.pair_new_objects.proofs.Beside.{parts-same}
+use Rattle.pair_new_objects.specs.Objects.{Room, Written, oldTable, Old, objectsOf, Length}
 use Rattle.pair_new_objects.proofs.Keys.{Small}
 use Rattle.pair_new_objects.proofs.Arranging.{sorted-by-item, ordered-arranged, places-arranged}
 
@@ -57,7 +56,7 @@ module _ (gs ks cs : List ℕ) (n : ℕ) (es : List Entry) (r : Arranged gs ks c
   new-same j h = subst (λ (lo : ℕ). within lo (getD cs (j + 1) n) (paired gs ks) ≡ within lo (getD cs (j + 1) n) es) (before-more (from cs) j) (r .entries (j + 1) (omega arith))
 
 pub same-objects : (gs ks cs : List ℕ) (es : List Entry) (sh : Shape) (b : List ℕ) → Arranged gs ks cs (sh .count) es → 0 < length cs → newObjects sh b (paired gs ks) cs ≡ newObjects sh b es cs
-unfolding newObjects
+unfolding newObjects newParts
 same-objects gs ks cs es sh b r some =
     ap₂ (λ (x y : List (List ℕ)). x ++ y)
     (flat-same (λ j. newTable sh b (from cs j) (to (sh .count) cs j) ∷ newParts sh (paired gs ks) (from cs j) (to (sh .count) cs j)) (λ j. newTable sh b (from cs j) (to (sh .count) cs j) ∷ newParts sh es (from cs j) (to (sh .count) cs j)) (length cs)
@@ -65,7 +64,7 @@ same-objects gs ks cs es sh b r some =
     (parts 0 (from cs 0) (kept-same gs ks cs (sh .count) es r some))
   where
     parts : (lo hi : ℕ) → within lo hi (paired gs ks) ≡ within lo hi es → newParts sh (paired gs ks) lo hi ≡ newParts sh es lo hi
-    parts lo hi e = parts-same sh (paired gs ks) lo hi ∙ ap (λ (x : List Entry). partsOf (sh .format) x lo) e ∙ sym (parts-same sh es lo hi)
+    parts lo hi e = ap (λ (x : List Entry). map (partOf x lo) (sh .own)) e
 
 -- ---- the entries of a table in a store
 

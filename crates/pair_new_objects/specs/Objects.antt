@@ -1,25 +1,22 @@
 -- New objects written one behind another, with their rows, and the table that they are made from. Assumes nothing.
 use Prim.Native.Nat.{ℕ, _+_, _*_, _≤_, _<_}
 use mathlib.Core.Path.{_≡_}
-use mathlib.Core.Bool.{cond}
-use mathlib.Core.List.{List, [], _∷_, map}
+use mathlib.Core.List.{List, _∷_, map}
 use lib.ListN.{length, getD}
-use lib.Dec.{eqb}
 use Rattle.folds.specs.Folds.{flat}
 use Rattle.folds.specs.Lists.{put, join, part}
-use Rattle.ot_layouts.specs.Coverage.{Entry, coverageBytes}
-use Rattle.ot_layouts.specs.ClassDef.{classDefBytes}
-use Rattle.ot_layouts.specs.PairPos.{shapeOf, itemAt}
-use Rattle.glyph_rules.specs.Entries.{within, reduced}
+use Rattle.ot_layouts.specs.Coverage.{Entry}
+use Rattle.ot_layouts.specs.PairPos.{ownIn, shapeOf, itemAt}
+use Rattle.glyph_rules.specs.Entries.{within}
 use Rattle.store_rules.specs.Appended.{rowsFrom}
 use Rattle.cut_rules.specs.Ranges.{from}
-use Rattle.pair_rules.specs.Written.{newTable, newObjects}
+use Rattle.pair_rules.specs.Written.{partOf, newTable, newObjects}
 use Rattle.ot_pairpos.specs.declared.Layout.{Layout}
 use Rattle.ot_pairpos.specs.Layout.{layoutOf}
 
--- "coverage, class definition 1 (format 2)" of a table of format f with these entries, of which lo is the first item
+-- the own parts of a table of format f with these entries, of which lo is the first item
 unfoldable pub partsOf : ℕ → List Entry → ℕ → List (List ℕ)
-partsOf f es lo = coverageBytes (map (λ e. e .glyph) es) ∷ cond (eqb f 1) [] (classDefBytes (reduced lo es) ∷ [])
+partsOf f es lo = map (partOf es lo) (ownIn f)
 
 -- there is room for new objects from byte `at` and row `row` on, and the last ends within 32 bits
 pub record Room (d o : List ℕ) (at row : ℕ) (new : List (List ℕ)) : Type 0 where

@@ -5,7 +5,6 @@ use ot_class_def_writer::write_class_def;
 use ot_coverage_writer::coverage_length;
 use ot_coverage_writer::write_coverage;
 use ot_pairpos::Layout;
-use ot_pairpos::objects_per_table;
 use pair_new_table::write_format1;
 use pair_new_table::write_format2;
 use store_object_rows::put_object;
@@ -217,7 +216,6 @@ fn write_tables(
         (tablesOf (came «data») head layout (paired (came glyphs) (came classes)) (came cuts)) (left «data») (left objects) r
         ⌝ }
 {
-    let per_table = objects_per_table(layout.format);
     let mut from = start;
     let mut at = byte_count;
     let mut row = object_count;
@@ -238,7 +236,7 @@ fn write_tables(
             at,
             row,
         );
-        row += per_table;
+        row += layout.own + 1;
         from = to;
         j += 1;
     }
@@ -269,7 +267,7 @@ pub fn write_objects(
         ⌝ }
 {
     let first = part_end(classes, 0, cuts[0]);
-    let row = object_count + objects_per_table(layout.format) * cuts.len();
+    let row = object_count + (layout.own + 1) * cuts.len();
     let at = write_tables(
         data,
         objects,

@@ -21,20 +21,20 @@ use Rattle.pair_checks.specs.declared.Checked.{Checked}
 use Rattle.pair_checks.specs.declared.Checked.the-variants as Checked
 use Rattle.pair_checks.specs.Opens.{Opens}
 use Rattle.pair_plan.specs.declared.Plan.{Plan}
-use Rattle.pair_plan.specs.declared.Decision.the-variants.{Cut, Refused}
-use Rattle.call_scratch.specs.Lengths.{lengthsOf}
-use Rattle.pair_plan.specs.Called.{calledOf}
+use Rattle.pair_plan.specs.declared.Decision.the-variants.{Cut, Settled}
+use Rattle.call_rules.specs.Scratch.{lengthsOf}
+use Rattle.pair_checks.specs.Called.{calledOf}
 use Rattle.pair_plan.specs.Cutting.{Looked, CutsTable}
 use Rattle.pair_plan.specs.Decided.{Planned, Decided}
-use Rattle.pair_plan.proofs.Called.{lookedLast, called, Passed, passed}
+use Rattle.pair_checks.proofs.Called.{lookedLast, called, Passed, passed}
 
--- ---- a refusal
+-- ---- the call has its answer
 
-refused : (s : Store) (t : ℕ) (w : Scratch) (a : Answer) {gs ks cuts : List ℕ} → firstCase (cutCases s t w) ≡ some (number a) → Decided s t w (Refused a) gs ks cuts
-refused s t w a e = record { answers = e; plans = λ p x. let z : _≡_ {A = ℕ} 0 1 = cc in absurd (omega arith) }
+settles : (s : Store) (t : ℕ) (w : Scratch) (a : Answer) {gs ks cuts : List ℕ} → firstCase (cutCases s t w) ≡ some (number a) → Decided s t w (Settled a) gs ks cuts
+settles s t w a e = record { answers = e; plans = λ p x. let z : _≡_ {A = ℕ} 0 1 = cc in absurd (omega arith) }
 
-pub decided-refused : (s : Store) (t : ℕ) (w : Scratch) {x : Checked} {a : Answer} {gs ks cuts : List ℕ} → x ≡ calledOf s t (lengthsOf w) → x ≡ Checked.Refused a → Decided s t w (Refused a) gs ks cuts
-decided-refused s t w {a = a} e y = refused s t w a (called s t w ∙ ap (λ (x : Checked). lookedLast x (onCycle s t)) (sym e ∙ y))
+pub decided-settled : (s : Store) (t : ℕ) (w : Scratch) {x : Checked} {a : Answer} {gs ks cuts : List ℕ} → x ≡ calledOf s t (lengthsOf w) → x ≡ Checked.Settled a → Decided s t w (Settled a) gs ks cuts
+decided-settled s t w {a = a} e y = settles s t w a (called s t w ∙ ap (λ (x : Checked). lookedLast x (onCycle s t)) (sym e ∙ y))
 
 -- ---- the rest of 7, and the cuts
 
@@ -47,24 +47,24 @@ module _ (b o l c : List ℕ) (t : ℕ) (w : Scratch) (p : PairTable) (e : calle
 
   -- the table is open, and the walk's scratch long enough
   pub can-begin : ((x : List ℕ) × Opens (lent x o l c) t p) × (2 * getD c 1 0 ≤ length (w .walk))
-  can-begin = ((b, pass .opens), pass .walk)
+  can-begin = ((b, pass .opens), pass .long .walk)
 
   -- the table has a mark there
   pub table-marked : t < length (w .walk)
-  table-marked = omega (arith, pass .opens .reads .used, pass .walk)
+  table-marked = omega (arith, pass .opens .reads .used, pass .long .walk)
 
   pub can-cut : {z : List ℕ} → Begun (lent b o l c) t (p .layout .header) z → Looked (lent b o l c) t p z (w .set) (w .glyphs) (w .classes) (w .cuts)
   can-cut d =
       record {
-        walked = record { opens = pass .opens; slots = pass .slots; begun = d; room = pass .cuts };
-        long = pass .set;
-        glyphs = pass .glyphs;
-        classes = pass .classes;
+        walked = record { opens = pass .opens; slots = pass .slots; begun = d; room = pass .long .cuts };
+        long = pass .long .set;
+        glyphs = pass .long .glyphs;
+        classes = pass .long .classes;
       }
 
   module _ {z : List ℕ} (d : TellsCycle (lent b o l c) t z) where
-    pub decided-cycle : {gs ks cuts : List ℕ} → (getD z t 0 ≡ 0 → ⊥) → Decided (lent b o l c) t w (Refused BadLinks) gs ks cuts
-    decided-cycle ne = refused (lent b o l c) t w BadLinks (last (sym (lt-ltb 0 (getD z t 0) (omega arith)) ∙ d .tells))
+    pub decided-cycle : {gs ks cuts : List ℕ} → (getD z t 0 ≡ 0 → ⊥) → Decided (lent b o l c) t w (Settled BadLinks) gs ks cuts
+    decided-cycle ne = settles (lent b o l c) t w BadLinks (last (sym (lt-ltb 0 (getD z t 0) (omega arith)) ∙ d .tells))
 
     pub decided-cut : {gs ks cuts : List ℕ} {n : ℕ} → getD z t 0 ≡ 0 → CutsTable (lent b o l c) t p (w .glyphs) (w .classes) (w .cuts) gs ks cuts n → Decided (lent b o l c) t w (Cut (record { table = p; cuts = n })) gs ks cuts
     decided-cut {gs} {ks} {cuts} {n} h x =

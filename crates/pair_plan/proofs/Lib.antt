@@ -2,7 +2,6 @@ pub mod Looking
 pub mod Gathering
 pub mod Fronting
 pub mod Copying
-pub mod Called
 pub mod Planning
 pub mod Deciding
 pub mod Counting

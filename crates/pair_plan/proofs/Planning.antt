@@ -22,16 +22,16 @@ use Rattle.call_rules.proofs.Cases.{first-skip, first-stands}
 use Rattle.pair_points.specs.Filled.{Placed}
 use Rattle.pair_plan.specs.declared.Plan.{Plan}
 use Rattle.pair_plan.specs.declared.Decision.{Decision}
-use Rattle.pair_plan.specs.declared.Decision.the-variants.{Cut, Refused}
+use Rattle.pair_plan.specs.declared.Decision.the-variants.{Cut, Settled}
 use Rattle.pair_plan.specs.Decided.{Decided, Handed, handed, handedOut}
 use Rattle.call_scratch.proofs.Cleared.{SameLengths, same-cleared}
 
 -- ---- what is handed out
 
 module _ (cuts list : List ℕ) {d : Decision} where
-  pub out-refused : {n : ℕ} {a : Answer} → d ≡ Refused a → n ≡ number a → handed n 0 list ≡ handedOut d cuts list
+  pub out-settled : {n : ℕ} {a : Answer} → d ≡ Settled a → n ≡ number a → handed n 0 list ≡ handedOut d cuts list
   unfolding handedOut
-  out-refused y e = rw y (ap (λ (x : ℕ). handed x 0 list) e)
+  out-settled y e = rw y (ap (λ (x : ℕ). handed x 0 list) e)
 
   module _ (p : Plan) (y : d ≡ Cut p) where
     pub out-short : {n : ℕ} → n ≡ number NoRoom → length list < p .cuts → handed n 0 list ≡ handedOut d cuts list
@@ -70,7 +70,7 @@ module _ (s : Store) (t : ℕ) (w : Scratch) (list : List ℕ) where
 
   decides : {gs ks cuts : List ℕ} (d : Decision) → Decided s t w d gs ks cuts → leaves s w (handedOut d cuts list) ≡ planCall s t w list
   unfolding handedOut
-  decides (Refused a) x = refuses (x .answers)
+  decides (Settled a) x = refuses (x .answers)
   decides (Cut p) x = goes (x .answers) (x .plans p refl .cut .placed)
 
   pub plan-called : {w′ w″ : Scratch} {d : Decision} {gs ks cuts list′ : List ℕ} {n k : ℕ} → Decided s t w d gs ks cuts → handed n k list′ ≡ handedOut d cuts list

@@ -15,13 +15,13 @@ use Rattle.pair_rules.specs.Calls.{cutCases}
 use Rattle.pair_checks.specs.Opens.{Opens}
 use Rattle.pair_plan.specs.declared.Plan.{Plan}
 use Rattle.pair_plan.specs.declared.Decision.{Decision}
-use Rattle.pair_plan.specs.declared.Decision.the-variants.{Cut, Refused}
+use Rattle.pair_plan.specs.declared.Decision.the-variants.{Cut, Settled}
 use Rattle.pair_plan.specs.Cutting.{CutsTable}
 
--- the number of a refusal
-abbrev pub refusalOf : Decision → Option ℕ
-refusalOf (Cut p) = none
-refusalOf (Refused a) = some (number a)
+-- document 01's number where the call has its answer; none where there is a plan
+abbrev pub decidedAs : Decision → Option ℕ
+decidedAs (Cut p) = none
+decidedAs (Settled a) = some (number a)
 
 -- the plan that is to be carried out: the table is open, and its cuts, and in format 2 its covered glyphs by class, stand at the front of the scratch
 pub record Planned (s : Store) (t : ℕ) (w : Scratch) (p : Plan) (gs ks cuts : List ℕ) : Type 0 where
@@ -30,7 +30,7 @@ pub record Planned (s : Store) (t : ℕ) (w : Scratch) (p : Plan) (gs ks cuts : 
 
 -- the first of the cases 1 to 7 that applies decides; where none does, there is a plan
 pub record Decided (s : Store) (t : ℕ) (w : Scratch) (d : Decision) (gs ks cuts : List ℕ) : Type 0 where
-  pub answers : firstCase (cutCases s t w) ≡ refusalOf d
+  pub answers : firstCase (cutCases s t w) ≡ decidedAs d
   pub plans : (p : Plan) → d ≡ Cut p → Planned s t w p gs ks cuts
 
 -- ---- what a cut plan hands out
@@ -47,7 +47,7 @@ handed n k list = record { answer = n; count = k; list = list }
 
 -- "refuses as a split does by 1 to 7, and by 8 where places is shorter than the cuts"
 unfoldable pub handedOut : Decision → List ℕ → List ℕ → Handed
-handedOut (Refused a) cuts list = handed (number a) 0 list
+handedOut (Settled a) cuts list = handed (number a) 0 list
 handedOut (Cut p) cuts list = cond (ltb (length list) (p .cuts)) (handed (number NoRoom) 0 list) (handed 0 (p .cuts) (put list 0 (part cuts 0 (p .cuts))))
 
 -- the cuts of a plan stand at the front of the scratch, and can be counted

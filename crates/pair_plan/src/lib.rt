@@ -1,16 +1,15 @@
-// What a split and a cut plan decide before anything is written: the checks 1 to 7, in document 01's order, and the cut places. Then the cut plan itself.
+// What a split and a cut plan decide before anything is written: the checks, the cut places, and the loop of check 7. Then the cut plan itself,
+// which is the first half of `split_format1` and `split_format2` in the Rust text.
 pub mod cutting;
 
 use call_rules::Answer;
+use call_rules::Lengths;
 use call_rules::number_of;
-use call_scratch::Lengths;
 use call_scratch::clear_scratch;
-use call_scratch::is_short;
 use cutting::cut_table;
 use pair_checks::Checked;
 use pair_checks::PairTable;
-use pair_checks::check_table;
-use pair_checks::slots::links_at_slots;
+use pair_checks::call::check_call;
 use store_walk::prepare;
 use store_walk::walk_before;
 ghost use mathlib.Core.Path.{_≡_};
@@ -21,14 +20,13 @@ ghost use Rattle.folds.specs.Lists.{put};
 ghost use Rattle.store_rules.specs.Store.{lent};
 ghost use Rattle.call_rules.specs.Outcomes.{outcome};
 ghost use Rattle.pair_rules.specs.Calls.{planCall};
-ghost use Rattle.pair_checks.specs.Checked.{checkedOf};
 ghost use Rattle.pair_checks.specs.Opens.{Opens};
 ghost use Rattle.store_walk.specs.Marks.{Begun};
-ghost use Rattle.call_scratch.specs.Lengths.{lengthsOf};
+ghost use Rattle.call_rules.specs.Scratch.{lengthsOf};
 ghost use Rattle.folds.specs.Moments.{came, left};
 ghost use Rattle.store_rules.specs.Moments.{storeCame, storeNow};
 ghost use Rattle.call_rules.specs.Moments.{scratchCame, scratchLeft, scratchNow};
-ghost use Rattle.pair_plan.specs.Called.{lentBy, calledOf};
+ghost use Rattle.pair_checks.specs.Called.{calledOf};
 ghost use Rattle.pair_plan.specs.Decided.{Decided, handed, handedOut, HandingOut};
 
 // A table that is not refused, and how many cuts it gets; they stand at the front of the scratch.
@@ -37,55 +35,10 @@ pub struct Plan {
     pub cuts: usize,
 }
 
-// What is decided. A table of another format is refused as done.
+// What is decided: cuts, or the call has its answer, which for a table of another format is 0.
 pub enum Decision {
     Cut(Plan),
-    Refused(Answer),
-}
-
-// Check 6 of a table that is open, and then the slots of check 7.
-fn check_lent(
-    links: &[u32],
-    counts: &[u32; 3],
-    table: u32,
-    opened: PairTable,
-    lengths: Lengths,
-) -> Checked
-    requires { ⌜ ((b o : List ℕ) × (checkedOf (lent b o (now links) (now counts)) table ≡ Checked.Open opened)) ⌝ }
-    ensures { λ r. ⌜
-        ((b o : List ℕ)
-        → checkedOf (lent b o (came links) (came counts)) table
-        ≡ Checked.Open opened
-        → r
-        ≡ lentBy (lent b o (came links) (came counts)) table lengths opened)
-        ⌝ }
-{
-    let layout = opened.layout;
-    if is_short(lengths, counts[1], opened.glyphs, layout.count) {
-        return Checked::Refused(Answer::ShortScratch);
-    }
-    if !links_at_slots(links, counts, table, layout) {
-        return Checked::Refused(Answer::BadLinks);
-    }
-    Checked::Open(opened)
-}
-
-// The checks 1 to 6, and the slots of check 7: all that needs no scratch.
-fn check_call(
-    data: &[u8],
-    objects: &[u32],
-    links: &[u32],
-    counts: &[u32; 3],
-    table: u32,
-    lengths: Lengths,
-) -> Checked
-    ensures { λ r. ⌜ r ≡ calledOf (storeCame «data» objects links counts) table lengths ⌝ }
-{
-    let checked = check_table(data, objects, links, counts, table);
-    match checked {
-        Checked::Refused(answer) => Checked::Refused(answer),
-        Checked::Open(opened) => check_lent(links, counts, table, opened, lengths),
-    }
+    Settled(Answer),
 }
 
 // Walks what the links of the table's header lead to. The scratch may hold anything.
@@ -109,7 +62,7 @@ fn begin_walk(
 }
 
 // The cut places, and the rest of check 7: what finds them has walked all that the table leads to. The scratch may hold anything.
-fn decide_cuts(
+pub fn decide_cuts(
     data: &[u8],
     objects: &[u32],
     links: &[u32],
@@ -146,7 +99,7 @@ fn decide_cuts(
         cuts,
     );
     if walk[table as usize] != 0 {
-        return Decision::Refused(Answer::BadLinks);
+        return Decision::Settled(Answer::BadLinks);
     }
     Decision::Cut(Plan {
         table: opened,
@@ -181,7 +134,7 @@ pub fn decide(
     };
     let checked = check_call(data, objects, links, counts, table, lengths);
     match checked {
-        Checked::Refused(answer) => Decision::Refused(answer),
+        Checked::Settled(answer) => Decision::Settled(answer),
         Checked::Open(opened) => decide_cuts(
             data,
             objects,
@@ -216,7 +169,7 @@ fn hand_out(decision: Decision, cuts: &[u16], places: &mut [u16], place_count: &
     ensures { λ r. ⌜ handed r (left «place_count») (left places) ≡ handedOut decision (came cuts) (came places) ⌝ }
 {
     match decision {
-        Decision::Refused(answer) => {
+        Decision::Settled(answer) => {
             *place_count = 0;
             number_of(answer)
         }

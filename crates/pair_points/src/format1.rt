@@ -1,11 +1,12 @@
 // The cut places of a table of format 1: the counterpart of `compute_format1_split_points`.
 use crate::measuring::measure;
 use crate::table_info::TableInfo;
+use buffers::lesser;
 use cut_filling::Filling;
 use store_reader::first_row;
 ghost use mathlib.Core.Path.{_≡_};
 ghost use mathlib.Core.List.{List};
-ghost use Prim.Native.Nat.{ℕ, _<_, min};
+ghost use Prim.Native.Nat.{ℕ, _<_};
 ghost use Rattle.store_rules.specs.Store.{lent};
 ghost use Rattle.folds.specs.Moments.{came, left};
 ghost use Rattle.pair_points.specs.Format1.{Ready1, Below1, Weighs1, Places1, Tells1};
@@ -71,7 +72,7 @@ fn weigh_set(
         return sets;
     }
     let partial = sets.partial + 2;
-    let beside = lesser(partial, info.beside as u64);
+    let beside = lesser(partial as usize, info.beside as usize) as u64;
     let filled = filling.weigh(i, set.size + 2, beside, 10, cuts);
     if filled.cuts != filling.cuts {
         return Sets {
@@ -85,11 +86,4 @@ fn weigh_set(
         row: set.next,
         partial,
     }
-}
-
-// The smaller of two lengths.
-fn lesser(a: u64, b: u64) -> u64
-    ensures { λ r. ⌜ r ≡ min a b ⌝ }
-{
-    if a <= b { a } else { b }
 }

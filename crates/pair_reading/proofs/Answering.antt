@@ -16,10 +16,10 @@ use Rattle.pair_rules.specs.Pairs as Pairs
 use Rattle.pair_rules.specs.Pairs.{spotOf, noPair, pairAt, pairOf}
 use Rattle.pair_rules.specs.Calls.{PairOutcome, reported, settlePair, pairCall}
 use Rattle.call_rules.specs.Answers.{number}
-use Rattle.pair_checks.specs.Checked.{checkedOf, refusal}
+use Rattle.pair_checks.specs.Checked.{checkedOf, settledAs}
 use Rattle.pair_checks.specs.declared.PairTable.{PairTable}
 use Rattle.pair_checks.specs.declared.Checked.{Checked}
-use Rattle.pair_checks.specs.declared.Checked.the-variants.{Open, Refused}
+use Rattle.pair_checks.specs.declared.Checked.the-variants.{Open, Settled}
 use Rattle.pair_checks.proofs.Refusals.{refusals}
 use Rattle.pair_checks.specs.Opens.{Opens}
 use Rattle.pair_reading.specs.Reading.{asSpot, asPair, pairOutcome, ValueRecord, valuePair}
@@ -75,14 +75,14 @@ pub none-reported : (n : ℕ) (p : PairAnswer) {v : List ℤ} → p .found ≡ f
 none-reported n p e f = λ i. record { answer = n; found = cond (sym e i) 1 0; values = f i }
 
 module _ (s : Store) (t a b : ℕ) {x : Checked} (e : x ≡ checkedOf s t) where
-  called : pairCall s t a b ≡ settlePair (refusal x) (pairOf s t a b)
+  called : pairCall s t a b ≡ settlePair (settledAs x) (pairOf s t a b)
   unfolding pairCall
-  called = ap (λ (o : Option ℕ). settlePair o (pairOf s t a b)) (refusals s t ∙ ap refusal (sym e))
+  called = ap (λ (o : Option ℕ). settlePair o (pairOf s t a b)) (refusals s t ∙ ap settledAs (sym e))
 
-  pub refused-call : {out : PairOutcome} {v : Pairs.Pair} {n : ℕ} {w : Answer} → x ≡ Refused w → n ≡ number w → v ≡ noPair → out ≡ reported n v → out ≡ pairCall s t a b
+  pub settled-call : {out : PairOutcome} {v : Pairs.Pair} {n : ℕ} {w : Answer} → x ≡ Settled w → n ≡ number w → v ≡ noPair → out ≡ reported n v → out ≡ pairCall s t a b
   unfolding settlePair
-  refused-call y i j r = r ∙ (λ k. reported (i k) (j k)) ∙ sym (called ∙ ap (λ (c : Checked). settlePair (refusal c) (pairOf s t a b)) y)
+  settled-call y i j r = r ∙ (λ k. reported (i k) (j k)) ∙ sym (called ∙ ap (λ (c : Checked). settlePair (settledAs c) (pairOf s t a b)) y)
 
   pub open-call : {out : PairOutcome} {v : Pairs.Pair} {p : PairTable} → x ≡ Open p → v ≡ pairOf s t a b → out ≡ reported 0 v → out ≡ pairCall s t a b
   unfolding settlePair
-  open-call y j r = r ∙ ap (reported 0) j ∙ sym (called ∙ ap (λ (c : Checked). settlePair (refusal c) (pairOf s t a b)) y)
+  open-call y j r = r ∙ ap (reported 0) j ∙ sym (called ∙ ap (λ (c : Checked). settlePair (settledAs c) (pairOf s t a b)) y)

@@ -95,7 +95,7 @@ module _ {s : Store} {t : ℕ} {p : PairTable} (o : Opens s t p) where
         ap (λ (c : Bool). cond c (spot1 s t a b) (spot2 s t a b)) two
         ∙ (λ i. andThen (coverPlace (sym same-cover i) a) λ k.
         given (ltb (classOf (sym same-class1 i) a) (sym same-count i) && ltb (classOf (sym same-class2 i) b) (sym same-columns i))
-        (record { object = t; at = 16 + sym same-unit i * (classOf (sym same-class1 i) a * sym same-columns i + classOf (sym same-class2 i) b) }))
+        (record { object = t; at = Shapes.format-two (bytesOf s t) two .headerIs i + sym same-unit i * (classOf (sym same-class1 i) a * sym same-columns i + classOf (sym same-class2 i) b) }))
 
 -- ---- whole
 
@@ -139,7 +139,7 @@ module _ {s : Store} {t : ℕ} {p : PairTable} (o : Opens s t p) (a b : ℕ) (q 
       let c1 = classOf (linkedBytes s t 8) a in
       let c2 = classOf (linkedBytes s t 10) b in
       let (k, covered, i) = then-some _ _ q (sym (ap (λ (c : Bool). cond c (spot1 s t a b) (spot2 s t a b)) two) ∙ e) in
-      let (below, y) = given-some (ltb c1 n && ltb c2 m) (record { object = t; at = 16 + u * (c1 * m + c2) }) q i in
+      let (below, y) = given-some (ltb c1 n && ltb c2 m) (record { object = t; at = shape s t .header + u * (c1 * m + c2) }) q i in
       let (x, z) = and-both (ltb c1 n) (ltb c2 m) below in
       let w : u * (c1 * m + c2) + u ≤ u * m * n = row-within u m n c1 c2 (ltb-true c1 n x) (ltb-true c2 m z) in
       let f = Shapes.format-two (bytesOf s t) two in

@@ -118,7 +118,7 @@ pub fn read_pair(
 {
     let checked = check_table(data, objects, links, counts, table);
     match checked {
-        Checked::Refused(answer) => report(number_of(answer), no_pair(), values, found),
+        Checked::Settled(answer) => report(number_of(answer), no_pair(), values, found),
         Checked::Open(opened) => {
             let pair = pair_of(data, objects, links, counts, table, opened, first, second);
             report(0, pair, values, found)

@@ -71,7 +71,7 @@ fn number_at(
     signed(u16_at(bytes_of(data, objects, object as usize), place))
 }
 
-// The eight numbers of a value record.
+// The eight numbers of a value record, each at the place that its field's name says.
 fn numbers_at(
     data: &[u8],
     objects: &[u32],
@@ -87,7 +87,8 @@ fn numbers_at(
     let mut numbers = [0i32; 8];
     let mut j: usize = 0;
     while j < 8 {
-        numbers[j] = number_at(data, objects, links, counts, object, at, format, j);
+        let name = field_at(j).name;
+        numbers[name] = number_at(data, objects, links, counts, object, at, format, j);
         j += 1;
     }
     numbers

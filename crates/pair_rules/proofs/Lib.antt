@@ -1,6 +1,4 @@
-pub mod Samples
-pub mod Figures
-pub mod Examples
+pub mod Pinned
 pub mod TableCuts
 pub mod ItemLinks
 pub mod Entries

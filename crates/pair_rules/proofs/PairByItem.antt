@@ -99,7 +99,7 @@ setSpot s t b i =
 unfoldable pub rowSpot : Store → ℕ → ℕ → ℕ → Option Spot
 rowSpot s t b i =
     given (ltb i (shape s t .count) && ltb (classOf (linkedBytes s t 10) b) (columns (bytesOf s t)))
-    (record { object = t; at = 16 + recordSize (bytesOf s t) * (i * columns (bytesOf s t) + classOf (linkedBytes s t 10) b) })
+    (record { object = t; at = shape s t .header + recordSize (bytesOf s t) * (i * columns (bytesOf s t) + classOf (linkedBytes s t 10) b) })
 
 -- in either format
 abbrev pub itemSpot : Store → ℕ → ℕ → ℕ → Option Spot

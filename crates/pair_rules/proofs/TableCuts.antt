@@ -5,7 +5,8 @@ use lib.Dec.{eqb}
 use Rattle.folds.proofs.Tests.{by-test}
 use Rattle.store_rules.specs.Store.{Store}
 use Rattle.cut_rules.specs.Cuts.{cutsOf}
-use Rattle.cut_rules.proofs.CutPlaces.{Places, places}
+use Rattle.cut_rules.proofs.CutPlaces.{places}
+use Rattle.cut_rules.specs.Places.{Places}
 use Rattle.pair_rules.specs.Rules.{rule1, rule2}
 use Rattle.pair_rules.specs.Table.{ruleOf, shape, cutPlaces}
 

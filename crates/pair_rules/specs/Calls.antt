@@ -1,21 +1,22 @@
 -- The calls on pair tables: "Given exactly if (first that applies, in this order)", and the outcome of each. Assumes nothing.
-use Prim.Native.Nat.{ℕ, _+_, _*_}
+use Prim.Native.Nat.{ℕ}
 use mathlib.Core.Bool.{Bool, cond, not, _&&_, _||_}
 use mathlib.Core.List.{List, [], _∷_, _++_}
 use mathlib.Core.Option.{Option, some, none}
 use lib.ListN.{length}
 use lib.IntN.{ℤ}
 use lib.Dec.{leb, ltb, eqb}
-use Rattle.folds.specs.Lists.{join, isEmpty}
+use Rattle.folds.specs.Lists.{isEmpty}
 use Rattle.ot_layouts.specs.PairPos.{formatOf, exact}
-use Rattle.store_rules.specs.Store.{Store, sound, byteRoom, objectRoom, linkRoom, bytesOf}
+use Rattle.store_rules.specs.Store.{Store, sound, bytesOf}
 use Rattle.store_rules.specs.Reach.{onCycle}
 use Rattle.call_rules.specs.declared.Answer.the-variants.{Done, Unsound, NoTable, BadTable, BadParts, FewGlyphs, ShortScratch, BadLinks, NoRoom}
 use Rattle.call_rules.specs.Answers.{Case, case, firstCase}
-use Rattle.call_rules.specs.Scratch.{Scratch}
+use Rattle.call_rules.specs.Scratch.{Scratch, lengthsOf, lengthsShort}
+use Rattle.call_rules.specs.Needs.{roomShort}
 use Rattle.call_rules.specs.Outcomes.{Outcome, done, settle}
 use Rattle.pair_rules.specs.Table.{shape, partsReadable, glyphsOf, allAtSlots, cutPlaces}
-use Rattle.pair_rules.specs.Written.{newOf, needObjects, needLinks, splitStore, newTables}
+use Rattle.pair_rules.specs.Written.{needed, splitStore, newTables}
 use Rattle.pair_rules.specs.Pairs.{Pair, noPair, pairOf}
 
 -- ---- answers, in their order
@@ -32,12 +33,9 @@ readCases s t =
     ∷ case FewGlyphs (eqb (formatOf (bytesOf s t)) 1 && ltb (length (glyphsOf s t)) (shape s t .count))
     ∷ []
 
--- 6: "a scratch shorter than above"
+-- 6: "glyphs and classes, one entry each per covered glyph; cuts, one entry per item (pair set or class-1 row)"
 unfoldable pub scratchShort : Store → ℕ → Scratch → Bool
-scratchShort s t w =
-    ltb (length (w .walk)) (2 * s .objectCount) || ltb (length (w .set)) 8192
-    || ltb (length (w .glyphs)) (length (glyphsOf s t)) || ltb (length (w .classes)) (length (glyphsOf s t))
-    || ltb (length (w .cuts)) (shape s t .count)
+scratchShort s t w = lengthsShort (lengthsOf w) (s .objectCount) (length (glyphsOf s t)) (shape s t .count)
 
 -- 1 to 7
 unfoldable pub cutCases : Store → ℕ → Scratch → List Case
@@ -47,21 +45,13 @@ cutCases s t w =
     ∷ case BadLinks (not (allAtSlots s t) || onCycle s t)
     ∷ [])
 
--- "room short: objects, links, data or the result list"; "K result entries, from the list's first, and the exact bytes of all new objects"
-unfoldable pub roomShort : Store → ℕ → List ℕ → List ℕ → Bool
-roomShort s t cs list =
-    ltb (objectRoom s) (s .objectCount + needObjects (shape s t) (length cs))
-    || ltb (linkRoom s) (s .linkCount + needLinks (shape s t) (length cs))
-    || ltb (byteRoom s) (s .byteCount + length (join (newOf s t cs)))
-    || ltb (length list) (length cs)
+-- what is left of a split then: "With no cut, 0 also changes nothing"; "No cut needs no room."; 8
+unfoldable pub lastCases : Store → ℕ → List ℕ → List Case
+lastCases s t list = case Done (isEmpty (cutPlaces s t)) ∷ case NoRoom (roomShort s list (needed s t (cutPlaces s t))) ∷ []
 
--- "With no cut, 0 also changes nothing"; "No cut needs no room."
+-- 1 to 8
 unfoldable pub splitCases : Store → ℕ → Scratch → List ℕ → List Case
-splitCases s t w list =
-    cutCases s t w
-    ++ (case Done (isEmpty (cutPlaces s t))
-    ∷ case NoRoom (roomShort s t (cutPlaces s t) list)
-    ∷ [])
+splitCases s t w list = cutCases s t w ++ lastCases s t list
 
 -- the plan's own list holds the places
 unfoldable pub planCases : Store → ℕ → Scratch → List ℕ → List Case
@@ -69,11 +59,13 @@ planCases s t w list = cutCases s t w ++ (case NoRoom (ltb (length list) (length
 
 -- ---- outcomes
 
--- the outcome of a split: "0: none below: split, or nothing to split"
+-- the split of a table, if none of these cases applies
+abbrev pub splitUnless : List Case → Store → ℕ → Scratch → List ℕ → Outcome
+splitUnless cases s t w list = settle (firstCase cases) s list w (done (splitStore s t (cutPlaces s t)) (newTables s t (cutPlaces s t)) list w)
+
+-- the outcome of a split: 0: "none below: split, or nothing to split"
 unfoldable pub splitCall : Store → ℕ → Scratch → List ℕ → Outcome
-splitCall s t w list =
-    settle (firstCase (splitCases s t w list)) s list w
-    (done (splitStore s t (cutPlaces s t)) (newTables s t (cutPlaces s t)) list w)
+splitCall s t w list = splitUnless (splitCases s t w list) s t w list
 
 -- the outcome of a cut plan: the store as it was, the places in its list, and their count
 unfoldable pub planCall : Store → ℕ → Scratch → List ℕ → Outcome
@@ -100,5 +92,5 @@ pairCall s t a b = settlePair (firstCase (readCases s t)) (pairOf s t a b)
 
 -- all of this file's definitions, for checks that compute
 unfoldable pub computes : Unit {0}
-unfolding readCases scratchShort cutCases roomShort splitCases planCases splitCall planCall settlePair pairCall
+unfolding readCases scratchShort cutCases lastCases splitCases planCases splitCall planCall settlePair pairCall
 computes = tt

@@ -12,7 +12,7 @@ use Rattle.ot_layouts.specs.Numbers.{u16At, signed16}
 use Rattle.ot_layouts.specs.Values.{bit, fieldAt, fieldCount, position}
 use Rattle.ot_layouts.specs.Coverage.{coverPlace}
 use Rattle.ot_layouts.specs.ClassDef.{classOf}
-use Rattle.ot_layouts.specs.PairPos.{value1, value2, columns, recordSize, itemAt, valuesAt, firstRecord}
+use Rattle.ot_layouts.specs.PairPos.{coverAt, class1At, class2At, value1, value2, columns, recordSize, itemAt, valuesAt, firstRecord}
 use Rattle.store_rules.specs.Store.{Store, bytesOf, childAt, linkedBytes}
 use Rattle.pair_rules.specs.Table.{shape}
 
@@ -24,7 +24,7 @@ pub record Spot : Type 0 where
 -- "the first glyph's place k in the coverage; if k is below the set count and slot 10+2k has a link, the first record in that set with the second glyph"
 unfoldable pub spot1 : Store → ℕ → ℕ → ℕ → Option Spot
 spot1 s t a b =
-    andThen (coverPlace (linkedBytes s t 2) a) λ k.
+    andThen (coverPlace (linkedBytes s t coverAt) a) λ k.
     andThen (given (ltb k (shape s t .count)) (itemAt (shape s t) k)) λ q.
     andThen (childAt s t q) λ c.
     andThen (firstRecord (bytesOf s c) (recordSize (bytesOf s t)) b) λ r.
@@ -33,11 +33,11 @@ spot1 s t a b =
 -- "first glyph covered, both classes below their counts, then the record at row·class2Count + column"
 unfoldable pub spot2 : Store → ℕ → ℕ → ℕ → Option Spot
 spot2 s t a b =
-    let c1 = classOf (linkedBytes s t 8) a in
-    let c2 = classOf (linkedBytes s t 10) b in
-    andThen (coverPlace (linkedBytes s t 2) a) λ k.
+    let c1 = classOf (linkedBytes s t class1At) a in
+    let c2 = classOf (linkedBytes s t class2At) b in
+    andThen (coverPlace (linkedBytes s t coverAt) a) λ k.
     given (ltb c1 (shape s t .count) && ltb c2 (columns (bytesOf s t)))
-    (record { object = t; at = 16 + recordSize (bytesOf s t) * (c1 * columns (bytesOf s t) + c2) })
+    (record { object = t; at = shape s t .header + recordSize (bytesOf s t) * (c1 * columns (bytesOf s t) + c2) })
 
 -- in either format
 unfoldable pub spotOf : Store → ℕ → ℕ → ℕ → Option Spot

@@ -8,7 +8,7 @@ use Rattle.folds.specs.Folds.{upto}
 use Rattle.folds.specs.Lists.{isSome}
 use Rattle.ot_layouts.specs.Coverage.{Entry, coverReadable, coverGlyphs}
 use Rattle.ot_layouts.specs.ClassDef.{classReadable, classOf}
-use Rattle.ot_layouts.specs.PairPos.{Shape, shapeOf, itemAt, isSlot}
+use Rattle.ot_layouts.specs.PairPos.{Shape, coverAt, class1At, class2At, shapeOf, itemAt, isSlot}
 use Rattle.store_rules.specs.Store.{Store, Link, bytesOf, sizeOf, childAt, linkedAt, linkedBytes, ofSpan, allAt}
 use Rattle.store_rules.specs.Reach.{itemSize}
 use Rattle.cut_rules.specs.Cuts.{Rule, cutsOf}
@@ -21,20 +21,20 @@ shape s t = shapeOf (bytesOf s t)
 -- 4 does not apply: "link to coverage or a class definition absent, or that object unreadable"
 unfoldable pub partsReadable : Store → ℕ → Bool
 partsReadable s t =
-    isSome (childAt s t 2) && coverReadable (linkedBytes s t 2)
+    isSome (childAt s t coverAt) && coverReadable (linkedBytes s t coverAt)
     && cond (eqb (shape s t .format) 1) true
-    (isSome (childAt s t 8) && classReadable (linkedBytes s t 8) && isSome (childAt s t 10) && classReadable (linkedBytes s t 10))
+    (isSome (childAt s t class1At) && classReadable (linkedBytes s t class1At) && isSome (childAt s t class2At) && classReadable (linkedBytes s t class2At))
 
 -- the covered glyphs, in order
 abbrev pub glyphsOf : Store → ℕ → List ℕ
-glyphsOf s t = coverGlyphs (linkedBytes s t 2)
+glyphsOf s t = coverGlyphs (linkedBytes s t coverAt)
 
 -- each covered glyph with its item: in format 1 the pair set at its place, in format 2 the row of its class
 unfoldable pub entriesOf : Store → ℕ → List Entry
 entriesOf s t =
     cond (eqb (shape s t .format) 1)
     (upto (λ k. record { glyph = getD (glyphsOf s t) k 0; class = k }) (length (glyphsOf s t)))
-    (map (λ g. record { glyph = g; class = classOf (linkedBytes s t 8) g }) (glyphsOf s t))
+    (map (λ g. record { glyph = g; class = classOf (linkedBytes s t class1At) g }) (glyphsOf s t))
 
 -- "a link of the table stands at no slot" does not hold
 unfoldable pub allAtSlots : Store → ℕ → Bool
@@ -48,8 +48,8 @@ ofItems t sh lo hi = ofSpan t (itemAt sh lo) (itemAt sh hi)
 unfoldable pub ruleOf : Store → ℕ → Rule
 ruleOf s t =
     cond (eqb (shape s t .format) 1)
-    (rule1 (shape s t .count) (λ i. isSome (childAt s t (itemAt (shape s t) i))) (itemSize s (ofItems t (shape s t))) (sizeOf s (linkedAt s t 2)))
-    (rule2 (shape s t .count) (shape s t .item) (itemSize s (ofItems t (shape s t))) (entriesOf s t) (sizeOf s (linkedAt s t 10)))
+    (rule1 (shape s t .count) (λ i. isSome (childAt s t (itemAt (shape s t) i))) (itemSize s (ofItems t (shape s t))) (sizeOf s (linkedAt s t coverAt)))
+    (rule2 (shape s t .count) (shape s t .item) (itemSize s (ofItems t (shape s t))) (entriesOf s t) (sizeOf s (linkedAt s t class2At)))
 
 -- the places at which table t is cut
 unfoldable pub cutPlaces : Store → ℕ → List ℕ

@@ -14,8 +14,6 @@ use Rattle.ot_ranges.specs.Ascending.{Ascending}
 use Rattle.ot_ranges.proofs.Ascending.{ascending}
 use Rattle.store_rules.specs.Store.{Store, bytesOf}
 use Rattle.pair_rules.specs.Table.{shape, entriesOf, glyphsOf}
-use Rattle.cut_rules.proofs.CutPlaces.{Places}
-use Rattle.pair_rules.proofs.TableCuts.{table-cuts}
 use Rattle.pair_rules.proofs.Checks.{entries-ascend}
 use Rattle.pair_rules.proofs.Entries.{entries-glyphs}
 use Rattle.store_reader.specs.Rows.{Inside}
@@ -74,14 +72,11 @@ module _ {s : Store} {t : ℕ} {p : PairTable} {gs ks cs : List ℕ} (k : Arrang
 
   -- ---- format 2
 
-  pub places : Places (shape s t .count) cs
-  places = subst (Places (shape s t .count)) (sym (k .cuts)) (table-cuts s t)
-
   module _ (two : p .layout .format ≡ 1 → ⊥) (octets : Bytes (s .bytes)) where
     pub by-class : Sorted gs ks cs (p .layout .count)
-    by-class = subst (Sorted gs ks cs) (sym (same-count o)) (sorted2 s t (o .reads) octets (format-two o two) gs ks cs (k .byClass two) places)
+    by-class = subst (Sorted gs ks cs) (sym (same-count o)) (sorted2 s t (o .reads) octets (format-two o two) gs ks cs (k .byClass two) (k .places))
 
     pub by-parts : {gs′ ks′ : List ℕ} → Ordered gs ks cs (p .layout .count) gs′ ks′ → Arranged gs′ ks′ cs (shape s t .count) (entriesOf s t)
     by-parts {gs′} {ks′} h =
-        arranged2 s t (o .reads) octets (format-two o two) gs ks cs (k .byClass two) places gs′ ks′
+        arranged2 s t (o .reads) octets (format-two o two) gs ks cs (k .byClass two) (k .places) gs′ ks′
         (subst (λ (n : ℕ). Ordered gs ks cs n gs′ ks′) (same-count o) h)

@@ -1,35 +1,35 @@
 -- A plan's cuts, and in format 2 the covered glyphs by class, at the front of the scratch: what deciding leaves there, and what is lent on. Assumes nothing.
-use Prim.Native.Nat.{ℕ, _-_, _*_, _≤_}
-use mathlib.Core.Path.{_≡_, sym, ap, ap₂, _∙_}
-use mathlib.Core.Bool.{_||_}
+use Prim.Native.Nat.{ℕ, _-_, _≤_}
+use mathlib.Core.Path.{_≡_, sym, ap, ap₂, subst, _∙_}
 use mathlib.Core.List.{List, map}
 use mathlib.Core.Option.{none}
 use native.Mathlib.Omega.{arith}
 use lib.ListN.{length, take, drop, length-map}
-use lib.Dec.{ltb}
-use borrow.Author.Tests.{ltb-false}
 use Rattle.folds.specs.Lists.{put, part, Bytes}
-use Rattle.folds.proofs.Tests.{or-none}
 use Rattle.folds.proofs.Folds.{length-upto}
 use Rattle.folds.proofs.Put.{put-front}
 use Rattle.folds.proofs.Parts.{length-part}
 use Rattle.ot_layouts.specs.Coverage.{Entry}
 use Rattle.store_rules.specs.Store.{Store}
 use Rattle.pair_rules.specs.Table.{shape, entriesOf, glyphsOf, cutPlaces}
-use Rattle.call_rules.specs.Scratch.{Scratch}
+use Rattle.call_rules.specs.Scratch.{Scratch, lengthsOf}
 use Rattle.call_rules.specs.Answers.{firstCase}
 use Rattle.pair_rules.specs.Calls.{readCases, scratchShort, cutCases}
+use Rattle.call_rules.proofs.Scratch.{LongEnough, long-enough}
 use Rattle.call_rules.proofs.Cases.{first-append, first-head}
+use Rattle.cut_rules.specs.Places.{Places}
 use Rattle.pair_rules.proofs.Entries.{entries-glyphs}
+use Rattle.pair_rules.proofs.TableCuts.{table-cuts}
 use Rattle.glyph_sort.specs.Pairs.{pairAt, pairs, keysOf, besideOf}
 use Rattle.glyph_sort.specs.ByClass.{classPairs, ByClass}
 use Rattle.glyph_sort.proofs.Order.{length-inOrder}
 use Rattle.pair_plan.specs.declared.Plan.{Plan}
 use Rattle.pair_plan.specs.declared.Decision.{Decision}
 use Rattle.pair_plan.specs.declared.Decision.the-variants.{Cut}
-use Rattle.pair_plan.specs.Decided.{refusalOf, Planned, Decided}
+use Rattle.pair_plan.specs.Decided.{decidedAs, Planned, Decided}
 use Rattle.pair_plan.proofs.Counting.{planned-few}
-use Rattle.pair_split.specs.Splitting.{Splitting, Ready}
+use Rattle.pair_split.specs.Arranging.{Arranging}
+use Rattle.pair_split.specs.Splitting.{Ready}
 
 front-long : (xs : List ℕ) (n : ℕ) → n ≤ length xs → length (part xs 0 n) ≡ n
 front-long xs n h = omega (arith, length-part xs 0 n (omega arith) h)
@@ -52,21 +52,19 @@ entries-long : (s : Store) (t : ℕ) → length (entriesOf s t) ≡ length (glyp
 entries-long s t = sym (length-map (entriesOf s t) (λ e. e .glyph)) ∙ ap length (entries-glyphs s t)
 
 -- 6 does not apply
-scratch-fits : (s : Store) (t : ℕ) (w : Scratch) → firstCase (cutCases s t w) ≡ none → (length (glyphsOf s t) ≤ length (w .glyphs)) × (length (glyphsOf s t) ≤ length (w .classes))
+scratch-long : (s : Store) (t : ℕ) (w : Scratch) → firstCase (cutCases s t w) ≡ none
+    → LongEnough (lengthsOf w) (s .objectCount) (length (glyphsOf s t)) (shape s t .count)
 unfolding cutCases scratchShort
-scratch-fits s t w h =
-    let (a, b) = first-append (readCases s t) _ h in
-    let (c, cuts) = or-none _ (ltb (length (w .cuts)) (shape s t .count)) (first-head _ _ b .0) in
-    let (d, classes) = or-none _ (ltb (length (w .classes)) (length (glyphsOf s t))) c in
-    let (e, glyphs) = or-none (ltb (length (w .walk)) (2 * s .objectCount) || ltb (length (w .set)) 8192) (ltb (length (w .glyphs)) (length (glyphsOf s t))) d in
-    (ltb-false (length (w .glyphs)) (length (glyphsOf s t)) glyphs, ltb-false (length (w .classes)) (length (glyphsOf s t)) classes)
+scratch-long s t w h =
+    let (read, rest) = first-append (readCases s t) _ h in
+    long-enough (lengthsOf w) (s .objectCount) (length (glyphsOf s t)) (shape s t .count) (first-head _ _ rest .0)
 
 module _ {s : Store} {t : ℕ} {w : Scratch} {d : Decision} {gs ks cuts : List ℕ} (x : Decided s t w d gs ks cuts) {p : Plan} (y : d ≡ Cut p) where
   abbrev k : Planned s t w p gs ks cuts
   k = x .plans p y
 
   pub none-applies : firstCase (cutCases s t w) ≡ none
-  none-applies = x .answers ∙ ap refusalOf y
+  none-applies = x .answers ∙ ap decidedAs y
 
   many : p .table .glyphs ≡ length (glyphsOf s t)
   many = k .opens .glyphs
@@ -86,7 +84,7 @@ module _ {s : Store} {t : ℕ} {w : Scratch} {d : Decision} {gs ks cuts : List �
 
   pub ready : Bytes (s .bytes) → length gs ≡ length (w .glyphs) → length ks ≡ length (w .classes) → Ready s t p gs ks cuts
   ready octets a b =
-      let (g, c) = scratch-fits s t w none-applies in
+      let long = scratch-long s t w none-applies in
       let (room, few) = planned-few octets k in
       record {
         opens = k .opens;
@@ -94,23 +92,21 @@ module _ {s : Store} {t : ℕ} {w : Scratch} {d : Decision} {gs ks cuts : List �
         few = few;
         cut-room = room;
         places = front-is (w .cuts) (cutPlaces s t) (p .cuts) (k .cut .placed .places) (k .cut .placed .count);
-        glyph-room = omega (arith, many);
-        class-room = omega (arith, many);
+        glyph-room = omega (arith, many, long .glyphs);
+        class-room = omega (arith, many, long .classes);
         byClass = by-class;
       }
 
 -- ---- lent on
 
 pub fronts-lent : {s : Store} {t : ℕ} {p : Plan} {gs ks cuts : List ℕ} → Ready s t p gs ks cuts → (p .cuts ≡ 0 → ⊥)
-    → Splitting s t (p .table) (part gs 0 (p .table .glyphs)) (part ks 0 (p .table .glyphs)) (part cuts 0 (p .cuts))
-fronts-lent {p = p} {gs = gs} {ks = ks} {cuts = cuts} k some =
+    → Arranging s t (p .table) (part gs 0 (p .table .glyphs)) (part ks 0 (p .table .glyphs)) (part cuts 0 (p .cuts))
+fronts-lent {s = s} {t = t} {p = p} {gs = gs} {ks = ks} {cuts = cuts} k some =
     record {
-      arranging = record {
-        opens = k .opens;
-        cuts = k .places;
-        glyphs = front-long gs (p .table .glyphs) (k .glyph-room);
-        classes = front-long ks (p .table .glyphs) (k .class-room);
-        byClass = k .byClass;
-      };
+      opens = k .opens;
+      places = subst (Places (shape s t .count)) (sym (k .places)) (table-cuts s t);
       some = let n = front-long cuts (p .cuts) (k .cut-room) in omega arith;
+      glyphs = front-long gs (p .table .glyphs) (k .glyph-room);
+      classes = front-long ks (p .table .glyphs) (k .class-room);
+      byClass = k .byClass;
     }

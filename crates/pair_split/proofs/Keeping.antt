@@ -1,30 +1,28 @@
 -- New objects written behind those in use, and the table's count and tail set before them. Assumes nothing.
 use Prim.Native.Nat.{ℕ, _+_, _*_, _<_, _≤_}
-use mathlib.Core.Path.{_≡_, refl, sym, subst, ap, ap₂, _∙_}
+use mathlib.Core.Path.{_≡_, sym, subst, ap, ap₂, _∙_}
 use mathlib.Core.List.{List, [], _∷_}
 use native.Mathlib.Omega.{arith}
 use lib.ListN.{length, getD, set}
 use Rattle.folds.specs.Lists.{put, join}
 use Rattle.folds.proofs.Put.{put-one, put-comm, put-below, length-put}
 use Rattle.ot_layouts.specs.Numbers.{be16}
-use Rattle.ot_layouts.specs.PairPos.{Shape, shape1, shape2, shapeOf, itemAt}
+use Rattle.ot_layouts.specs.PairPos.{Shape, itemAt}
 use Rattle.ot_layouts.proofs.Numbers.{length-be16}
-use Rattle.ot_layouts.proofs.Shapes.{by-format, count-in-header, items-rise}
+use Rattle.ot_layouts.proofs.Shapes.{count-in-header, items-rise}
 use Rattle.store_rules.specs.Store.{Store, headOf, bytesOf}
-use Rattle.pair_rules.specs.Table.{shape, cutPlaces}
+use Rattle.pair_rules.specs.Table.{shape}
 use Rattle.cut_rules.specs.Ranges.{from}
 use Rattle.pair_rules.specs.Written.{newOf, storeAfter, splitStore, keptTable}
 use Rattle.store_rules.specs.Appended.{rowsFrom, appended, withBytes, withTail}
 use Rattle.store_rules.proofs.Sound.{Fits, ObjectFits, sound-fits, size-bytes}
-use Rattle.cut_rules.proofs.CutPlaces.{Places}
-use Rattle.pair_rules.proofs.TableCuts.{table-cuts}
 use Rattle.store_rules.proofs.ObjectRows.{rows-length}
 use Rattle.ot_pairpos.specs.declared.Layout.{Layout}
 use Rattle.ot_pairpos.specs.Layout.{layoutOf}
 use Rattle.pair_new_objects.specs.Tables.{paired, Planned}
 use Rattle.pair_new_objects.specs.Objects.{Room, Written, Old, objectsOf}
 use Rattle.pair_new_objects.proofs.Stored.{stored-plan, stored-old, stored-room, stored-written}
-use Rattle.pair_split.specs.Carrying.{countAt, Keeping, Writing, Wrote}
+use Rattle.pair_split.specs.Carrying.{Keeping, Writing, Wrote}
 
 -- a number set below a run that is written
 set-below : (d : List ℕ) (i v b : ℕ) (ys : List ℕ) → i < b → b + length ys ≤ length d → set (put d b ys) i v ≡ put (set d i v) b ys
@@ -32,14 +30,6 @@ set-below d i v b ys l room =
     put-one (put d b ys) i v (omega (arith, length-put d b ys room))
     ∙ sym (put-comm d i (v ∷ []) b ys (omega arith) room)
     ∙ ap (λ (x : List ℕ). put x b ys) (sym (put-one d i v (omega arith)))
-
--- a table has its count where its shape says
-count-place : (b : List ℕ) → countAt (shapeOf b .format) ≡ shapeOf b .countAt
-unfolding countAt shape1 shape2
-count-place b = by-format (λ sh. countAt (sh .format) ≡ sh .countAt) b (λ e. refl) (λ e. refl)
-
-pub cut-places : (s : Store) (t : ℕ) (cs : List ℕ) → cs ≡ cutPlaces s t → Places (shape s t .count) cs
-cut-places s t cs e = subst (λ (x : List ℕ). Places (shape s t .count) x) (sym e) (table-cuts s t)
 
 module _ (s : Store) (t : ℕ) (gs ks cs : List ℕ) where
   -- what `write_objects` asks
@@ -68,19 +58,16 @@ module _ (s : Store) (t : ℕ) (gs ks cs : List ℕ) (w : Writing s t (layoutOf 
   table-fits : ObjectFits s t
   table-fits = fits .object t (w .reads .used)
 
-  places : Places (sh .count) cs
-  places = cut-places s t cs (w .cuts)
-
   asked : Asked s t gs ks cs l
   asked = (
-    stored-plan s t (w .reads) (w .octets) gs ks cs (w .arranged) places (w .some),
+    stored-plan s t (w .reads) (w .octets) gs ks cs (w .arranged) (w .places) (w .some),
     (stored-old s t (w .reads) (w .octets), stored-room s t (w .reads) (w .octets) gs ks cs (w .arranged) (w .some) (w .room)),
   )
 
   -- the items that are kept end within the table
   kept-inside : headOf s t + itemAt sh (from cs 0) ≤ s .byteCount
   kept-inside =
-      let p : from cs 0 < sh .count = places .below 0 (w .some) in
+      let p : from cs 0 < sh .count = w .places .below 0 (w .some) in
       omega (arith, items-rise sh (from cs 0) (sh .count) (omega arith), w .reads .exactly, size-bytes s fits t (w .reads .used), table-fits .ordered, table-fits .inside)
 
   count-inside : headOf s t + sh .countAt + 2 ≤ s .byteCount
@@ -110,10 +97,10 @@ module _ (s : Store) (t : ℕ) (gs ks cs : List ℕ) (w : Writing s t (layoutOf 
         record {
           row = omega (arith, w .reads .used, fits .objectsIn, same-rows);
           within = omega (arith, same-head, kept-inside, fits .bytesMost);
-          count = omega (arith, same-head, count-place (bytesOf s t), count-inside, same-bytes, fits .bytesIn);
+          count = omega (arith, same-head, count-inside, same-bytes, fits .bytesIn);
         }
 
-    kept : (d′ o′ : List ℕ) → d′ ≡ put d (getD o (2 * t) 0 + countAt (l .format)) (be16 (from cs 0)) → o′ ≡ set o (2 * t + 1) (getD o (2 * t) 0 + itemAt sh (from cs 0)) → Wrote s t cs d′ o′ r
+    kept : (d′ o′ : List ℕ) → d′ ≡ put d (getD o (2 * t) 0 + l .«count_at») (be16 (from cs 0)) → o′ ≡ set o (2 * t + 1) (getD o (2 * t) 0 + itemAt sh (from cs 0)) → Wrote s t cs d′ o′ r
     unfolding layoutOf splitStore storeAfter appended keptTable withBytes withTail
     kept d′ o′ x y =
         let at : ℕ = headOf s t + sh .countAt in
@@ -121,7 +108,7 @@ module _ (s : Store) (t : ℕ) (gs ks cs : List ℕ) (w : Writing s t (layoutOf 
         record {
           bytes =
               x
-              ∙ ap₂ (λ (b : List ℕ) (k : ℕ). put b k (be16 (from cs 0))) (told-new .bytes) (ap₂ (λ (h k : ℕ). h + k) same-head (count-place (bytesOf s t)))
+              ∙ ap₂ (λ (b : List ℕ) (k : ℕ). put b k (be16 (from cs 0))) (told-new .bytes) (ap (λ (h : ℕ). h + sh .countAt) same-head)
               ∙ sym (put-comm (s .bytes) at (be16 (from cs 0)) (s .byteCount) (join new) (omega (arith, length-be16 (from cs 0), count-inside)) (w .room .bytes));
           rows =
               y
@@ -146,9 +133,9 @@ module _ {s : Store} {t : ℕ} {l : Layout} {gs ks cs : List ℕ} (w : Writing s
     pub keep-ready : Keeping d o t l (from cs 0)
     keep-ready = subst (λ (x : Layout). Keeping d o t x (from cs 0)) (sym (w .layout-is)) (keep-asked s t gs ks cs own d o r told-own)
 
-    pub keep-wrote : {d′ o′ : List ℕ} → d′ ≡ put d (getD o (2 * t) 0 + countAt (l .format)) (be16 (from cs 0)) → o′ ≡ set o (2 * t + 1) (getD o (2 * t) 0 + (l .header + l .item * from cs 0)) → Wrote s t cs d′ o′ r
+    pub keep-wrote : {d′ o′ : List ℕ} → d′ ≡ put d (getD o (2 * t) 0 + l .«count_at») (be16 (from cs 0)) → o′ ≡ set o (2 * t + 1) (getD o (2 * t) 0 + (l .header + l .item * from cs 0)) → Wrote s t cs d′ o′ r
     unfolding layoutOf
     keep-wrote {d′} {o′} x y =
         kept s t gs ks cs own d o r told-own d′ o′
-        (subst (λ (k : Layout). d′ ≡ put d (getD o (2 * t) 0 + countAt (k .format)) (be16 (from cs 0))) (w .layout-is) x)
+        (subst (λ (k : Layout). d′ ≡ put d (getD o (2 * t) 0 + k .«count_at») (be16 (from cs 0))) (w .layout-is) x)
         (subst (λ (k : Layout). o′ ≡ set o (2 * t + 1) (getD o (2 * t) 0 + (k .header + k .item * from cs 0))) (w .layout-is) y)

@@ -3,6 +3,7 @@ mod Keeping
 mod StoreAfter
 mod Places
 mod ByTable
+mod Counting
 mod SplitAt
 mod Fronts
 mod Calling

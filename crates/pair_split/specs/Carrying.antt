@@ -1,15 +1,16 @@
 -- A split carried out: what has been decided, and what is then written. Assumes nothing.
 use Prim.Native.Nat.{ℕ, _+_, _*_, _<_}
 use mathlib.Core.Path.{_≡_}
-use mathlib.Core.Bool.{false, cond}
+use mathlib.Core.Bool.{false}
 use mathlib.Core.List.{List}
 use lib.ListN.{length, getD}
-use lib.Dec.{eqb}
 use Rattle.folds.specs.Lists.{put, Bytes}
 use Rattle.store_rules.specs.Store.{Store, bytesOf}
-use Rattle.pair_rules.specs.Table.{shape, entriesOf, cutPlaces}
+use Rattle.call_rules.specs.declared.Needs.{Needs}
+use Rattle.call_rules.specs.Needs.{roomShort}
+use Rattle.cut_rules.specs.Places.{Places}
+use Rattle.pair_rules.specs.Table.{shape, entriesOf}
 use Rattle.pair_rules.specs.Written.{newOf, splitStore, newTables}
-use Rattle.pair_rules.specs.Calls.{roomShort}
 use Rattle.pair_rules.specs.Reads.{Reads}
 use Rattle.ot_pairpos.specs.declared.Layout.{Layout}
 use Rattle.ot_pairpos.specs.Layout.{layoutOf}
@@ -17,23 +18,20 @@ use Rattle.pair_checks.specs.declared.PairTable.{PairTable}
 use Rattle.pair_checks.specs.Opens.{Opens}
 use Rattle.pair_new_objects.specs.Order.{Arranged}
 use Rattle.pair_new_objects.specs.Objects.{Room}
-
--- where a table of this format has its count
-unfoldable pub countAt : ℕ → ℕ
-countAt format = cond (eqb format 1) 8 12
+use Rattle.pair_split.specs.Measuring.{Measured}
 
 -- the table has a row and so many items, and lies within the data
 pub record Keeping (d o : List ℕ) (t : ℕ) (l : Layout) (n : ℕ) : Type 0 where
   pub row : 2 * t + 1 < length o
   pub within : getD o (2 * t) 0 + (l .header + l .item * n) < 4294967296
-  pub count : getD o (2 * t) 0 + countAt (l .format) + 1 < length d
+  pub count : getD o (2 * t) 0 + l .«count_at» + 1 < length d
 
--- the table passes the checks, its covered glyphs are arranged by its cuts, and there is room
+-- the table passes the checks, can be cut at cs, its covered glyphs are arranged by these cuts, and there is room
 pub record Writing (s : Store) (t : ℕ) (l : Layout) (gs ks cs : List ℕ) : Type 0 where
   pub reads : Reads s t
   pub layout-is : l ≡ layoutOf (bytesOf s t)
   pub octets : Bytes (s .bytes)
-  pub cuts : cs ≡ cutPlaces s t
+  pub places : Places (shape s t .count) cs
   pub some : 0 < length cs
   pub arranged : Arranged gs ks cs (shape s t .count) (entriesOf s t)
   pub room : Room (s .bytes) (s .objects) (s .byteCount) (s .objectCount) (newOf s t cs)
@@ -44,13 +42,13 @@ pub record Wrote (s : Store) (t : ℕ) (cs d o : List ℕ) (r : ℕ) : Type 0 wh
   pub rows : o ≡ splitStore s t cs .objects
   pub ends : r ≡ splitStore s t cs .byteCount
 
--- the same with the links, and 8 does not apply
-pub record Carrying (s : Store) (t : ℕ) (p : PairTable) (gs ks cs list : List ℕ) : Type 0 where
+-- the same with the links: what is needed has been measured, and there is room for it
+pub record Carrying (s : Store) (t : ℕ) (p : PairTable) (n : Needs) (gs ks cs list : List ℕ) : Type 0 where
   pub opens : Opens s t p
-  pub cuts : cs ≡ cutPlaces s t
+  pub places : Places (shape s t .count) cs
   pub some : 0 < length cs
-  pub arranged : Arranged gs ks cs (shape s t .count) (entriesOf s t)
-  pub room : roomShort s t cs list ≡ false
+  pub measured : Measured s t gs ks cs n
+  pub room : roomShort s list n ≡ false
 
 -- the store after the split, and the new tables' numbers at the front of the list
 pub record Carried (s : Store) (t : ℕ) (cs list : List ℕ) (s′ : Store) (list′ : List ℕ) : Type 0 where

@@ -1,5 +1,6 @@
-// A split carried out. All that can refuse it has been asked: nothing here fails.
-use call_room::needed_objects;
+// A split carried out at given places: `clone_range_format1`, `clone_range_format2`, `shrink_format1` and `shrink_format2` of the Rust text.
+// All that can refuse it has been asked: nothing here fails.
+use call_rules::Needs;
 use ot_pairpos::Layout;
 use ot_pairpos::objects_per_table;
 use ot_wire::put_u16;
@@ -17,26 +18,19 @@ ghost use Rattle.ot_layouts.specs.Numbers.{be16};
 ghost use Rattle.store_rules.specs.Store.{lent};
 ghost use Rattle.folds.specs.Moments.{came, left};
 ghost use Rattle.store_rules.specs.Moments.{storeCame, storeLeft, storeNow};
-ghost use Rattle.pair_split.specs.Carrying.{countAt, Keeping, Writing, Wrote, Carrying, Carried};
-
-// Where a table has its count of items.
-fn count_position(format: u16) -> usize
-    ensures { λ r. ⌜ r ≡ countAt format ⌝ }
-{
-    if format == 1 { 8 } else { 12 }
-}
+ghost use Rattle.pair_split.specs.Carrying.{Keeping, Writing, Wrote, Carrying, Carried};
 
 // The table keeps its first `count` items: its count is set, and it ends with them.
 fn keep_items(data: &mut [u8], objects: &mut [u32], table: u32, layout: Layout, count: u16)
     requires { ⌜ Keeping (now «data») (now objects) table layout count ⌝ }
-    ensures { λ _. ⌜ left «data» ≡ put (came «data») (getD (came objects) (2 * table) 0 + countAt (layout .format)) (be16 count) ⌝ }
+    ensures { λ _. ⌜ left «data» ≡ put (came «data») (getD (came objects) (2 * table) 0 + layout .«count_at») (be16 count) ⌝ }
     ensures { λ _. ⌜
         left objects ≡ set (came objects) (2 * table + 1) (getD (came objects) (2 * table) 0 + (layout .header + layout .item * count))
         ⌝ }
 {
     let row = table as usize;
     let head = objects[2 * row] as usize;
-    put_u16(data, head + count_position(layout.format), count);
+    put_u16(data, head + layout.count_at, count);
     shorten(
         objects,
         row,
@@ -92,7 +86,7 @@ fn number_tables(new_tables: &mut [u32], first: u32, per_table: usize, count: us
     }
 }
 
-// Splits the table at `cuts`.
+// Splits the table at `cuts`, which needs `needs`.
 pub fn carry_out(
     data: &mut [u8],
     objects: &mut [u32],
@@ -100,12 +94,15 @@ pub fn carry_out(
     counts: &mut [u32; 3],
     table: u32,
     opened: PairTable,
+    needs: Needs,
     glyphs: &[u16],
     classes: &[u16],
     cuts: &[u16],
     new_tables: &mut [u32],
 )
-    requires { ⌜ Carrying (storeNow «data» objects links counts) table opened (now glyphs) (now classes) (now cuts) (now «new_tables») ⌝ }
+    requires { ⌜
+        Carrying (storeNow «data» objects links counts) table opened needs (now glyphs) (now classes) (now cuts) (now «new_tables»)
+        ⌝ }
     ensures { λ _. ⌜
         Carried (storeCame «data» objects links counts) table (came cuts) (came «new_tables») (storeLeft «data» objects links counts)
         (left «new_tables»)
@@ -123,7 +120,7 @@ pub fn carry_out(
         count,
     );
     let byte_count = bytes as u32;
-    let object_count = counts[1] + (needed_objects(layout.format, count) as u32);
+    let object_count = counts[1] + (needs.objects as u32);
     let link_count = rows as u32;
     // Stored whole, so that the array's length is known.
     *counts = [byte_count, object_count, link_count];

@@ -1,31 +1,32 @@
-// The split of a table of any store: decided, carried out, and the scratch cleared. The counterpart of `split_pairpos`.
+// The split of a table of any store: decided, carried out, and the scratch cleared. The counterpart of `split_pairpos` in the Rust text, and of
+// what `split_format1` and `split_format2` do once they have their cuts.
 pub mod arranging;
 pub mod carrying;
+pub mod measuring;
 
-use arranging::arrange;
-use call_room::Lent;
 use call_room::is_short;
 use call_rules::Answer;
+use call_rules::Lent;
 use call_rules::number_of;
 use call_scratch::clear_scratch;
 use carrying::carry_out;
+use measuring::measure_needs;
 use pair_checks::PairTable;
-use pair_new_objects::new_length;
 use pair_plan::Decision;
 use pair_plan::Plan;
 use pair_plan::decide;
 ghost use mathlib.Core.Path.{_≡_};
-ghost use Rattle.store_rules.specs.Store.{lent};
 ghost use Rattle.call_rules.specs.Scratch.{Scratch, cleared};
 ghost use Rattle.call_rules.specs.Outcomes.{outcome};
-ghost use Rattle.pair_rules.specs.Calls.{splitCall};
+ghost use Rattle.pair_rules.specs.Calls.{lastCases, splitUnless, splitCall};
 ghost use Rattle.folds.specs.Moments.{came, left};
 ghost use Rattle.store_rules.specs.Moments.{storeCame, storeLeft, storeNow};
 ghost use Rattle.call_rules.specs.Moments.{scratchCame, scratchLeft};
-ghost use Rattle.pair_split.specs.Splitting.{Ready, Splitting, SplitAt, lastCall};
+ghost use Rattle.pair_split.specs.Arranging.{Arranging};
+ghost use Rattle.pair_split.specs.Splitting.{Ready, SplitAt};
 
-// Splits a table that has a cut, if there is room, and says whether there was. The lists have their exact lengths.
-fn split_at(
+// Splits a table at any places that ascend within it, if there is room, and says whether there was. The lists have their exact lengths.
+pub fn split_at(
     data: &mut [u8],
     objects: &mut [u32],
     links: &mut [u32],
@@ -37,22 +38,20 @@ fn split_at(
     cuts: &[u16],
     new_tables: &mut [u32],
 ) -> bool
-    requires { ⌜ Splitting (storeNow «data» objects links counts) table opened (now glyphs) (now classes) (now cuts) ⌝ }
+    requires { ⌜ Arranging (storeNow «data» objects links counts) table opened (now glyphs) (now classes) (now cuts) ⌝ }
     ensures { λ r. ⌜
         SplitAt (storeCame «data» objects links counts) table (came cuts) (came «new_tables») r (storeLeft «data» objects links counts)
         (left «new_tables»)
         ⌝ }
 {
-    let layout = opened.layout;
-    arrange(data, objects, opened, glyphs, classes, cuts);
-    let bytes = new_length(glyphs, classes, cuts, layout);
+    let needs = measure_needs(data, objects, opened, glyphs, classes, cuts);
     let lent = Lent {
         data: data.len(),
         objects: objects.len(),
         links: links.len(),
         list: new_tables.len(),
     };
-    if is_short(lent, counts, layout.format, cuts.len(), bytes) {
+    if is_short(lent, counts, needs) {
         return false;
     }
     carry_out(
@@ -62,6 +61,7 @@ fn split_at(
         counts,
         table,
         opened,
+        needs,
         glyphs,
         classes,
         cuts,
@@ -88,7 +88,8 @@ fn split_planned(
     ensures { λ r. ⌜
         ((w : Scratch)
         → outcome r (left «new_count») (storeLeft «data» objects links counts) (left «new_tables») (cleared w)
-        ≡ lastCall (storeCame «data» objects links counts) table w (came «new_tables»))
+        ≡ splitUnless (lastCases (storeCame «data» objects links counts) table (came «new_tables»)) (storeCame «data» objects links counts)
+        table w (came «new_tables»))
         ⌝ }
 {
     *new_count = 0;
@@ -151,7 +152,7 @@ fn split_any(
         cuts,
     );
     match decision {
-        Decision::Refused(answer) => {
+        Decision::Settled(answer) => {
             *new_count = 0;
             number_of(answer)
         }

@@ -1,9 +1,9 @@
 -- Splitting the kept table again, scratch being enough, adds and changes nothing. Assumes nothing.
 use Prim.Native.Nat.{ℕ, _+_, _-_, _*_, _<_, _≤_, min}
 use mathlib.Core.Path.{_≡_, refl, sym, ap, ap₂, subst, _∙_}
-use mathlib.Core.Bool.{Bool, true, false, cond, not, _&&_, _||_}
+use mathlib.Core.Bool.{Bool, true, false, cond, _&&_}
 use mathlib.Core.List.{List, [], _∷_, _++_, map}
-use mathlib.Core.Option.{Option, some, none, Option·getD}
+use mathlib.Core.Option.{Option, some, Option·getD}
 use native.Mathlib.Omega.{arith}
 use lib.ListN.{length, getD}
 use lib.Dec.{leb, eqb}
@@ -20,29 +20,31 @@ use Rattle.ot_layouts.proofs.CoverageLength.{cover-shorter}
 use Rattle.ot_layouts.proofs.RunStarts.{entry}
 use Rattle.ot_layouts.proofs.Shapes.{format-one}
 use Rattle.store_rules.specs.Store.{Store, childAt, bytesOf, sizeOf, linkedAt, linkedBytes}
-use Rattle.store_rules.specs.Reach.{onCycle, itemSize}
+use Rattle.store_rules.specs.Reach.{itemSize}
 use Rattle.pair_rules.specs.Rules.{partialCover, rule1, rule2}
 use Rattle.glyph_rules.specs.Estimates.{besideRows, estimate}
 use Rattle.glyph_rules.specs.Entries.{within}
 use Rattle.cut_rules.specs.Cuts.{after, Rule, cutsOf}
-use Rattle.pair_rules.specs.Table.{allAtSlots, cutPlaces, entriesOf, shape, glyphsOf, ruleOf, ofItems}
-use Rattle.pair_rules.specs.Written.{splitStore, newTables}
+use Rattle.pair_rules.specs.Table.{cutPlaces, entriesOf, shape, glyphsOf, ruleOf, ofItems}
+use Rattle.pair_rules.specs.Written.{splitStore, newTables, needed}
 use Rattle.cut_rules.specs.Ranges.{from}
 use Rattle.call_rules.specs.Scratch.{Scratch, cleared}
-use Rattle.pair_rules.specs.Calls.{scratchShort, splitCall, splitCases, cutCases, roomShort, readCases}
+use Rattle.pair_rules.specs.Calls.{splitCall, splitCases, cutCases, lastCases}
+use Rattle.call_rules.specs.Needs.{roomShort}
 use Rattle.call_rules.specs.Outcomes.{outcome, settle, done}
 use Rattle.call_rules.specs.Answers.{firstCase, Case, case}
-use Rattle.call_rules.specs.declared.Answer.the-variants.{ShortScratch, BadLinks, Done, NoRoom}
+use Rattle.call_rules.specs.declared.Answer.the-variants.{Done, NoRoom}
 use Rattle.store_rules.proofs.Sound.{Fits, size-bytes}
 use Rattle.pair_rules.proofs.TableCuts.{rule-count}
 use Rattle.cut_rules.proofs.FirstCut.{none-before, cuts-none}
 use Rattle.store_rules.proofs.Lookups.{child-used, linked-some}
 use Rattle.pair_rules.proofs.Entries.{entries1}
 use Rattle.glyph_rules.proofs.Entries.{within-upto, reduced-none, within-within}
-use Rattle.pair_rules.specs.Reads.{Reads}
 use Rattle.call_rules.proofs.Cases.{first-skip}
-use Rattle.pair_rules.proofs.Checks.{reads-no-case, entries-ascend, cover-read}
+use Rattle.pair_rules.proofs.Checks.{entries-ascend, cover-read}
 use Rattle.promise_pairs.specs.Demands.{AgainNothing}
+use Rattle.promise_pairs.specs.Exactly.{Checked}
+use Rattle.promise_pairs.proofs.Exactly.{checked-no-case}
 use Rattle.promise_pairs.proofs.Ready.{Ready, first-cut, splits-ready, store-written}
 use Rattle.promise_pairs.proofs.View.{View, view-shape, view-test, view-entries}
 use Rattle.promise_pairs.proofs.KeptAndNew.{view-kept}
@@ -51,16 +53,14 @@ use Rattle.promise_pairs.proofs.WrittenAfresh.{kept-reads}
 use Rattle.promise_pairs.proofs.SameReach.{size-same, at-slots, still-acyclic}
 
 -- ---- a call that finds nothing to split
-nothing-to-split : (s : Store) (t : ℕ) (w : Scratch) (list : List ℕ) → Reads s t → scratchShort s t w ≡ false → allAtSlots s t ≡ true → onCycle s t ≡ false → cutPlaces s t ≡ []
+nothing-to-split : (s : Store) (t : ℕ) (w : Scratch) (list : List ℕ) → Checked s t w → cutPlaces s t ≡ []
     → splitCall s t w list ≡ outcome 0 0 s list (cleared w)
-unfolding splitCall settle splitCases cutCases firstCase isEmpty
-nothing-to-split s t w list r short slots acyclic none-cut =
-    let later : List Case = case ShortScratch (scratchShort s t w) ∷ case BadLinks (not (allAtSlots s t) || onCycle s t) ∷ [] in
-    let last : List Case = case Done (isEmpty (cutPlaces s t)) ∷ case NoRoom (roomShort s t (cutPlaces s t) list) ∷ [] in
-    let x : firstCase later ≡ none = rw (short, slots, acyclic) in
-    let y : firstCase last ≡ some 0 = ap (λ (b : List ℕ). cond (isEmpty b) (some 0) (firstCase (case NoRoom (roomShort s t (cutPlaces s t) list) ∷ []))) none-cut in
+unfolding splitCall settle splitCases lastCases firstCase isEmpty
+nothing-to-split s t w list checked none-cut =
+    let room : List Case = case NoRoom (roomShort s list (needed s t (cutPlaces s t))) ∷ [] in
+    let done-first : firstCase (lastCases s t list) ≡ some 0 = ap (λ (b : List ℕ). cond (isEmpty b) (some 0) (firstCase room)) none-cut in
     ap (λ (o : Option ℕ). settle o s list w (done (splitStore s t (cutPlaces s t)) (newTables s t (cutPlaces s t)) list w))
-    (first-skip (cutCases s t w) last (first-skip (readCases s t) later (reads-no-case s t r) ∙ x) ∙ y)
+    (first-skip (cutCases s t w) (lastCases s t list) (checked-no-case s t w checked) ∙ done-first)
 
 partial-same : (f g : ℕ → Bool) (i : ℕ) → ((k : ℕ) → k ≤ i → f k ≡ g k) → partialCover f 0 i ≡ partialCover g 0 i
 unfolding partialCover
@@ -179,12 +179,14 @@ module _ (s : Store) (t : ℕ) (cs : List ℕ) (g : Ready s t cs) where
     unfolding cutPlaces
     no-cut = by-test (eqb (shape s t .format) 1) no-cut1 no-cut2
 
--- "splitting the kept table again adds and changes nothing", "scratch being enough"
+-- "Splitting the kept table again adds and changes nothing", scratch being enough
 pub again-nothing : AgainNothing
 again-nothing s t w list octets p v list′ =
     let cs = cutPlaces s t in
     let (g, e) = splits-ready s t w list p in
     rw (store-written s t w list p)
     (λ h.
-    let o = nothing-to-split (splitStore s t cs) t v list′ (kept-reads s t cs g octets) h (at-slots s t cs g) (still-acyclic s t cs g) (no-cut s t cs g refl) in
+    let checked : Checked (splitStore s t cs) t v
+    = record { reads = kept-reads s t cs g octets; scratch = h; atSlots = at-slots s t cs g; acyclic = still-acyclic s t cs g } in
+    let o = nothing-to-split (splitStore s t cs) t v list′ checked (no-cut s t cs g refl) in
     rw o (refl, record { noneNew = refl; sameStore = refl; sameList = refl; zeroScratch = refl }))

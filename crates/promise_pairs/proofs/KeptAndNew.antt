@@ -2,13 +2,12 @@
 use Prim.Native.Nat.{ℕ, _+_, _-_, _*_, _<_, _≤_}
 use mathlib.Core.Path.{_≡_, ap, ap₂, _∙_}
 use mathlib.Core.Bool.{false}
-use mathlib.Core.List.{List, map}
+use mathlib.Core.List.{List, [], map}
 use mathlib.Core.Logic.{_⊎_, inl, inr, ⊎-elim}
 use mathlib.Core.Option.{Option, some, Option·getD}
 use native.Mathlib.Omega.{arith}
 use lib.ListN.{length, getD}
 use lib.Dec.{eqb}
-use borrow.Author.Tests.{ne-eqb}
 use Rattle.folds.specs.Lists.{part, put}
 use Rattle.folds.proofs.Put.{put-below, put-above, length-put}
 use Rattle.folds.proofs.Parts.{length-part, part-at}
@@ -16,13 +15,15 @@ use Rattle.folds.proofs.Offsets.{put-at}
 use Rattle.ot_layouts.specs.Numbers.{u16At, be16}
 use Rattle.ot_layouts.specs.Coverage.{coverageBytes}
 use Rattle.ot_layouts.specs.ClassDef.{classDefBytes}
-use Rattle.ot_layouts.specs.PairPos.{Shape, itemAt}
+use Rattle.ot_layouts.specs.PairPos.{Shape, coverAt, class1At, class2At, itemAt}
 use Rattle.ot_layouts.proofs.Head.{two-bytes}
-use Rattle.ot_layouts.proofs.Shapes.{items-rise, count-in-header, formats, header-long, format-two}
+use Rattle.ot_layouts.proofs.Shapes.{items-rise, count-in-header, formats, header-long, own-within, format-two}
 use Rattle.store_rules.specs.Store.{Store, childAt, bytesOf}
 use Rattle.glyph_rules.specs.Entries.{within, reduced}
 use Rattle.pair_rules.specs.Table.{shape, entriesOf}
-use Rattle.pair_rules.specs.Written.{splitStore, newTable, newParts, keptChild, perTable}
+use Rattle.pair_rules.specs.Written.{splitStore, newTable, partOf, newParts, perTable}
+use Rattle.store_rules.specs.Header.{ownChild}
+use Rattle.store_rules.proofs.Header as Header
 use Rattle.cut_rules.specs.Ranges.{from, to}
 use Rattle.cut_rules.proofs.CutPlaces.{range-high}
 use Rattle.store_rules.proofs.Lookups.{child-used, child-other, mapped, mapped-id}
@@ -31,8 +32,7 @@ use Rattle.pair_rules.proofs.NewCounts.{per-two}
 use Rattle.pair_rules.proofs.NewTable.{new-long, new-count, new-same, new-wide, new-rows}
 use Rattle.promise_pairs.proofs.Ready.{Ready, first-cut}
 use Rattle.promise_pairs.proofs.NewLinks.{others-child, new-item, new-cover, new-class1, new-class2, kept-child}
-use Rattle.promise_pairs.proofs.NewBytes.{table-object, kept-bytes, kept-object}
-use Rattle.promise_pairs.proofs.OthersKept.{others-bytes}
+use Rattle.promise_pairs.proofs.NewBytes.{table-object, kept-bytes, kept-object, other-bytes}
 use Rattle.promise_pairs.proofs.View.{View}
 
 module _ (s : Store) (t : ℕ) (cs : List ℕ) (g : Ready s t cs) where
@@ -47,10 +47,23 @@ module _ (s : Store) (t : ℕ) (cs : List ℕ) (g : Ready s t cs) where
   child-kept q c e =
       let l = child-used s t (g .fit) q c e in
       let n = child-other s t (g .fit) (g .acyclic) q c e in
-      (others-bytes s t cs g c l n, λ p. others-child s t cs g c p l n)
+      (other-bytes s t cs g c l n, λ p. others-child s t cs g c p l n)
 
   class2-same : (two : eqb (sh .format) 1 ≡ false) → (c : ℕ) × (childAt s t 10 ≡ some c) × (bytesOf s′ c ≡ bytesOf s c)
   class2-same two = let (c, e) = g .parts .class2 two in (c, e, child-kept 10 c e .0)
+
+  -- ---- the own parts of a table of items lo up to hi
+
+  part-cover : (lo hi : ℕ) → getD (newParts sh (entriesOf s t) lo hi) 0 [] ≡ coverageBytes (map (λ e. e .glyph) (within lo hi (entriesOf s t)))
+  unfolding newParts partOf
+  part-cover lo hi = ⊎-elim (λ f. rw (f .ownIs)) (λ f. rw (f .ownIs)) (formats (bytesOf s t))
+
+  part-class : eqb (sh .format) 1 ≡ false → (lo hi : ℕ) → getD (newParts sh (entriesOf s t) lo hi) 1 [] ≡ classDefBytes (reduced lo (within lo hi (entriesOf s t)))
+  unfolding newParts partOf
+  part-class two lo hi = rw (format-two (bytesOf s t) two .ownIs)
+
+  two-own : eqb (sh .format) 1 ≡ false → length (sh .own) ≡ 2
+  two-own two = ap length (format-two (bytesOf s t) two .ownIs)
 
   -- ---- a new table
 
@@ -73,15 +86,13 @@ module _ (s : Store) (t : ℕ) (cs : List ℕ) (g : Ready s t cs) where
     pub bytes-new : bytesOf s′ u ≡ newTable sh (bytesOf s t) lo hi
     bytes-new =
         let z : u ≡ u + 0 = omega arith in
-        ap (bytesOf s′) z ∙ table-object s t cs g j 0 l (omega (arith, per-two sh))
+        ap (bytesOf s′) z ∙ table-object s t cs g j 0 l (omega (arith, per-two (bytesOf s t)))
 
     cover-new : bytesOf s′ (u + 1) ≡ coverageBytes (map (λ e. e .glyph) (within lo hi (entriesOf s t)))
-    unfolding newParts
-    cover-new = table-object s t cs g j 1 l (omega (arith, per-two sh))
+    cover-new = table-object s t cs g j 1 l (omega (arith, per-two (bytesOf s t))) ∙ part-cover lo hi
 
     class-new : eqb (sh .format) 1 ≡ false → bytesOf s′ (u + 2) ≡ classDefBytes (reduced lo (within lo hi (entriesOf s t)))
-    unfolding newParts
-    class-new two = table-object s t cs g j 2 l (rw two (omega arith)) ∙ rw two
+    class-new two = table-object s t cs g j 2 l (omega (arith, two-own two)) ∙ part-class two lo hi
 
     pub view-new : View s t s′ u lo hi
     view-new =
@@ -145,28 +156,36 @@ module _ (s : Store) (t : ℕ) (cs : List ℕ) (g : Ready s t cs) where
       ∙ two-bytes p0 ∙ omega arith
 
   -- a link of an item has the child that it had
-  item-kept : (q : ℕ) → sh .header ≤ q → mapped (keptChild v q) (childAt s t q) ≡ childAt s t q
-  unfolding keptChild
-  item-kept q h =
-      let ten : 10 ≤ q = omega (arith, header-long (bytesOf s t)) in
-      mapped-id (keptChild v q) (λ c. rw (ne-eqb q 2 (λ e. omega arith), ne-eqb q 8 (λ e. omega arith))) (childAt s t q)
+  item-kept : (q : ℕ) → sh .header ≤ q → mapped (ownChild (sh .own) v q) (childAt s t q) ≡ childAt s t q
+  item-kept q h = mapped-id (ownChild (sh .own) v q) (λ c. Header.child-other (sh .own) v q c (own-within (bytesOf s t) q h)) (childAt s t q)
 
   -- a link of the header
-  header-kept : (q : ℕ) → q < 10 → childAt s′ t q ≡ mapped (keptChild v q) (childAt s t q)
+  header-kept : (q : ℕ) → q < 10 → childAt s′ t q ≡ mapped (ownChild (sh .own) v q) (childAt s t q)
   header-kept q h = kept-child s t cs g q (inl (omega (arith, header-long (bytesOf s t))))
 
   cover-kept : bytesOf s′ v ≡ coverageBytes (map (λ e. e .glyph) (within 0 p0 (entriesOf s t)))
-  unfolding newParts
   cover-kept =
       let z : v ≡ v + 0 = omega arith in
-      ap (bytesOf s′) z ∙ kept-object s t cs g 0 (omega (arith, per-two sh))
+      ap (bytesOf s′) z ∙ kept-object s t cs g 0 (omega (arith, per-two (bytesOf s t))) ∙ part-cover 0 p0
 
   class-kept : eqb (sh .format) 1 ≡ false → bytesOf s′ (v + 1) ≡ classDefBytes (reduced 0 (within 0 p0 (entriesOf s t)))
-  unfolding newParts
-  class-kept two = kept-object s t cs g 1 (rw two (omega arith)) ∙ rw two
+  class-kept two = kept-object s t cs g 1 (omega (arith, two-own two)) ∙ part-class two 0 p0
+
+  -- where its header's links lead
+  child-cover : (c : ℕ) → ownChild (sh .own) v coverAt c ≡ v
+  unfolding ownChild
+  child-cover c = ⊎-elim (λ f. rw (f .ownIs)) (λ f. rw (f .ownIs)) (formats (bytesOf s t))
+
+  child-class1 : eqb (sh .format) 1 ≡ false → (c : ℕ) → ownChild (sh .own) v class1At c ≡ v + 1
+  unfolding ownChild
+  child-class1 two c = rw (format-two (bytesOf s t) two .ownIs)
+
+  child-class2 : eqb (sh .format) 1 ≡ false → (c : ℕ) → ownChild (sh .own) v class2At c ≡ c
+  unfolding ownChild
+  child-class2 two c = rw (format-two (bytesOf s t) two .ownIs)
 
   pub view-kept : View s t s′ t 0 p0
-  unfolding be16 keptChild
+  unfolding be16
   view-kept =
       let c = first-cut s t cs g in
       let z : sh .item * 0 ≡ 0 = omega arith in
@@ -181,7 +200,7 @@ module _ (s : Store) (t : ℕ) (cs : List ℕ) (g : Ready s t cs) where
         wide = λ two i h m. let f = format-two (bytesOf s t) two in kept-at i (inr (omega arith)) (omega arith);
         rows = λ two i h m. kept-at i (inr (omega (arith, count-in-header (bytesOf s t)))) (omega arith) ∙ ap (λ (n : ℕ). getD (bytesOf s t) n 0) (omega arith);
         links = λ q h m. kept-child s t cs g q (inl (omega arith)) ∙ item-kept q h ∙ ap (childAt s t) (omega arith);
-        cover = let (d, e) = g .parts .cover in (v, omega arith, header-kept 2 (omega arith) ∙ rw e, cover-kept);
-        class1 = λ two. let (d, e) = g .parts .class1 two in (v + 1, omega arith, header-kept 8 (omega arith) ∙ rw e, class-kept two);
-        class2 = λ two. let f = format-two (bytesOf s t) two in let (d, e, h) = class2-same two in (d, kept-child s t cs g 10 (inl (omega arith)) ∙ rw e, e, h);
+        cover = let (d, e) = g .parts .cover in (v, omega arith, header-kept 2 (omega arith) ∙ rw e (ap some (child-cover d)), cover-kept);
+        class1 = λ two. let (d, e) = g .parts .class1 two in (v + 1, omega arith, header-kept 8 (omega arith) ∙ rw e (ap some (child-class1 two d)), class-kept two);
+        class2 = λ two. let f = format-two (bytesOf s t) two in let (d, e, h) = class2-same two in (d, kept-child s t cs g 10 (inl (omega arith)) ∙ rw e (ap some (child-class2 two d)), e, h);
       }

@@ -1,5 +1,7 @@
+pub mod Exactly
 pub mod Ready
 pub mod Refusals
+pub mod Answered
 pub mod NewLinks
 pub mod NewBytes
 pub mod OthersKept
@@ -16,3 +18,4 @@ pub mod AgainNothing
 pub mod StaysOctets
 pub mod Calls
 pub mod Unique
+pub mod SizesBySentence

@@ -10,12 +10,13 @@ use Rattle.folds.specs.Lists.{sift}
 use Rattle.folds.proofs.Folds.{length-upto}
 use Rattle.folds.proofs.Parts.{getD-default}
 use Rattle.folds.proofs.Moved.{length-map, sift-both}
-use Rattle.ot_layouts.specs.PairPos.{Shape}
-use Rattle.store_rules.specs.Store.{Store, linksOf, bytesOf, linkAt, linkedAt}
+use Rattle.ot_layouts.specs.PairPos.{heads, Shape}
+use Rattle.store_rules.specs.Store.{Store, linksOf, linkAt, linkedAt}
 use Rattle.store_rules.specs.Appended.{newNumber}
 use Rattle.pair_rules.specs.Table.{ofItems, shape}
 use Rattle.cut_rules.specs.Ranges.{from, to}
-use Rattle.pair_rules.specs.Written.{tableLinks, headLinks, moved, newLinks, needLinks, kept, perTable}
+use Rattle.pair_rules.specs.Written.{tableLinks, headLinks, moved, newLinks, needLinks, perTable}
+use Rattle.store_rules.specs.Header.{kept}
 use Rattle.cut_rules.proofs.CutPlaces.{range-high, cuts-rise}
 use Rattle.pair_rules.proofs.ItemLinks.{items-none, items-meet}
 use Rattle.pair_rules.proofs.NewCounts.{heads-many}
@@ -30,15 +31,15 @@ module _ (s : Store) (t : ℕ) (cs : List ℕ) (g : Ready s t cs) where
   abbrev linksIn : ℕ → ℕ → ℕ
   linksIn lo hi = length (sift (ofItems t (shape s t) lo hi) (linksOf s))
 
-  piece-many : (j : ℕ) → length (piece s t cs j) ≡ length (sh .heads) + linksIn (from cs j) (to (sh .count) cs j)
+  piece-many : (j : ℕ) → length (piece s t cs j) ≡ length (heads sh) + linksIn (from cs j) (to (sh .count) cs j)
   unfolding tableLinks
   piece-many j =
       let ls = sift (ofItems t sh (from cs j) (to (sh .count) cs j)) (linksOf s) in
-      length-append (headLinks sh (newNumber s (perTable sh) j) (linkedAt s t 10)) (map (moved sh (newNumber s (perTable sh) j) (from cs j)) ls)
-      ∙ ap₂ (λ (m n : ℕ). m + n) (heads-many (bytesOf s t) (newNumber s (perTable sh) j) (linkedAt s t 10)) (length-map (moved sh (newNumber s (perTable sh) j) (from cs j)) ls)
+      length-append (headLinks sh (newNumber s (perTable sh) j) (linkedAt s t)) (map (moved sh (newNumber s (perTable sh) j) (from cs j)) ls)
+      ∙ ap₂ (λ (m n : ℕ). m + n) (heads-many sh (newNumber s (perTable sh) j) (linkedAt s t)) (length-map (moved sh (newNumber s (perTable sh) j) (from cs j)) ls)
 
   -- the pieces below n have the links up to where piece n starts
-  pieces-many : (n : ℕ) → n ≤ length cs → length (flat (piece s t cs) n) ≡ length (sh .heads) * n + linksIn (from cs 0) (getD cs n (sh .count))
+  pieces-many : (n : ℕ) → n ≤ length cs → length (flat (piece s t cs) n) ≡ length (heads sh) * n + linksIn (from cs 0) (getD cs n (sh .count))
   unfolding flat
   pieces-many zero l = omega (arith, items-none t sh (from cs 0) (linksOf s), ap (linksIn (from cs 0)) (getD-default cs 0 (sh .count) 0 (g .someCut)))
   pieces-many (suc n) l =
@@ -49,7 +50,7 @@ module _ (s : Store) (t : ℕ) (cs : List ℕ) (g : Ready s t cs) where
       let m = items-meet t sh (from cs 0) (from cs n) (to (sh .count) cs n) up (omega arith) (linksOf s) in
       let e : linksIn (from cs 0) (getD cs n (sh .count)) ≡ linksIn (from cs 0) (from cs n) = ap (linksIn (from cs 0)) (getD-default cs n (sh .count) 0 (omega arith)) in
       let f : linksIn (from cs 0) (to (sh .count) cs n) ≡ linksIn (from cs 0) (getD cs (suc n) (sh .count)) = ap (λ (k : ℕ). linksIn (from cs 0) (getD cs k (sh .count))) z in
-      omega (arith, length-append (flat (piece s t cs) n) (piece s t cs n), piece-many n, mul-add (length (sh .heads)) n 1)
+      omega (arith, length-append (flat (piece s t cs) n) (piece s t cs n), piece-many n, mul-add (length (heads sh)) n 1)
 
   pub many-links : length (newLinks s t sh cs) ≡ s .linkCount + needLinks sh (length cs)
   unfolding newLinks needLinks linksOf
@@ -59,7 +60,7 @@ module _ (s : Store) (t : ℕ) (cs : List ℕ) (g : Ready s t cs) where
       omega (
         arith,
         length-append (stayed s t cs) (flat (piece s t cs) (length cs)),
-        length-map (kept t (newNumber s (perTable sh) (length cs))) (sift (stays s t cs) (linksOf s)),
+        length-map (kept (sh .own) t (newNumber s (perTable sh) (length cs))) (sift (stays s t cs) (linksOf s)),
         sift-both p (linksOf s),
         length-upto (linkAt s) (s .linkCount),
         pieces-many (length cs) (omega arith),

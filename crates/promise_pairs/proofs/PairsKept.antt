@@ -142,7 +142,7 @@ module _ (s : Store) (t : ℕ) (cs : List ℕ) (g : Ready s t cs) where
             k (omega (arith, many-tables)) (hits k l r))
             (λ e. true-false (sym f ∙ ap (λ (p : Pair). p .found) (pair-item s t x y e) ∙ no-found))
 
--- "Pairs kept": "reading the kept table and then the new ones in order" gives what the old table gave
+-- `PairsKept`: "reading the kept table and then the new ones in order" gives what the old table gave
 pub pairs-kept : PairsKept
 pairs-kept s t w list p x y =
     let cs = cutPlaces s t in

@@ -16,7 +16,8 @@ use Rattle.call_rules.specs.Answers.{firstCase}
 use Rattle.pair_rules.specs.Calls.{readCases, pairCall, reported, settlePair}
 use Rattle.call_rules.specs.Scratch.{Scratch}
 use Rattle.pair_rules.proofs.Checks.{reads-no-case}
-use Rattle.promise_pairs.specs.Demands.{Octets, Splits, resulting, storeThen, ReadingsKept}
+use Rattle.promise_calls.specs.Unchanged.{Octets}
+use Rattle.promise_pairs.specs.Demands.{Splits, resulting, storeThen, ReadingsKept}
 use Rattle.promise_pairs.proofs.Ready.{splits-ready}
 use Rattle.promise_pairs.proofs.WrittenAfresh.{written-afresh}
 
@@ -33,7 +34,7 @@ each-read s t w list octets p (suc j) l =
     let m : j < length cs = omega (arith, length-upto (newNumber s (perTable (shape s t))) (length cs)) in
     rw (upto-at (newNumber s (perTable (shape s t))) (length cs) j 0 m) (written-afresh s t w list octets p .fresh j m .readable)
 
--- "Pairs kept", of the exported reading
+-- the same, of the exported reading
 pub readings-kept : ReadingsKept
 readings-kept s t w list octets p a b =
     let (g, e) = splits-ready s t w list p in (

@@ -1,38 +1,41 @@
 -- The data stay bytes: every number that is written fits its two bytes. Assumes nothing.
-use Prim.Native.Nat.{ℕ, _+_, _-_, _<_}
+use Prim.Native.Nat.{ℕ, _<_}
 use mathlib.Core.Path.{_≡_}
 use mathlib.Core.Bool.{false}
 use mathlib.Core.List.{List, map}
+use mathlib.Core.Logic.{⊎-elim}
 use native.Mathlib.Omega.{arith}
 use lib.ListN.{length}
 use lib.Dec.{eqb}
 use Rattle.folds.specs.Folds.{flat}
-use Rattle.folds.specs.Lists.{join, Bytes}
-use Rattle.folds.proofs.Tests.{by-test}
+use Rattle.folds.specs.Lists.{Bytes}
 use Rattle.folds.proofs.Each.{Each, each-then, each-append, each-flat}
 use Rattle.ot_layouts.specs.Numbers.{be16}
 use Rattle.ot_layouts.specs.Coverage.{Entry, Ascends, Under}
 use Rattle.ot_layouts.specs.ClassDef.{classDefBytes, classOf}
 use Rattle.ot_layouts.specs.PairPos.{Shape}
+use Rattle.ot_layouts.proofs.Shapes.{formats}
 use Rattle.ot_layouts.proofs.Octets.{bytes-u16, bytes-be16}
-use Rattle.folds.proofs.Bytes.{bytes-put, bytes-join}
 use Rattle.ot_layouts.proofs.Entries.{ascends-plain, under-plain}
 use Rattle.ot_layouts.proofs.BytesWritten.{bytes-class-def, class-of-bits, bytes-coverage}
-use Rattle.store_rules.specs.Store.{Store, bytesOf, headOf, linkedBytes, linkedAt}
+use Rattle.store_rules.specs.Store.{Store, bytesOf, linkedBytes, linkedAt}
 use Rattle.glyph_rules.specs.Entries.{within, reduced}
 use Rattle.pair_rules.specs.Table.{shape, entriesOf, cutPlaces}
-use Rattle.pair_rules.specs.Written.{newParts, newOf, newObjects, splitStore, storeAfter, keptTable}
+use Rattle.pair_rules.specs.Written.{partOf, newParts, newOf, newObjects, newLinks, splitStore, storeAfter, keptTable}
 use Rattle.cut_rules.specs.Ranges.{from, to}
 use Rattle.cut_rules.proofs.CutPlaces.{range-high}
 use Rattle.glyph_rules.proofs.Entries.{within-ascends, within-under, ascends-reduced, under-reduced}
 use Rattle.store_rules.proofs.Bytes.{object-bytes}
-use Rattle.store_rules.specs.Appended.{appended, withBytes, withTail}
+use Rattle.store_rules.specs.Appended.{withTail}
+use Rattle.store_rules.proofs.AppendedFits.{appended-bytes}
+use Rattle.store_rules.proofs.Changed.{other-octets}
 use Rattle.pair_rules.proofs.Checks.{count-bits, entries-ascend, entries-under}
 use Rattle.pair_rules.proofs.NamedRuns.{GivenBy, range-given, range-runs-few}
 use Rattle.pair_rules.proofs.NewTable.{bytes-new-table}
-use Rattle.promise_pairs.specs.Demands.{Octets, StaysOctets}
+use Rattle.promise_calls.specs.Unchanged.{Octets}
+use Rattle.promise_pairs.specs.Demands.{StaysOctets}
 use Rattle.promise_pairs.proofs.Ready.{Ready, first-cut, splits-ready, store-written}
-use Rattle.promise_pairs.proofs.NewBytes.{objectsOf, counted, counted-length, count-inside}
+use Rattle.promise_pairs.proofs.NewBytes.{objectsOf, shortened, room, count-inside}
 
 module _ (s : Store) (t : ℕ) (cs : List ℕ) (g : Ready s t cs) (octets : Octets s) where
   abbrev sh : Shape
@@ -59,11 +62,10 @@ module _ (s : Store) (t : ℕ) (cs : List ℕ) (g : Ready s t cs) (octets : Octe
         (range-runs-few s t (g .reads) two lo hi octets)
 
     parts-fit : Each Bytes (newParts sh (entriesOf s t) lo hi)
-    unfolding newParts
-    parts-fit = (
-      bytes-coverage (map (λ e. e .glyph) es) (ascends-plain es 0 up) (under-plain es 65536 under),
-      by-test (eqb (sh .format) 1) (λ e. rw e tt) (λ e. rw e (class-def-fits e, tt)),
-    )
+    unfolding newParts partOf
+    parts-fit =
+        let cover = bytes-coverage (map (λ e. e .glyph) es) (ascends-plain es 0 up) (under-plain es 65536 under) in
+        ⊎-elim (λ f. rw (f .ownIs) (cover, tt)) (λ f. rw (f .ownIs) (cover, (class-def-fits (f .two), tt))) (formats (bytesOf s t))
 
   objects-fit : Each Bytes (newOf s t cs)
   unfolding newObjects
@@ -75,12 +77,13 @@ module _ (s : Store) (t : ℕ) (cs : List ℕ) (g : Ready s t cs) (octets : Octe
       (parts-fit 0 (from cs 0))
 
   octets-then : Bytes (splitStore s t cs .bytes)
-  unfolding splitStore storeAfter appended keptTable withBytes withTail
+  unfolding splitStore storeAfter keptTable be16 withTail
   octets-then =
       let c = first-cut s t cs g in
-      bytes-put (counted s t cs) (s .byteCount) (join (newOf s t cs)) (omega (arith, counted-length s t cs g, g .fit .bytesIn))
-      (bytes-put (s .bytes) (headOf s t + sh .countAt) (be16 (from cs 0)) (omega (arith, count-inside s t cs g, g .fit .object t (g .reads .used) .inside, g .fit .bytesIn)) octets (bytes-be16 (from cs 0) (omega (arith, count-bits s t octets))))
-      (bytes-join (newOf s t cs) objects-fit)
+      appended-bytes (shortened s t cs g) (newOf s t cs) (newLinks s t sh cs) (room s t cs g)
+      (other-octets s (g .fit) t (sh .countAt) (be16 (from cs 0)) (g .reads .used) (count-inside s t cs g) octets
+      (bytes-be16 (from cs 0) (omega (arith, count-bits s t octets))))
+      objects-fit
 
 -- the data at exit are bytes
 pub stays-octets : StaysOctets

@@ -1,51 +1,69 @@
--- No second outcome satisfies the contract of an exported function. Assumes nothing.
-use Prim.Native.Nat.{ℕ, zero, suc, _<_}
-use mathlib.Core.Path.{_≡_, sym, ap, _∙_}
+-- No second outcome satisfies the contract of an exported function, nor what is promised of it. Assumes nothing.
+use Prim.Native.Nat.{ℕ}
+use mathlib.Core.Path.{_≡_, refl, sym, _∙_}
 use mathlib.Core.List.{List}
-use native.Mathlib.Omega.{arith}
-use lib.ListN.{length, getD}
-use lib.Seq.{ext-getD}
+use mathlib.Core.Logic.{⊎-elim}
+use lib.ListN.{replicate}
+use lib.IntN.{pos}
 use Rattle.store_rules.specs.Store.{Store}
 use Rattle.call_rules.specs.Scratch.{Scratch}
 use Rattle.call_rules.specs.Outcomes.{Outcome}
-use Rattle.pair_rules.specs.Calls.{PairOutcome, splitCall, planCall, pairCall}
-use Rattle.promise_pairs.specs.Unique.{Exit, outcomeOf, Same}
+use Rattle.pair_rules.specs.Calls.{PairOutcome, splitCall, planCall, pairCall, splitCases, planCases, readCases}
+use Rattle.promise_calls.specs.Exits.{Exit, outcomeOf, Same}
+use Rattle.promise_calls.specs.Unchanged.{Octets}
+use Rattle.promise_calls.proofs.Given.{gives-one}
+use Rattle.promise_calls.proofs.Unique.{one-exit}
+use Rattle.promise_calls.proofs.Keeps.{decided, call-decided}
+use Rattle.pair_rules.specs.Reads.{Reads}
+use Rattle.pair_rules.proofs.Checks.{no-case-reads, reads-no-case}
+use Rattle.promise_pairs.specs.Exactly.{MaySplit, MayPlan}
+use Rattle.promise_pairs.specs.Calls.{SplitLeaves, SplitKeeps, PlanLeaves, PlanKeeps, PairKeeps}
+use Rattle.promise_pairs.proofs.Exactly.{no-case-splits, splits-no-case, no-case-plans, plans-no-case}
+use Rattle.promise_pairs.proofs.Calls.{split-keeps, plan-keeps, pair-keeps}
 
--- three numbers are known by their places
-three-same : (c d : List ℕ) → length c ≡ 3 → length d ≡ 3 → getD c 0 0 ≡ getD d 0 0 → getD c 1 0 ≡ getD d 1 0 → getD c 2 0 ≡ getD d 2 0 → c ≡ d
-three-same c d h k p q r = ext-getD 0 c d (h ∙ sym k) at-place
-  where
-    at-place : (i : ℕ) → i < length c → getD c i 0 ≡ getD d i 0
-    at-place zero l = p
-    at-place (suc zero) l = q
-    at-place (suc (suc zero)) l = r
-    at-place (suc (suc (suc i))) l = absurd (omega (arith, h))
-
--- an outcome says every number
-same-exit : (x y : Exit) → outcomeOf x ≡ outcomeOf y → Same x y
-same-exit x y e =
-    record {
-      answer = ap (λ (o : Outcome). o .answer) e;
-      count = ap (λ (o : Outcome). o .count) e;
-      «data» = ap (λ (o : Outcome). o .store .bytes) e;
-      objects = ap (λ (o : Outcome). o .store .objects) e;
-      links = ap (λ (o : Outcome). o .store .links) e;
-      counts = three-same (x .counts) (y .counts) (x .three) (y .three) (ap (λ (o : Outcome). o .store .byteCount) e) (ap (λ (o : Outcome). o .store .objectCount) e) (ap (λ (o : Outcome). o .store .linkCount) e);
-      list = ap (λ (o : Outcome). o .list) e;
-      walk = ap (λ (o : Outcome). o .scratch .walk) e;
-      glyphSet = ap (λ (o : Outcome). o .scratch .set) e;
-      glyphs = ap (λ (o : Outcome). o .scratch .glyphs) e;
-      classes = ap (λ (o : Outcome). o .scratch .classes) e;
-      cuts = ap (λ (o : Outcome). o .scratch .cuts) e;
-    }
+-- ---- the contracts
 
 module _ (s : Store) (t : ℕ) (w : Scratch) (list : List ℕ) (x y : Exit) where
   pub one-split : outcomeOf x ≡ splitCall s t w list → outcomeOf y ≡ splitCall s t w list → Same x y
-  one-split p q = same-exit x y (p ∙ sym q)
+  one-split p q = one-exit x y (splitCall s t w list) p q
 
   pub one-plan : outcomeOf x ≡ planCall s t w list → outcomeOf y ≡ planCall s t w list → Same x y
-  one-plan p q = same-exit x y (p ∙ sym q)
+  one-plan p q = one-exit x y (planCall s t w list) p q
 
 -- a pair reading's outcome is its answer, whether there is a pair, and the sixteen numbers, all that the function writes
 pub one-reading : (s : Store) (t a b : ℕ) (x y : PairOutcome) → x ≡ pairCall s t a b → y ≡ pairCall s t a b → x ≡ y
 one-reading s t a b x y p q = p ∙ sym q
+
+-- ---- what is promised decides the outcome
+
+pub split-decided : (s : Store) (t : ℕ) (w : Scratch) (list : List ℕ) (x y : Outcome) → SplitKeeps s t w list x → SplitKeeps s t w list y → x ≡ y
+split-decided s t w list =
+    call-decided (splitCases s t w list) (MaySplit s t w list) (no-case-splits s t w list) (splits-no-case s t w list) (SplitLeaves s t list) s w list
+    (λ x y a b. (a .count ∙ sym (b .count), a .written ∙ sym (b .written), a .tables ∙ sym (b .tables)))
+
+pub plan-decided : (s : Store) (t : ℕ) (w : Scratch) (list : List ℕ) (x y : Outcome) → PlanKeeps s t w list x → PlanKeeps s t w list y → x ≡ y
+plan-decided s t w list =
+    call-decided (planCases s t w list) (MayPlan s t w list) (no-case-plans s t w list) (plans-no-case s t w list) (PlanLeaves s t list) s w list
+    (λ x y a b. (a .count ∙ sym (b .count), a .reads ∙ sym (b .reads), a .places ∙ sym (b .places)))
+
+pub pair-decided : (s : Store) (t a b : ℕ) (x y : PairOutcome) → PairKeeps s t a b x → PairKeeps s t a b y → x ≡ y
+pair-decided s t a b x y p q = ⊎-elim (λ r. p .pairs r ∙ sym (q .pairs r)) (λ n. neither (p .none n) (q .none n)) (decided (readCases s t) (Reads s t) (no-case-reads s t) (reads-no-case s t))
+  where
+    answer : x .answer ≡ y .answer
+    answer = gives-one (readCases s t) (x .answer) (y .answer) (p .answers) (q .answers)
+
+    neither : (x .found ≡ 0) × (x .values ≡ replicate 16 (pos 0)) → (y .found ≡ 0) × (y .values ≡ replicate 16 (pos 0)) → x ≡ y
+    neither (f, v) (g, u) =
+        let found : x .found ≡ y .found = f ∙ sym g in
+        let values : x .values ≡ y .values = v ∙ sym u in
+        λ i. record { answer = answer i; found = found i; values = values i }
+
+-- so an outcome that keeps what is promised is that of `splitCall`
+pub split-only : (s : Store) (t : ℕ) (w : Scratch) (list : List ℕ) (o : Outcome) → Octets s → SplitKeeps s t w list o → o ≡ splitCall s t w list
+split-only s t w list o bytes k = split-decided s t w list o (splitCall s t w list) k (split-keeps s t w list (splitCall s t w list) bytes refl)
+
+pub plan-only : (s : Store) (t : ℕ) (w : Scratch) (list : List ℕ) (o : Outcome) → PlanKeeps s t w list o → o ≡ planCall s t w list
+plan-only s t w list o k = plan-decided s t w list o (planCall s t w list) k (plan-keeps s t w list (planCall s t w list) refl)
+
+pub pair-only : (s : Store) (t a b : ℕ) (o : PairOutcome) → PairKeeps s t a b o → o ≡ pairCall s t a b
+pair-only s t a b o k = pair-decided s t a b o (pairCall s t a b) k (pair-keeps s t a b (pairCall s t a b) refl)

@@ -16,7 +16,7 @@ use Rattle.folds.proofs.Moved.{map-upto}
 use Rattle.ot_layouts.specs.Numbers.{u16At}
 use Rattle.ot_layouts.specs.Coverage.{coverageBytes, Entry, coverGlyphs, Ascends}
 use Rattle.ot_layouts.specs.ClassDef.{classDefBytes, classOf, classIn}
-use Rattle.ot_layouts.specs.PairPos.{itemAt, formatOf, value1, value2, columns, recordSize, shapeOf, shape1, shape2, Shape}
+use Rattle.ot_layouts.specs.PairPos.{ownIn, sharedIn, itemAt, formatOf, value1, value2, columns, recordSize, shapeOf, shape1, shape2, Shape}
 use Rattle.ot_layouts.proofs.Runs.{ascends-sift}
 use Rattle.ot_layouts.proofs.CoverageRoundTrip.{cover-back}
 use Rattle.ot_layouts.proofs.ClassDefRoundTrip.{class-back}
@@ -75,13 +75,14 @@ module _ {s : Store} {t : ℕ} {s′ : Store} {u lo hi : ℕ} (v : View s t s′
       go : (b : Bool) → eqb (formatOf (bytesOf s t)) 1 ≡ b → u16At (bytesOf s′ u) (cond b (shape1 (bytesOf s t)) (shape2 (bytesOf s t)) .countAt) ≡ hi - lo
           → (eqb (cond b (shape1 (bytesOf s t)) (shape2 (bytesOf s t)) .format) 1 ≡ false → columns (bytesOf s′ u) ≡ columns (bytesOf s t))
           → shapeOf (bytesOf s′ u) ≡ recount (cond b (shape1 (bytesOf s t)) (shape2 (bytesOf s t))) (hi - lo)
-      go true e c w = rw (view-format, e) (λ i. record { format = 1; header = 10; heads = 2 ∷ []; countAt = 8; count = c i; item = 2; unit = 2; slots = 0 ∷ [] })
+      go true e c w = rw (view-format, e) (λ i. record { format = 1; header = 10; own = ownIn 1; shared = sharedIn 1; countAt = 8; count = c i; item = 2; unit = 2; slots = 0 ∷ [] })
       go false e c w =
           rw (view-format, e)
           (λ i. record {
             format = 2;
             header = 16;
-            heads = 2 ∷ 8 ∷ 10 ∷ [];
+            own = ownIn 2;
+            shared = sharedIn 2;
             countAt = 12;
             count = c i;
             item = view-record i * w refl i;

@@ -118,14 +118,15 @@ module _ {s : Store} {t : ℕ} {s′ : Store} {u lo hi : ℕ} (v : View s t s′
 
     -- where the values stand in the row of item i
     abbrev rowAt : ℕ → ℕ → ℕ
-    rowAt b i = 16 + recordSize old * (i * columns old + column b)
+    rowAt b i = shape s t .header + recordSize old * (i * columns old + column b)
 
     spot-new : (b i : ℕ) → i + lo < hi → rowSpot s′ u b i ≡ given (ltb (column b) (columns old)) (record { object = u; at = rowAt b i })
     unfolding rowSpot
     spot-new b i h =
         let count′ : shape s′ u .count ≡ hi - lo = ap (λ (sh : Shape). sh .count) (view-shape v) in
+        let header′ : shape s′ u .header ≡ shape s t .header = ap (λ (sh : Shape). sh .header) (view-shape v) in
         let x : ltb i (shape s′ u .count) ≡ true = lt-ltb i (shape s′ u .count) (omega arith) in
-        λ d. given (x d && ltb (class2-view b d) (view-columns v two d)) (record { object = u; at = 16 + view-record v d * (i * view-columns v two d + class2-view b d) })
+        λ d. given (x d && ltb (class2-view b d) (view-columns v two d)) (record { object = u; at = header′ d + view-record v d * (i * view-columns v two d + class2-view b d) })
 
     spot-old : (b i : ℕ) → i + lo < hi → rowSpot s t b (i + lo) ≡ given (ltb (column b) (columns old)) (record { object = t; at = rowAt b i + sh .item * lo })
     unfolding rowSpot
@@ -134,7 +135,7 @@ module _ {s : Store} {t : ℕ} {s′ : Store} {u lo hi : ℕ} (v : View s t s′
         let y : ltb (i + lo) (sh .count) ≡ true = lt-ltb (i + lo) (sh .count) (omega arith) in
         let f = format-two old two in
         let g : sh .item * lo ≡ recordSize old * columns old * lo = ap (λ (n : ℕ). n * lo) (f .itemIs) in
-        let z : 16 + recordSize old * ((i + lo) * columns old + column b) ≡ rowAt b i + sh .item * lo
+        let z : sh .header + recordSize old * ((i + lo) * columns old + column b) ≡ rowAt b i + sh .item * lo
         = omega (arith, row-shift (recordSize old) (columns old) i (column b) lo) in
         λ d. given (y d && ltb (column b) (columns old)) (record { object = t; at = z d })
 
@@ -193,6 +194,7 @@ module _ {s : Store} {t : ℕ} {s′ : Store} {u lo hi : ℕ} (v : View s t s′
         let m3 : sh .item * hi ≡ 2 * hi = ap (λ (n : ℕ). n * hi) i2 in
         let count′ : shape s′ u .count ≡ hi - lo = ap (λ (sh : Shape). sh .count) (view-shape v) in
         let place′ : itemAt (shape s′ u) i ≡ itemAt sh i = ap (λ (sh : Shape). itemAt sh i) (view-shape v) in
+        let header′ : shape s′ u .header ≡ shape s t .header = ap (λ (sh : Shape). sh .header) (view-shape v) in
         let x : ltb i (shape s′ u .count) ≡ true = lt-ltb i (shape s′ u .count) (omega arith) in
         let y : ltb (i + lo) (sh .count) ≡ true = lt-ltb (i + lo) (sh .count) (omega arith) in
         let e : itemAt sh i + sh .item * lo ≡ itemAt sh (i + lo) = omega arith in

@@ -34,7 +34,8 @@ use Rattle.pair_rules.proofs.Entries.{entries1, entries-agree}
 use Rattle.pair_rules.specs.Reads.{Reads}
 use Rattle.pair_rules.proofs.Checks.{entries-ascend, entries-under, class-read, reads-no-case}
 use Rattle.pair_rules.proofs.NewCounts.{per-two}
-use Rattle.promise_pairs.specs.Demands.{Afresh, Octets, AllAfresh, WrittenAfresh}
+use Rattle.promise_calls.specs.Unchanged.{Octets}
+use Rattle.promise_pairs.specs.Demands.{Afresh, AllAfresh, WrittenAfresh}
 use Rattle.promise_pairs.proofs.Ready.{Ready, objects-then, new-used, splits-ready, store-written}
 use Rattle.promise_pairs.proofs.NewBytes.{kept-bytes}
 use Rattle.promise_pairs.proofs.View.{View, renumbered, within-up, view-test, renumbered-up, view-glyphs, view-format, view-shape, view-class}
@@ -178,11 +179,11 @@ module _ (s : Store) (t : ℕ) (cs : List ℕ) (g : Ready s t cs) (octets : Octe
       record {
         kept = afresh (view-kept s t cs g) (g .reads) (sound-then s t cs g) kept-used octets;
         keptBytes = kept-bytes s t cs g;
-        fresh = λ j l. afresh (view-new s t cs g j l) (g .reads) (sound-then s t cs g) (omega (arith, new-used s t cs g j 0 l (omega (arith, per-two (shape s t))))) octets;
+        fresh = λ j l. afresh (view-new s t cs g j l) (g .reads) (sound-then s t cs g) (omega (arith, new-used s t cs g j 0 l (omega (arith, per-two (bytesOf s t))))) octets;
         freshBytes = λ j l. bytes-new s t cs g j l;
       }
 
--- "each table written afresh", "by this section from the old table alone"
+-- "Each table with its own parts is what writing its range afresh would give", "by this section from the old table alone"
 pub written-afresh : WrittenAfresh
 written-afresh s t w list octets p =
     let (g, e) = splits-ready s t w list p in

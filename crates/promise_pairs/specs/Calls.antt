@@ -10,12 +10,17 @@ use lib.Dec.{eqb}
 use Rattle.folds.specs.Lists.{put, part}
 use Rattle.store_rules.specs.Store.{Store, sound, bytesOf, childAt, headOf, tailOf}
 use Rattle.pair_rules.specs.Table.{cutPlaces}
-use Rattle.pair_rules.specs.Written.{newTables}
+use Rattle.pair_rules.specs.Written.{newTables, splitStore}
+use Rattle.pair_rules.specs.Reads.{Reads}
 use Rattle.pair_rules.specs.Pairs.{noPair, pairOf}
-use Rattle.call_rules.specs.Scratch.{Scratch, cleared}
+use Rattle.call_rules.specs.Scratch.{Scratch}
 use Rattle.call_rules.specs.Outcomes.{Outcome}
-use Rattle.pair_rules.specs.Calls.{PairOutcome, splitCall, pairCall, reported, scratchShort}
-use Rattle.promise_pairs.specs.Demands.{Unchanged, AllAfresh, Octets}
+use Rattle.pair_rules.specs.Calls.{PairOutcome, splitCall, pairCall, splitCases, planCases, readCases, reported, scratchShort}
+use Rattle.promise_calls.specs.Unchanged.{Unchanged, Octets}
+use Rattle.promise_calls.specs.Given.{Gives}
+use Rattle.promise_calls.specs.Keeps.{CallKeeps}
+use Rattle.promise_pairs.specs.Exactly.{MaySplit, MayPlan}
+use Rattle.promise_pairs.specs.Demands.{AllAfresh}
 
 -- the tables to read then: "the kept table and then the new ones in order", as the list has them
 abbrev pub inOrder : ℕ → Outcome → List ℕ
@@ -32,13 +37,16 @@ pub record SplitLeaves (s : Store) (t : ℕ) (list : List ℕ) (o : Outcome) : T
   -- "The new-table count equals the cuts of the rule"
   pub count : o .count ≡ length (cutPlaces s t)
   pub tables : o .list ≡ put list 0 (newTables s t (cutPlaces s t))
+  -- "What is written", and that all else stays
+  pub written : o .store ≡ splitStore s t (cutPlaces s t)
   -- "reading the kept table and then the new ones in order gives, for every two glyphs, what the old table gave"
   pub pairs : (a b : ℕ) → readInOrder (o .store) (inOrder t o) a b ≡ pairCall s t a b
-  -- "Each table with its coverage and first class definition is what writing its range afresh would give."
+  -- "Each table with its own parts is what writing its range afresh would give."
   pub afresh : AllAfresh s t (o .store) (cutPlaces s t)
   -- "Every other old object keeps its bytes and links."
   pub others : (i : ℕ) → i < s .objectCount → (i ≡ t → ⊥)
-      → (headOf (o .store) i ≡ headOf s i) × (tailOf (o .store) i ≡ tailOf s i) × (bytesOf (o .store) i ≡ bytesOf s i) × ((q : ℕ) → childAt (o .store) i q ≡ childAt s i q)
+      → (headOf (o .store) i ≡ headOf s i) × (tailOf (o .store) i ≡ tailOf s i)
+      × (bytesOf (o .store) i ≡ bytesOf s i) × ((q : ℕ) → childAt (o .store) i q ≡ childAt s i q)
   -- "Splitting the kept table again adds and changes nothing."
   pub again : (v : Scratch) (list′ : List ℕ) → scratchShort (o .store) t v ≡ false
       → (splitCall (o .store) t v list′ .answer ≡ 0) × Unchanged (o .store) v list′ (splitCall (o .store) t v list′)
@@ -47,24 +55,24 @@ pub record SplitLeaves (s : Store) (t : ℕ) (list : List ℕ) (o : Outcome) : T
   pub octets : Octets (o .store)
 
 -- a split
-pub record SplitKeeps (s : Store) (t : ℕ) (w : Scratch) (list : List ℕ) (o : Outcome) : Type 0 where
-  -- "After a refusal the store, its counts and the list of new tables are as they came, the scratch is zero, zero new tables are reported."
-  pub refused : (o .answer ≡ 0 → ⊥) → Unchanged s w list o
-  -- "With no cut, 0 also changes nothing."
-  pub noneNew : o .count ≡ 0 → Unchanged s w list o
-  pub zero : o .scratch ≡ cleared w
-  pub leaves : 0 < o .count → SplitLeaves s t list o
+abbrev pub SplitKeeps : Store → ℕ → Scratch → List ℕ → Outcome → Type 0
+SplitKeeps s t w list = CallKeeps (splitCases s t w list) (MaySplit s t w list) (SplitLeaves s t list) s w list
+
+-- where places are handed out, none or more: the store is read only
+pub record PlanLeaves (s : Store) (t : ℕ) (list : List ℕ) (o : Outcome) : Type 0 where
+  pub answers : o .answer ≡ 0
+  pub count : o .count ≡ length (cutPlaces s t)
+  pub places : o .list ≡ put list 0 (cutPlaces s t)
+  pub reads : o .store ≡ s
 
 -- a cut plan
-pub record PlanKeeps (s : Store) (t : ℕ) (w : Scratch) (list : List ℕ) (o : Outcome) : Type 0 where
-  pub refused : (o .answer ≡ 0 → ⊥) → Unchanged s w list o
-  pub reads : o .store ≡ s
-  pub zero : o .scratch ≡ cleared w
-  pub places : 0 < o .count → (o .answer ≡ 0) × (o .count ≡ length (cutPlaces s t)) × (o .list ≡ put list 0 (cutPlaces s t))
+abbrev pub PlanKeeps : Store → ℕ → Scratch → List ℕ → Outcome → Type 0
+PlanKeeps s t w list = CallKeeps (planCases s t w list) (MayPlan s t w list) (PlanLeaves s t list) s w list
 
 -- a pair reading
 pub record PairKeeps (s : Store) (t a b : ℕ) (o : PairOutcome) : Type 0 where
-  -- "refuses by 1 to 5 in this order with no pair and sixteen zeros"
-  pub refused : (o .answer ≡ 0 → ⊥) → (o .found ≡ 0) × (o .values ≡ replicate 16 (pos 0))
-  -- where there is a pair, it is the table's own
-  pub pairs : o .found ≡ 1 → o ≡ reported 0 (pairOf s t a b)
+  pub answers : Gives (readCases s t) (o .answer)
+  -- checks 1 to 5 pass, and the format is 1 or 2: the pair is the table's own
+  pub pairs : Reads s t → o ≡ reported 0 (pairOf s t a b)
+  -- "refuses by 1 to 5 in this order with no pair and sixteen zeros; another format is 0 and no pair"
+  pub none : (Reads s t → ⊥) → (o .found ≡ 0) × (o .values ≡ replicate 16 (pos 0))

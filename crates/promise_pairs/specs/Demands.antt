@@ -1,4 +1,4 @@
--- What is promised of every call, as statements over its outcome in `rules`: s is the store that is lent, t the table's number, w the scratch and list the
+-- What is promised of every call, as statements over its outcome in `pair_rules`: s is the store that is lent, t the table's number, w the scratch and list the
 -- result list, or the plan's places. Assumes nothing.
 use Prim.Native.Nat.{ℕ, _+_, _<_, _≤_}
 use mathlib.Core.Path.{_≡_}
@@ -15,23 +15,17 @@ use Rattle.ot_layouts.specs.PairPos.{formatOf, itemAt}
 use Rattle.store_rules.specs.Store.{Store, sound, bytesOf, childAt, headOf, tailOf, linkedBytes, linkedAt}
 use Rattle.store_rules.specs.Appended.{newNumber}
 use Rattle.glyph_rules.specs.Entries.{within, reduced}
-use Rattle.pair_rules.specs.Table.{cutPlaces, entriesOf, glyphsOf, shape}
+use Rattle.store_rules.specs.Reach.{itemSize, SentenceOfS}
+use Rattle.pair_rules.specs.Table.{cutPlaces, entriesOf, glyphsOf, shape, ofItems}
 use Rattle.pair_rules.specs.Written.{newTables, newTable, perTable}
 use Rattle.cut_rules.specs.Ranges.{from, to}
 use Rattle.pair_rules.specs.Pairs.{noPair, pairAmong, pairOf}
 use Rattle.call_rules.specs.Scratch.{Scratch, cleared}
-use Rattle.call_rules.specs.Outcomes.{Outcome}
 use Rattle.pair_rules.specs.Calls.{splitCall, planCall, pairCall, reported, readCases, scratchShort}
 use Rattle.call_rules.specs.Answers.{firstCase}
+use Rattle.promise_calls.specs.Unchanged.{Unchanged, Octets}
 
 -- ---- 1: what a call leaves that does not split
-
--- "returns a count of 0 new tables and keeps store, counts and result list"; "All lent scratch is zero after every call."
-pub record Unchanged (s : Store) (w : Scratch) (list : List ℕ) (o : Outcome) : Type 0 where
-  pub noneNew : o .count ≡ 0
-  pub sameStore : o .store ≡ s
-  pub sameList : o .list ≡ list
-  pub zeroScratch : o .scratch ≡ cleared w
 
 -- "Each number but 0 .. returns a count of 0 new tables and keeps store, counts and result list."
 abbrev pub Refusals : Type 0
@@ -87,6 +81,14 @@ AsManyAsCuts =
     (s : Store) (t : ℕ) (w : Scratch) (list : List ℕ) → Splits s t w list
     → (splitCall s t w list .count ≡ length (cutPlaces s t)) × (splitCall s t w list .list ≡ put list 0 (newTables s t (cutPlaces s t)))
 
+-- ---- 2: "S(i) is the summed length of all objects reachable from item i's links, each counted once, leaving out those counted since the last cut"
+
+-- which is at a: the cuts of `cutPlaces` go by these sizes
+abbrev pub SizesBySentence : Type 0
+SizesBySentence =
+    (s : Store) (t a i : ℕ) → sound s ≡ true → a ≤ i
+    → SentenceOfS s (ofItems t (shape s t)) a i (itemSize s (ofItems t (shape s t)) a i)
+
 -- ---- 3: pairs are kept
 
 -- the resulting tables: the kept one, then the new ones
@@ -102,10 +104,6 @@ PairsKept =
     → pairOf (storeThen s t w list) (getD (resulting s t) j 0) a b .found ≡ false)
 
 -- ---- 3: each table is written afresh
-
--- the data are bytes, as a caller's buffer of u8 is: else a glyph number may pass 65,535, and a class definition that is written for it is unreadable
-abbrev pub Octets : Store → Type 0
-Octets s = (i : ℕ) → getD (s .bytes) i 0 < 256
 
 -- the entries of the items lo up to hi
 abbrev pub ranged : Store → ℕ → ℕ → ℕ → List Entry
@@ -134,7 +132,8 @@ pub record AllAfresh (s : Store) (t : ℕ) (s′ : Store) (cs : List ℕ) : Type
   pub kept : Afresh s t s′ t 0 (from cs 0)
   pub keptBytes : bytesOf s′ t ≡ put (part (bytesOf s t) 0 (itemAt (shape s t) (from cs 0))) (shape s t .countAt) (be16 (from cs 0))
   pub fresh : (j : ℕ) → j < length cs → Afresh s t s′ (newNumber s (perTable (shape s t)) j) (from cs j) (to (shape s t .count) cs j)
-  pub freshBytes : (j : ℕ) → j < length cs → bytesOf s′ (newNumber s (perTable (shape s t)) j) ≡ newTable (shape s t) (bytesOf s t) (from cs j) (to (shape s t .count) cs j)
+  pub freshBytes : (j : ℕ) → j < length cs
+      → bytesOf s′ (newNumber s (perTable (shape s t)) j) ≡ newTable (shape s t) (bytesOf s t) (from cs j) (to (shape s t .count) cs j)
 
 abbrev pub WrittenAfresh : Type 0
 WrittenAfresh =

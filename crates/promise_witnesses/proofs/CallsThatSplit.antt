@@ -21,7 +21,16 @@ use Rattle.call_rules.specs.Outcomes.{Outcome}
 use Rattle.pair_rules.specs.Calls.{splitCall, readCases}
 use Rattle.call_rules.specs.Answers.{firstCase}
 use Rattle.pair_rules.specs.Computing.{computes}
-use Rattle.promise_pairs.specs.Demands.{Octets, Splits, storeThen, AllAfresh}
+use Rattle.promise_calls.specs.Unchanged.{Octets}
+use Rattle.promise_pairs.specs.Demands.{Splits, storeThen, AllAfresh}
+
+-- each number was looked at
+pub small-bytes : (xs : List ℕ) → every (λ i x. ltb x 256) 0 xs ≡ true → Bytes xs
+small-bytes xs e i =
+    ⊎-elim
+    (λ lt. ltb-true (getD xs i 0) 256 (rule-at (λ i x. ltb x 256) 0 xs e i lt))
+    (λ ge. omega (arith, List·getD-eq-default xs 0 ge))
+    (either i (length xs))
 
 -- ---- a call that splits: W9, one set of 65,518 bytes under a coverage of 6, with room
 
@@ -44,10 +53,7 @@ scratch = scratchOf (replicate 6 0) (replicate 8192 0) (0 ∷ []) (0 ∷ []) (0 
 
 pub large-octets : Octets largeSet
 unfolding largeSet front words be16
-large-octets = bytes-append front (replicate 65618 0) (below front refl) (bytes-zeros 65618)
-  where
-    below : (xs : List ℕ) → every (λ i x. ltb x 256) 0 xs ≡ true → Bytes xs
-    below xs e i = ⊎-elim (λ lt. ltb-true (getD xs i 0) 256 (rule-at (λ i x. ltb x 256) 0 xs e i lt)) (λ ge. omega (arith, List·getD-eq-default xs 0 ge)) (either i (length xs))
+large-octets = bytes-append front (replicate 65618 0) (small-bytes front refl) (bytes-zeros 65618)
 
 -- answer, count, and what a reading of table t then refuses by: in one list, so that the call is computed once
 unfoldable pub seen : ℕ → Outcome → List (Option ℕ)

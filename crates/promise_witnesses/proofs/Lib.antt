@@ -1,1 +1,2 @@
 pub mod CallsThatSplit
+pub mod UselessBuilds

@@ -4,6 +4,7 @@ use mathlib.Core.Bool.{Bool, true, false, not, _&&_}
 use mathlib.Core.Logic.{⊎-elim}
 use mathlib.Core.Path.{_≡_, sym, ap, _∙_}
 use native.Mathlib.Omega.{arith}
+use lib.ListN.{length}
 use lib.Dec.{leb, ltb, eqb}
 use borrow.Author.Tests.{lt-ltb, le-ltb, le-leb, lt-leb, leb-true, eq-eqb, ne-eqb, not-true, not-false}
 use Rattle.folds.specs.Folds.{all, before}
@@ -107,13 +108,13 @@ module _ (s : Store) (k : ℕ) where
 
 module _ (s : Store) where
   abbrev bytesTest : Bool
-  bytesTest = leb (s .byteCount) (byteRoom s)
+  bytesTest = leb (s .byteCount) (byteRoom (length (s .bytes)))
 
   abbrev objectsTest : Bool
-  objectsTest = leb (s .objectCount) (objectRoom s)
+  objectsTest = leb (s .objectCount) (objectRoom (length (s .objects)))
 
   abbrev linksTest : Bool
-  linksTest = leb (s .linkCount) (linkRoom s)
+  linksTest = leb (s .linkCount) (linkRoom (length (s .links)))
 
   abbrev rowsTest : Bool
   rowsTest = all (objectFits s) (s .objectCount)

@@ -4,6 +4,16 @@ pub mod Reaching
 pub mod Lookups
 pub mod LinkRows
 pub mod LinksAscend
+pub mod Header
 pub mod ObjectRows
 pub mod Slots
 pub mod Bytes
+pub mod Pinned
+pub mod LinksFit
+pub mod Appended
+pub mod AppendedFits
+pub mod Changed
+pub mod RowChild
+pub mod SameReach
+pub mod ItemSize
+pub mod SlotsCounted

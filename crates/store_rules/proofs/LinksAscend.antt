@@ -22,16 +22,16 @@ abbrev pub Climb : ℕ → ℕ → ℕ → List Link → Type 0
 Climb p q e [] = From p q e 0
 Climb p q e (l ∷ ls) = From p q (l .parent) (l .position) × Climb (l .parent) (l .position + 1) e ls
 
-from-trans : (p q x y v w : ℕ) → From p q x y → From x y v w → From p q v w
+pub from-trans : (p q x y v w : ℕ) → From p q x y → From x y v w → From p q v w
 from-trans p q x y v w (inl a) (inl b) = inl (omega arith)
 from-trans p q x y v w (inl a) (inr (b, c)) = inl (omega arith)
 from-trans p q x y v w (inr (a, b)) (inl c) = inl (omega arith)
 from-trans p q x y v w (inr (a, b)) (inr (c, d)) = inr (a ∙ c, omega arith)
 
-from-next : (p q x y : ℕ) → From p q x y → From p q x (y + 1)
+pub from-next : (p q x y : ℕ) → From p q x y → From p q x (y + 1)
 from-next p q x y a = from-trans p q x y x (y + 1) a (inr (refl, omega arith))
 
-climb-lower : (ls : List Link) (p q x y e : ℕ) → From p q x y → Climb x y e ls → Climb p q e ls
+pub climb-lower : (ls : List Link) (p q x y e : ℕ) → From p q x y → Climb x y e ls → Climb p q e ls
 climb-lower [] p q x y e a c = from-trans p q x y e 0 a c
 climb-lower (l ∷ ls) p q x y e a c = (from-trans p q x y (l .parent) (l .position) a (c .0), c .1)
 

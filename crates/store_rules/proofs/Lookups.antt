@@ -1,6 +1,6 @@
 -- The child at a parent's position, looked up in lists of links and in a store. Assumes nothing.
 use Prim.Native.Nat.{ℕ, zero, suc, _<_, _≤_}
-use mathlib.Core.Path.{_≡_, refl, sym, ap, _∙_}
+use mathlib.Core.Path.{_≡_, refl, sym, ap, ap₂, _∙_}
 use mathlib.Core.Bool.{Bool, true, false, cond, _&&_}
 use mathlib.Core.List.{List, [], _∷_, _++_, map}
 use mathlib.Core.Logic.{⊎-elim}
@@ -12,11 +12,11 @@ use borrow.Author.Tests.{eqb-true, ne-eqb, eq-eqb}
 use Rattle.folds.specs.Folds.{orElse, flat, upto}
 use Rattle.folds.specs.Lists.{sift}
 use Rattle.folds.proofs.Tests.{and-both, true-false}
-use Rattle.folds.proofs.Each.{Each}
+use Rattle.folds.proofs.Each.{Each, each-moved}
 use Rattle.store_rules.specs.Store.{Link, lookup, Store, linkAt, parentOf, positionOf, childOf, childAt, linksOf, bytesOf, linkedBytes, ofParent}
-use Rattle.store_rules.specs.Reach.{onCycle}
+use Rattle.store_rules.specs.Reach.{onCycle, Reach}
 use Rattle.store_rules.proofs.Sound.{Fits}
-use Rattle.store_rules.proofs.Reached.{reached-all, Reach}
+use Rattle.store_rules.proofs.Reached.{reached-all}
 
 -- the link is the one that is looked up
 abbrev pub hit : Link → ℕ → ℕ → Bool
@@ -40,6 +40,11 @@ lookup-append (x ∷ xs) ys p q = go (eqb (x .parent) p && eqb (x .position) q) 
         → cond b (some (x .child)) (lookup (xs ++ ys) p q) ≡ orElse (cond b (some (x .child)) (lookup xs p q)) (lookup ys p q)
     go true e = refl
     go false e = e
+
+pub lookup-none : (ls : List Link) (p q : ℕ) → Each (λ l. hit l p q ≡ false) ls → lookup ls p q ≡ none
+unfolding lookup
+lookup-none [] p q a = refl
+lookup-none (l ∷ ls) p q a = rw (a .0) (lookup-none ls p q (a .1))
 
 pub lookup-none-flat : (f : ℕ → List Link) (n p q : ℕ) → ((j : ℕ) → j < n → lookup (f j) p q ≡ none) → lookup (flat f n) p q ≡ none
 unfolding flat lookup
@@ -94,18 +99,29 @@ module _ (f : Link → Link) (p : Link → Bool) (u q u′ q′ : ℕ) where
       go true a e = rw (a refl) e
       go false a e = e
 
--- links of parents below n, where the parents stay
-pub lookup-above : (f : Link → Link) (p : Link → Bool) (n u q : ℕ) → n ≤ u → ((l : Link) → f l .parent ≡ l .parent) → (ls : List Link) → Each (λ l. l .parent < n) ls → lookup (map f (sift p ls)) u q ≡ none
-unfolding lookup sift
-lookup-above f p n u q h k [] a = refl
-lookup-above f p n u q h k (l ∷ ls) a = go (p l) (lookup-above f p n u q h k ls (a .1))
-  where
-    ne : f l .parent ≡ u → ⊥
-    ne e = let b : l .parent < n = a .0 in omega (arith, k l)
+-- no link is of that parent
+pub lookup-elsewhere : (ls : List Link) (p q : ℕ) → Each (λ l. l .parent ≡ p → ⊥) ls → lookup ls p q ≡ none
+unfolding lookup
+lookup-elsewhere [] p q a = refl
+lookup-elsewhere (l ∷ ls) p q a = rw (ne-eqb (l .parent) p (a .0)) (lookup-elsewhere ls p q (a .1))
 
-    go : (b : Bool) → lookup (map f (sift p ls)) u q ≡ none → lookup (map f (cond b (l ∷ sift p ls) (sift p ls))) u q ≡ none
-    go true i = rw (ne-eqb (f l .parent) u ne) i
-    go false i = i
+-- links of parents below n, where the parents stay
+pub lookup-above : (f : Link → Link) (p : Link → Bool) (n u q : ℕ) → n ≤ u → ((l : Link) → f l .parent ≡ l .parent)
+    → (ls : List Link) → Each (λ l. l .parent < n) ls → lookup (map f (sift p ls)) u q ≡ none
+lookup-above f p n u q h k ls a =
+    lookup-elsewhere (map f (sift p ls)) u q (each-moved (λ l. l .parent < n) (λ l. l .parent ≡ u → ⊥) f p (λ l b c e. omega (arith, k l)) ls a)
+
+-- links that stay where they are, with a child changed
+pub lookup-changed : (f : Link → Link) (h : ℕ → ℕ) (p q : ℕ) → ((l : Link) → f l .parent ≡ l .parent) → ((l : Link) → f l .position ≡ l .position)
+    → ((l : Link) → hit l p q ≡ true → f l .child ≡ h (l .child)) → (ls : List Link) → lookup (map f ls) p q ≡ mapped h (lookup ls p q)
+unfolding sift
+lookup-changed f h p q a b c ls =
+    ap (λ (x : List Link). lookup (map f x) p q) (sym (all-pass ls))
+    ∙ lookup-moved f (λ l. true) p q p q h (λ l e. ap₂ (λ (x y : ℕ). eqb x p && eqb y q) (a l) (b l)) (λ l e. refl) c ls
+  where
+    all-pass : (xs : List Link) → sift (λ l. true) xs ≡ xs
+    all-pass [] = refl
+    all-pass (x ∷ xs) = ap (λ (r : List Link). x ∷ r) (all-pass xs)
 
 -- ---- in a store
 

@@ -15,13 +15,8 @@ use Rattle.folds.proofs.Tests.{and-both, and-intro, by-test, true-false}
 use Rattle.folds.proofs.Joined.{or-either, or-first, or-second}
 use Rattle.folds.proofs.Tally.{count, tally-one, count-all}
 use Rattle.store_rules.specs.Store.{Store, parentOf, childOf}
-use Rattle.store_rules.specs.Reach.{marked, due, once, grow, reached}
+use Rattle.store_rules.specs.Reach.{marked, due, once, grow, reached, Reach}
 use Rattle.store_rules.proofs.Sound.{Fits}
-
--- i can be reached along the link rows, from the rows of `from`
-pub data Reach (s : Store) (from : ℕ → Bool) : ℕ → Type 0 where
-  seed : {i : ℕ} (k : ℕ) → k < s .linkCount → from k ≡ true → childOf s k ≡ i → Reach s from i
-  step : {i j : ℕ} → Reach s from i → (k : ℕ) → k < s .linkCount → parentOf s k ≡ i → childOf s k ≡ j → Reach s from j
 
 -- ---- one mark more
 

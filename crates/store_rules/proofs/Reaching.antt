@@ -8,9 +8,9 @@ use Rattle.folds.proofs.Agree.{both-ways}
 use Rattle.folds.proofs.Tally.{tally-same}
 use Rattle.folds.proofs.Tests.{by-test, true-false}
 use Rattle.store_rules.specs.Store.{Store, lent, parentOf, childOf, sizeOf}
-use Rattle.store_rules.specs.Reach.{marked, due, once, grow, reached, reachSize}
+use Rattle.store_rules.specs.Reach.{marked, due, once, grow, reached, reachSize, Reach}
 use Rattle.store_rules.proofs.Sound.{Fits}
-use Rattle.store_rules.proofs.Reached.{Reach, reached-only, reached-all}
+use Rattle.store_rules.proofs.Reached.{reached-only, reached-all}
 
 module _ {s : Store} where
   pub reach-more : {from more : ℕ → Bool} → ((k : ℕ) → k < s .linkCount → from k ≡ true → more k ≡ true) → {i : ℕ} → Reach s from i → Reach s more i

@@ -56,10 +56,15 @@ link-fits s k h =
 pub sound-fits : (s : Store) → sound s ≡ true → Fits s
 unfolding sound byteRoom objectRoom linkRoom
 sound-fits s h =
-    let (d, o, l, objects, links) = and-five (leb (s .byteCount) (byteRoom s)) (leb (s .objectCount) (objectRoom s)) (leb (s .linkCount) (linkRoom s)) (all (objectFits s) (s .objectCount)) (all (linkFits s) (s .linkCount)) h in
-    let bt : s .byteCount ≤ byteRoom s = leb-true (s .byteCount) (byteRoom s) d in
-    let ot : s .objectCount ≤ objectRoom s = leb-true (s .objectCount) (objectRoom s) o in
-    let lt : s .linkCount ≤ linkRoom s = leb-true (s .linkCount) (linkRoom s) l in
+    let byte-room : ℕ = byteRoom (length (s .bytes)) in
+    let object-room : ℕ = objectRoom (length (s .objects)) in
+    let link-room : ℕ = linkRoom (length (s .links)) in
+    let (d, o, l, objects, links) =
+    and-five (leb (s .byteCount) byte-room) (leb (s .objectCount) object-room) (leb (s .linkCount) link-room) (all (objectFits s) (s .objectCount))
+    (all (linkFits s) (s .linkCount)) h in
+    let bt : s .byteCount ≤ byte-room = leb-true (s .byteCount) byte-room d in
+    let ot : s .objectCount ≤ object-room = leb-true (s .objectCount) object-room o in
+    let lt : s .linkCount ≤ link-room = leb-true (s .linkCount) link-room l in
     record {
       bytesIn = omega arith;
       bytesMost = omega arith;
@@ -85,9 +90,9 @@ pub fits-sound : (s : Store) → Fits s → sound s ≡ true
 unfolding sound byteRoom objectRoom linkRoom
 fits-sound s f =
     five-hold _ _ _ _ _
-    (le-leb (s .byteCount) (byteRoom s) (omega arith))
-    (le-leb (s .objectCount) (objectRoom s) (omega arith))
-    (le-leb (s .linkCount) (linkRoom s) (omega arith))
+    (le-leb (s .byteCount) (byteRoom (length (s .bytes))) (omega arith))
+    (le-leb (s .objectCount) (objectRoom (length (s .objects))) (omega arith))
+    (le-leb (s .linkCount) (linkRoom (length (s .links))) (omega arith))
     (all-intro (objectFits s) (s .objectCount) (λ i m. fits-object s i (f .object i m)))
     (all-intro (linkFits s) (s .linkCount) (λ k m. fits-link s k (f .link k m)))
 

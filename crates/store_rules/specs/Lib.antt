@@ -1,4 +1,5 @@
 pub mod Store
 pub mod Reach
 pub mod Appended
+pub mod Header
 pub mod Moments

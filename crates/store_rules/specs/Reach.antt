@@ -1,11 +1,19 @@
--- What can be reached along the link rows, as a function that computes. Assumes nothing.
-use Prim.Native.Nat.{ℕ, zero, suc, _+_, _-_}
-use mathlib.Core.Bool.{Bool, not, cond, _&&_, _||_}
+-- What can be reached along the link rows, as a relation and as a function that computes, and S, a difference of two such sums. Assumes nothing.
+use Prim.Native.Nat.{ℕ, zero, suc, _+_, _-_, _<_}
+use mathlib.Core.Bool.{Bool, true, not, cond, _&&_, _||_}
 use mathlib.Core.List.{List}
+use mathlib.Core.Path.{_≡_}
 use lib.ListN.{getD, set, replicate}
 use lib.Dec.{eqb}
 use Rattle.folds.specs.Folds.{sum}
 use Rattle.store_rules.specs.Store.{Store, Link, linkAt, parentOf, childOf, sizeOf, ofParent}
+
+-- i can be reached along the link rows, from the rows of `from`
+pub data Reach (s : Store) (from : ℕ → Bool) : ℕ → Type 0 where
+  seed : {i : ℕ} (k : ℕ) → k < s .linkCount → from k ≡ true → childOf s k ≡ i → Reach s from i
+  step : {i j : ℕ} → Reach s from i → (k : ℕ) → k < s .linkCount → parentOf s k ≡ i → childOf s k ≡ j → Reach s from j
+
+-- ---- as a function
 
 -- the object has a mark
 abbrev pub marked : List ℕ → ℕ → Bool
@@ -45,6 +53,23 @@ onCycle s t = marked (reached s (λ k. ofParent t (linkAt s k))) t
 -- what the items from a to i reach, without what those before i reach; `rows lo hi` says which links are those of the items lo up to hi, hi left out
 unfoldable pub itemSize : Store → (ℕ → ℕ → Link → Bool) → ℕ → ℕ → ℕ
 itemSize s rows a i = reachOf s (rows a (i + 1)) - reachOf s (rows a i)
+
+-- ---- S, in its own words
+
+-- the rows of the items lo up to hi
+abbrev pub rowsOf : Store → (ℕ → ℕ → Link → Bool) → ℕ → ℕ → ℕ → Bool
+rowsOf s rows lo hi k = rows lo hi (linkAt s k)
+
+-- "reachable from item i's links .., leaving out those counted since the last cut", which is at a
+abbrev pub Adds : Store → (ℕ → ℕ → Link → Bool) → ℕ → ℕ → ℕ → Type 0
+Adds s rows a i j = Reach s (rowsOf s rows i (i + 1)) j × (Reach s (rowsOf s rows a i) j → ⊥)
+
+-- size is "the summed length of all objects" of which this holds, "each counted once"
+pub record SentenceOfS (s : Store) (rows : ℕ → ℕ → Link → Bool) (a i size : ℕ) : Type 0 where
+  pub counted : ℕ → Bool
+  pub such : (j : ℕ) → j < s .objectCount → counted j ≡ true → Adds s rows a i j
+  pub allSuch : (j : ℕ) → j < s .objectCount → Adds s rows a i j → counted j ≡ true
+  pub summed : size ≡ sum (λ j. cond (counted j) (sizeOf s j) 0) (s .objectCount)
 
 -- all of this file's definitions, for checks that compute
 unfoldable pub computes : Unit {0}

@@ -26,16 +26,16 @@ abbrev pub perLink : ℕ
 perLink = 4
 
 -- "Room is the smaller of lent length and maximum": "16,777,216 data bytes, 65,536 objects, 262,144 links"
-unfoldable pub byteRoom : Store → ℕ
-byteRoom s = min (length (s .bytes)) 16777216
+unfoldable pub byteRoom : ℕ → ℕ
+byteRoom n = min n 16777216
 
 -- in objects, of two numbers each
-unfoldable pub objectRoom : Store → ℕ
-objectRoom s = min (length (s .objects) / 2) 65536
+unfoldable pub objectRoom : ℕ → ℕ
+objectRoom n = min (n / 2) 65536
 
 -- in link rows
-unfoldable pub linkRoom : Store → ℕ
-linkRoom s = min (length (s .links) / perLink) 262144
+unfoldable pub linkRoom : ℕ → ℕ
+linkRoom n = min (n / perLink) 262144
 
 -- object i: its head
 abbrev pub headOf : Store → ℕ → ℕ
@@ -90,10 +90,11 @@ linkFits s k =
     ltb (parentOf s k) (s .objectCount) && ltb (childOf s k) (s .objectCount) && eqb (widthOf s k) 2
     && leb (positionOf s k + 2) (sizeOf s (parentOf s k)) && ascends s k
 
--- "Sound means: counts fit the lent lengths and the maxima; .."
+-- "Sound means: counts fit the lent lengths and the maxima", and what `objectFits` and `linkFits` say of each row
 unfoldable pub sound : Store → Bool
 sound s =
-    leb (s .byteCount) (byteRoom s) && leb (s .objectCount) (objectRoom s) && leb (s .linkCount) (linkRoom s)
+    leb (s .byteCount) (byteRoom (length (s .bytes))) && leb (s .objectCount) (objectRoom (length (s .objects)))
+    && leb (s .linkCount) (linkRoom (length (s .links)))
     && all (objectFits s) (s .objectCount) && all (linkFits s) (s .linkCount)
 
 -- "handed out as a part of the caller's data buffer, an empty part where 1 or 2 applies"

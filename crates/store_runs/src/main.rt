@@ -2,6 +2,7 @@
 use libc::STDOUT_FILENO;
 use store_reader::first_row;
 use store_reader::is_sound;
+use store_reader::object_bytes;
 use store_walk::prepare;
 use store_walk::subgraph_size;
 ghost use Rattle.store_runs.specs.Looks.{Looks};
@@ -28,11 +29,14 @@ fn main() {
         b"the same without its last object's links: ",
         look(&data, &objects, &links, 262140, &mut walk),
     );
+    hand_out(b"its last object: ", &data, &objects, &links, 65535);
+    hand_out(b"an object behind it: ", &data, &objects, &links, 65536);
     lay_links(&mut links, 65536);
     print(
         b"a link to no object: ",
         look(&data, &objects, &links, 262144, &mut walk),
     );
+    hand_out(b"its first object: ", &data, &objects, &links, 0);
 }
 
 // Objects of eight bytes each.
@@ -101,6 +105,20 @@ fn nothing() -> Report {
         cycle: 0,
         reach: 0,
     }
+}
+
+// How many bytes of an object are handed out, of the store with all of its links in use.
+fn hand_out(
+    what: &[u8],
+    data: &[u8; 524288],
+    objects: &[u32; 131072],
+    links: &[u32; 1048576],
+    object: u32,
+) {
+    let part = object_bytes(data, objects, links, &[524288, 65536, 262144], object);
+    io::write_all(STDOUT_FILENO, what);
+    io::print_decimal(STDOUT_FILENO, part.len() as u64);
+    io::write_all(STDOUT_FILENO, b" bytes handed out\n");
 }
 
 fn print(what: &[u8], r: Report) {

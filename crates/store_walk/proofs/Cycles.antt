@@ -13,8 +13,8 @@ use Rattle.folds.proofs.Joined.{or-either, or-second}
 use Rattle.folds.proofs.Tests.{and-both, and-intro, and-first, and-second, by-test, either, true-false}
 use Rattle.ot_layouts.specs.PairPos.{Shape, itemAt}
 use Rattle.store_rules.specs.Store.{Store, lent, linkAt, parentOf, positionOf, ofParent}
-use Rattle.store_rules.specs.Reach.{marked, reached, onCycle}
-use Rattle.store_rules.proofs.Reached.{Reach, reached-only, reached-all}
+use Rattle.store_rules.specs.Reach.{marked, reached, onCycle, Reach}
+use Rattle.store_rules.proofs.Reached.{reached-only, reached-all}
 use Rattle.store_rules.proofs.Reaching.{reached-bytes, reached-more, reached-same, reached-none}
 use Rattle.store_rules.proofs.Sound.{Fits}
 use Rattle.store_reader.specs.Rows.{keyOf, FirstRow}

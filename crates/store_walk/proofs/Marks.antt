@@ -14,8 +14,8 @@ use Rattle.folds.proofs.Tests.{and-both, cond-has, by-test, true-false, either}
 use Rattle.folds.proofs.Joined.{or-either, or-first, or-second}
 use Rattle.folds.proofs.Tally.{tally-same, tally-le}
 use Rattle.store_rules.specs.Store.{Store, lent, sizeOf}
-use Rattle.store_rules.specs.Reach.{marked, reached, reachSize}
-use Rattle.store_rules.proofs.Reached.{Reach, reached-only, reached-all}
+use Rattle.store_rules.specs.Reach.{marked, reached, reachSize, Reach}
+use Rattle.store_rules.proofs.Reached.{reached-only, reached-all}
 use Rattle.store_rules.proofs.Reaching.{reach-all, reach-more, reached-bytes, reached-more, reached-same, reached-none, size-bytes}
 use Rattle.store_rules.proofs.Sound.{Fits, sizes-most}
 use Rattle.store_reader.specs.Rows.{keyOf, FirstRow}

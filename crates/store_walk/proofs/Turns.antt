@@ -15,7 +15,7 @@ use Rattle.folds.specs.Folds.{sum}
 use Rattle.folds.proofs.Tests.{and-intro, either}
 use Rattle.folds.proofs.Tally.{tally, count, tally-same, tally-one, tally-le}
 use Rattle.store_rules.specs.Store.{Store, perLink}
-use Rattle.store_rules.proofs.Reached.{Reach}
+use Rattle.store_rules.specs.Reach.{Reach}
 use Rattle.store_rules.proofs.Sound.{Fits}
 use Rattle.store_reader.specs.Rows.{keyOf, FirstRow}
 use Rattle.store_reader.proofs.Rows.{position-most}

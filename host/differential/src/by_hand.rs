@@ -14,6 +14,16 @@ pub fn format1_slots(glyphs: &[u16], slots: usize) -> Store {
     store
 }
 
+/// The same with a pair set of each length, from object 2 on.
+pub fn format1(glyphs: &[u16], lengths: &[usize]) -> Store {
+    let mut store = format1_slots(glyphs, lengths.len());
+    for (i, &length) in lengths.iter().enumerate() {
+        let set = store.push_object(&vec![0; length]);
+        store.push_link(0, 10 + 2 * i as u32, set);
+    }
+    store
+}
+
 /// A format 2 table of zeros, of so many rows and columns.
 pub fn format2(
     formats: [u16; 2],

@@ -1,7 +1,7 @@
 //! The figures W1 to W12, through the archive and the model.
 
 use differential::{
-    by_hand::{format1_slots, format2},
+    by_hand::{format1, format1_slots, format2},
     check::all_agree,
     lend,
     model::{class_def, coverage, numbers::bytes, values::ValueFormat},
@@ -13,16 +13,6 @@ const TABLE: u32 = 0;
 
 /// The glyphs of W3.
 const THREE: [u16; 3] = [10, 20, 30];
-
-/// The same with a pair set of each length, from object 2 on.
-fn format1(glyphs: &[u16], lengths: &[usize]) -> Store {
-    let mut store = format1_slots(glyphs, lengths.len());
-    for (i, &length) in lengths.iter().enumerate() {
-        let set = store.push_object(&vec![0; length]);
-        store.push_link(0, 10 + 2 * i as u32, set);
-    }
-    store
-}
 
 /// The call after a split, and the places of a cut plan.
 fn split(store: &Store) -> (Call<u32>, Vec<u16>) {

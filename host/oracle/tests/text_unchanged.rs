@@ -1,12 +1,12 @@
 //! The text of the crate stands as it came.
 
+#[path = "helpers/files.rs"]
+mod files;
 #[path = "helpers/sha256.rs"]
 mod sha256;
 
-use std::{
-    fs, io,
-    path::{Path, PathBuf},
-};
+use files::files_under;
+use std::{fs, path::Path};
 
 const TEXT: [(&str, &str); 6] = [
     (
@@ -38,8 +38,7 @@ const TEXT: [(&str, &str); 6] = [
 #[test]
 fn docs_src_holds_these_files_and_no_other() {
     let root = Path::new(env!("CARGO_MANIFEST_DIR")).join("../../docs/src");
-    let mut files = files_under(&root).unwrap();
-    files.sort();
+    let files = files_under(&root).unwrap();
     let found: Vec<_> = files
         .iter()
         .map(|file| {
@@ -48,17 +47,4 @@ fn docs_src_holds_these_files_and_no_other() {
         })
         .collect();
     assert_eq!(found, TEXT.map(|(name, digest)| (name, digest.to_string())));
-}
-
-fn files_under(directory: &Path) -> io::Result<Vec<PathBuf>> {
-    let mut files = Vec::new();
-    for entry in fs::read_dir(directory)? {
-        let path = entry?.path();
-        if path.is_dir() {
-            files.extend(files_under(&path)?);
-        } else {
-            files.push(path);
-        }
-    }
-    Ok(files)
 }

@@ -1,4 +1,4 @@
--- `scratch::clear_scratch` meets its contract: one after another. Assumes nothing.
+-- `call_scratch::clear_scratch` meets its contract: one after another. Assumes nothing.
 use Rattle.call_rules.specs.Scratch.{scratchOf, cleared}
 use borrow.Author.Needs.{needs}
 use Rattle.call_scratch.proofs.clear_scratch.Statement.{statement}

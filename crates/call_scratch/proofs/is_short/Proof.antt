@@ -1,7 +1,7 @@
--- `scratch::is_short` meets its contract: test by test. Assumes nothing.
+-- `call_scratch::is_short` meets its contract: test by test. Assumes nothing.
 use borrow.Author.Needs.{needs}
 use borrow.Author.Tests.{lt-ltb, le-ltb}
-use Rattle.call_scratch.specs.Lengths.{lengthsShort}
+use Rattle.call_rules.specs.Scratch.{lengthsShort}
 use Rattle.call_scratch.proofs.is_short.Statement.{statement}
 use Rattle.call_scratch.proofs.is_short.Tie as tie
 

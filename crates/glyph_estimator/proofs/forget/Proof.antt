@@ -1,4 +1,4 @@
--- `estimator::forget` meets its contract: after each turn the bytes of the glyphs passed are empty. The measure is what is left. Assumes nothing.
+-- `glyph_estimator::forget` meets its contract: after each turn the bytes of the glyphs passed are empty. The measure is what is left. Assumes nothing.
 use borrow.Author.Needs.{needs}
 use Prim.Native.Nat.{_-_}
 use lib.ListN.{length}

@@ -1,4 +1,4 @@
--- `estimator::starts_run` meets its contract: by whether there is a glyph before, and whether it adjoins. Assumes nothing.
+-- `glyph_estimator::starts_run` meets its contract: by whether there is a glyph before, and whether it adjoins. Assumes nothing.
 use Prim.Native.Nat.{_-_}
 use native.Mathlib.Omega.{arith}
 use borrow.Author.Tests.{eq-eqb, ne-eqb}

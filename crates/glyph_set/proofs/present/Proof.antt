@@ -1,34 +1,18 @@
--- `glyph_set::present` meets its contract: the byte is shifted down and masked to one bit. Assumes nothing.
+-- `glyph_set::present` meets its contract: the test, as a number. Assumes nothing.
+use mathlib.Core.Path.{_≡_, refl, ap, _∙_}
+use mathlib.Core.Bool.{Bool, true, false, cond}
+use Prim.Native.Nat.{ℕ}
+use mir.Val.{boolByte}
 use borrow.Author.Needs.{needs}
-use Prim.Native.Nat.{ℕ, _/_, _%_, _^_}
-use mathlib.Core.Path.{_∙_}
-use native.Mathlib.Omega.{arith}
-use lib.ListN.{getD}
-use Rattle.folds.proofs.Bits.{masked-lowest}
-use Rattle.glyph_set.specs.GlyphSet.{member}
-use Rattle.glyph_set.proofs.Neighbours.{digit}
 use Rattle.glyph_set.proofs.present.Statement.{statement}
 use Rattle.glyph_set.proofs.present.Tie as tie
 
-cast-result-2 : tie.Need-cast-result-2
-cast-result-2 c =
-    let a = c .before .args in
-    omega (arith, masked-lowest (getD (a .set .now) (a .glyph / 8) 0 / 2 ^ (a .glyph % 8)))
+as-number : (b : Bool) → boolByte b ≡ cond b 1 0
+as-number true = refl
+as-number false = refl
 
 returns : tie.Need-returns
-unfolding member
-returns c =
-    let a = c .before .args in
-    let shifted : ℕ = getD (a .set .now) (a .glyph / 8) 0 / 2 ^ (a .glyph % 8) in
-    masked-lowest shifted ∙ digit (shifted % 2) (omega arith)
+returns c = as-number (c .contains .result) ∙ ap (λ (b : Bool). cond b 1 0) (c .contains .ensures)
 
 pub present-spec : {M : Type 1} → statement M
-present-spec =
-    tie.close
-    (tie.spec
-    (λ c. search needs)
-    (λ c. search needs)
-    (λ c. search needs)
-    (λ c. search needs)
-    cast-result-2
-    returns)
+present-spec = tie.close (tie.spec (λ c κs. search needs) (λ c. search needs) returns)

@@ -1,4 +1,4 @@
--- `class_def::class_of` meets its contract: by its header a class definition is a list of classes or ranges. Assumes nothing.
+-- `ot_class_def_reader::class_of` meets its contract: by its header a class definition is a list of classes or ranges. Assumes nothing.
 use borrow.Author.Needs.{needs}
 use mathlib.Core.Path.{sym, _∙_}
 use Rattle.ot_layouts.proofs.ClassDefRead.{header-list, header-ranges}

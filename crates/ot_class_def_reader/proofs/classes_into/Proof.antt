@@ -1,4 +1,4 @@
--- `class_def::classes_into` meets its contract: by its header a class definition is a list of classes or ranges. Assumes nothing.
+-- `ot_class_def_reader::classes_into` meets its contract: by its header a class definition is a list of classes or ranges. Assumes nothing.
 use borrow.Author.Needs.{needs}
 use Prim.Native.Nat.{ℕ}
 use mathlib.Core.Path.{_≡_, sym, ap, _∙_}
@@ -28,10 +28,14 @@ range-classes-requires : tie.Need-range-classes-requires
 range-classes-requires c κs = let p = c .before .before .before .before .before .before .pre in (header-ranges _ (c .before .before .before .before .before .before .args .header) (p .0) (c .before .enum-told2 .given .1) .fits, (p .1 .0, p .1 .1))
 
 returns : tie.Need-returns
-returns c = as-list _ (c .before .before .before .before .before .before .before .before .before .args .header) (c .before .before .before .before .before .before .before .before .before .pre .0) (c .before .before .before .before .before .before .before .before .before .args .glyphs .now) (c .before .before .before .before .before .before .before .before .before .args .out .now) (c .before .before .before .before .enum-told .given .1) (c .before .before .list-classes .ensures)
+returns c =
+    let start = c .before .before .before .before .before .before .before .before .before in
+    as-list _ (start .args .header) (start .pre .0) (start .args .glyphs .now) (start .args .out .now) (c .before .before .before .before .enum-told .given .1) (c .before .before .list-classes .ensures)
 
 returns-2 : tie.Need-returns-2
-returns-2 c = as-ranges _ (c .before .before .before .before .before .before .before .before .before .args .header) (c .before .before .before .before .before .before .before .before .before .pre .0) (c .before .before .before .before .before .before .before .before .before .args .glyphs .now) (c .before .before .before .before .before .before .before .before .before .args .out .now) (c .before .before .before .before .enum-told2 .given .1) (c .before .before .range-classes .ensures)
+returns-2 c =
+    let start = c .before .before .before .before .before .before .before .before .before in
+    as-ranges _ (start .args .header) (start .pre .0) (start .args .glyphs .now) (start .args .out .now) (c .before .before .before .before .enum-told2 .given .1) (c .before .before .range-classes .ensures)
 
 pub classes-into-spec : {M : Type 1} → statement M
 classes-into-spec =

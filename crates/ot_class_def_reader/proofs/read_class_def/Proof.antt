@@ -1,4 +1,4 @@
--- `class_def::read_class_def` meets its contract: the format says which reader is asked. Assumes nothing.
+-- `ot_class_def_reader::read_class_def` meets its contract: the format says which reader is asked. Assumes nothing.
 use borrow.Author.Needs.{needs}
 use mathlib.Core.Path.{_∙_}
 use Rattle.ot_layouts.proofs.ClassDefRead.{no-format, too-short}

@@ -1,4 +1,4 @@
--- `class_def_writer::class_def_length` meets its contract: the outline decides the form, and its length. Assumes nothing.
+-- `ot_class_def_writer::class_def_length` meets its contract: the outline decides the form, and its length. Assumes nothing.
 use borrow.Author.Needs.{needs}
 use mathlib.Core.Path.{sym, _∙_}
 use Rattle.ot_ranges.proofs.Ascending.{ascends}

@@ -45,7 +45,9 @@ write-ranges-requires c κs =
     (few .0, (e, (few .1, omega (arith, ranges-length gs e (c .before .if1 .taken)))))
 
 add-result-2 : tie.Need-add-result-2
-add-result-2 c = omega (arith, ranges-length (c .before .before .before .before .before .before .before .before .args .glyphs .now) (c .before .before .before .before .before .run-count .ensures .0) (c .before .before .before .before .if1 .taken))
+add-result-2 c =
+    let start = c .before .before .before .before .before .before .before .before in
+    omega (arith, ranges-length (start .args .glyphs .now) (c .before .before .before .before .before .run-count .ensures .0) (c .before .before .before .before .if1 .taken))
 
 write-list-requires : tie.Need-write-list-requires
 write-list-requires c κs =
@@ -54,19 +56,23 @@ write-list-requires c κs =
     (list-few gs e (c .before .if1 .left) (c .before .before .before .before .before .pre .0) (λ k. omega (arith, c .before .before .before .before .shared-slice-known .given k)), omega (arith, list-length gs e (c .before .if1 .left)))
 
 add-result-4 : tie.Need-add-result-4
-add-result-4 c = omega (arith, list-length (c .before .before .before .before .before .before .before .before .args .glyphs .now) (c .before .before .before .before .before .run-count .ensures .0) (c .before .before .before .before .if1 .left))
+add-result-4 c =
+    let start = c .before .before .before .before .before .before .before .before in
+    omega (arith, list-length (start .args .glyphs .now) (c .before .before .before .before .before .run-count .ensures .0) (c .before .before .before .before .if1 .left))
 
 returns : tie.Need-returns
 returns c =
-    let gs = c .before .before .before .before .before .before .before .before .args .glyphs .now in
+    let start = c .before .before .before .before .before .before .before .before in
+    let gs = start .args .glyphs .now in
     let e = c .before .before .before .before .before .run-count .ensures .0 in
-    (c .before .before .write-ranges .ensures ∙ ap (put (c .before .before .before .before .before .before .before .before .args .out .now) (c .before .before .before .before .before .before .before .before .args .at)) (ranges-bytes gs e (c .before .before .before .before .if1 .taken)), omega (arith, ranges-length gs e (c .before .before .before .before .if1 .taken)))
+    (c .before .before .write-ranges .ensures ∙ ap (put (start .args .out .now) (start .args .at)) (ranges-bytes gs e (c .before .before .before .before .if1 .taken)), omega (arith, ranges-length gs e (c .before .before .before .before .if1 .taken)))
 
 returns-2 : tie.Need-returns-2
 returns-2 c =
-    let gs = c .before .before .before .before .before .before .before .before .args .glyphs .now in
+    let start = c .before .before .before .before .before .before .before .before in
+    let gs = start .args .glyphs .now in
     let e = c .before .before .before .before .before .run-count .ensures .0 in
-    (c .before .before .write-list .ensures ∙ ap (put (c .before .before .before .before .before .before .before .before .args .out .now) (c .before .before .before .before .before .before .before .before .args .at)) (list-bytes gs e (c .before .before .before .before .if1 .left)), omega (arith, list-length gs e (c .before .before .before .before .if1 .left)))
+    (c .before .before .write-list .ensures ∙ ap (put (start .args .out .now) (start .args .at)) (list-bytes gs e (c .before .before .before .before .if1 .left)), omega (arith, list-length gs e (c .before .before .before .before .if1 .left)))
 
 pub write-coverage-spec : {M : Type 1} → statement M
 write-coverage-spec =

@@ -1,4 +1,4 @@
--- `opentype::field_at` meets its contract: the code's table and the definition's follow one rule, row for row. Assumes nothing.
+-- `ot_layouts::field_at` meets its contract: the code's table and the definition's follow one rule, row for row. Assumes nothing.
 use borrow.Author.Needs.{needs}
 use mathlib.Core.Path.{sym, _∙_}
 use mathlib.Core.Bool.{false}

@@ -1,4 +1,4 @@
--- `pair_pos::is_device_slot` meets its contract: an offset is even, and falls in one record or the other. Assumes nothing.
+-- `ot_pairpos::is_device_slot` meets its contract: an offset is even, and falls in one record or the other. Assumes nothing.
 use mathlib.Core.Path.{_∙_, ap}
 use Prim.Native.Nat.{ℕ, _-_, _/_}
 use native.Mathlib.Omega.{arith}

@@ -1,4 +1,4 @@
--- `pair_pos::is_head2` meets its contract: one of three. Assumes nothing.
+-- `ot_pairpos::is_head2` meets its contract: one of three. Assumes nothing.
 use mathlib.Core.Path.{sym}
 use borrow.Author.Tests.{eq-eqb, ne-eqb}
 use Rattle.folds.specs.Lists.{among}

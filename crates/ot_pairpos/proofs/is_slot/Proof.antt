@@ -1,4 +1,4 @@
--- `pair_pos::is_slot` meets its contract: by format. Assumes nothing.
+-- `ot_pairpos::is_slot` meets its contract: by format. Assumes nothing.
 use Rattle.ot_pairpos.proofs.Slots.{slot-of-one, slot-of-two}
 use borrow.Author.Needs.{needs}
 use Rattle.ot_pairpos.proofs.is_slot.Statement.{statement}

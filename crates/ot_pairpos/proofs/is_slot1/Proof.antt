@@ -1,4 +1,4 @@
--- `pair_pos::is_slot1` meets its contract: at the coverage, or at an even distance from the header. Assumes nothing.
+-- `ot_pairpos::is_slot1` meets its contract: at the coverage, or at an even distance from the header. Assumes nothing.
 use Rattle.ot_pairpos.proofs.Slots.{slot1-head, slot1-low, slot1-item}
 use Rattle.ot_pairpos.proofs.is_slot1.Statement.{statement}
 use Rattle.ot_pairpos.proofs.is_slot1.Tie as tie

@@ -1,4 +1,4 @@
--- `pair_pos::is_slot2` meets its contract: at a link of the header, or at a device of a value record. Assumes nothing.
+-- `ot_pairpos::is_slot2` meets its contract: at a link of the header, or at a device of a value record. Assumes nothing.
 use mathlib.Core.Path.{sym, ap, ap₂, _∙_}
 use mathlib.Core.List.{List}
 use Prim.Native.Nat.{ℕ, _-_, _%_}

@@ -1,4 +1,4 @@
--- `pair_pos::objects_per_table` meets its contract: each answer by the test that led to it. Assumes nothing.
+-- `ot_pairpos::objects_per_table` meets its contract: each answer by the test that led to it. Assumes nothing.
 use borrow.Author.Tests.{eq-eqb, ne-eqb}
 use Rattle.ot_pairpos.proofs.objects_per_table.Statement.{statement}
 use Rattle.ot_pairpos.proofs.objects_per_table.Tie as tie

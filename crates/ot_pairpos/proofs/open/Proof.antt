@@ -1,4 +1,4 @@
--- `pair_pos::open` meets its contract: by format. Assumes nothing.
+-- `ot_pairpos::open` meets its contract: by format. Assumes nothing.
 use native.Mathlib.Omega.{arith}
 use Rattle.ot_pairpos.proofs.Opening.{no-format, other-format}
 use borrow.Author.Needs.{needs}

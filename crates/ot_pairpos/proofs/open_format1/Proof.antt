@@ -1,4 +1,4 @@
--- `pair_pos::open_format1` meets its contract: the length is what the count asks for, or it is not. Assumes nothing.
+-- `ot_pairpos::open_format1` meets its contract: the length is what the count asks for, or it is not. Assumes nothing.
 use native.Mathlib.Omega.{arith}
 use Rattle.ot_pairpos.proofs.Opening.{bad-format1, opened-format1}
 use borrow.Author.Needs.{needs}

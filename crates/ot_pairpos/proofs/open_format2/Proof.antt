@@ -1,4 +1,4 @@
--- `pair_pos::open_format2` meets its contract: the length is what rows and columns ask for, or it is not. Assumes nothing.
+-- `ot_pairpos::open_format2` meets its contract: the length is what rows and columns ask for, or it is not. Assumes nothing.
 use native.Mathlib.Omega.{arith}
 use Rattle.ot_pairpos.proofs.Opening.{short-format2, bad-format2, opened-format2, rows-fit}
 use borrow.Author.Needs.{needs}

@@ -1,4 +1,4 @@
--- `pair_pos::record_size` meets its contract: a format has at most eight fields. Assumes nothing.
+-- `ot_pairpos::record_size` meets its contract: a format has at most eight fields. Assumes nothing.
 use native.Mathlib.Omega.{arith}
 use Rattle.ot_layouts.proofs.Values.{fieldCount-le}
 use borrow.Author.Needs.{needs}

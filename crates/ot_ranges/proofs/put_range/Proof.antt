@@ -1,4 +1,4 @@
--- `ranges::put_range` meets its contract: three numbers are written, one behind the other. Assumes nothing.
+-- `ot_ranges::put_range` meets its contract: three numbers are written, one behind the other. Assumes nothing.
 use borrow.Author.Needs.{needs}
 use Prim.Native.Nat.{ℕ, _+_, _≤_}
 use mathlib.Core.Path.{_≡_, refl}
@@ -18,7 +18,10 @@ unfolding be16
 three d a x y z l p q r = put-then d a _ (a + 4) _ (put-then d a _ (a + 2) _ p q refl (omega arith)) r refl (omega arith)
 
 returns : tie.Need-returns
-returns c = three _ _ _ _ _ (c .before .before .before .before .before .before .before .before .before .before .before .before .before .pre) (c .before .before .before .before .before .before .before .before .before .before .put-u16 .ensures) (c .before .before .before .before .before .before .put-u162 .ensures) (c .before .before .put-u163 .ensures)
+returns c =
+    let after-put-u16 = c .before .before .before .before .before .before .before .before .before .before in
+    let start = after-put-u16 .before .before .before in
+    three _ _ _ _ _ (start .pre) (after-put-u16 .put-u16 .ensures) (c .before .before .before .before .before .before .put-u162 .ensures) (c .before .before .put-u163 .ensures)
 
 pub put-range-spec : {M : Type 1} → statement M
 put-range-spec =

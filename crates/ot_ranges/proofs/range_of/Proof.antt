@@ -1,4 +1,4 @@
--- `ranges::range_of` meets its contract: what halving knows of the ranges on either side decides where the glyph is. Assumes nothing.
+-- `ot_ranges::range_of` meets its contract: what halving knows of the ranges on either side decides where the glyph is. Assumes nothing.
 use borrow.Author.Needs.{needs}
 use Prim.Native.Nat.{ℕ, _-_, _≤_, _<_}
 use mathlib.Core.Path.{_≡_}

@@ -1,4 +1,4 @@
--- `ranges::ranges_fit` meets its contract: the ranges passed rise, and the first that does not decides. Assumes nothing.
+-- `ot_ranges::ranges_fit` meets its contract: the ranges passed rise, and the first that does not decides. Assumes nothing.
 use borrow.Author.Needs.{needs}
 use Prim.Native.Nat.{ℕ, _+_, _*_, _-_, _≤_, _<_}
 use mathlib.Core.Path.{_≡_, sym, ap, _∙_}

@@ -1,4 +1,4 @@
--- `value_format::field_count` meets its contract: the mask keeps the table's eight bits, and their ones are the fields before its end.
+-- `ot_values::field_count` meets its contract: the mask keeps the table's eight bits, and their ones are the fields before its end.
 -- Assumes nothing.
 use mathlib.Core.Path.{_∙_}
 use native.Mathlib.Omega.{arith}

@@ -1,4 +1,4 @@
--- `value_format::has_field` meets its contract: the row's mask is one bit, and the format keeps it or not. Assumes nothing.
+-- `ot_values::has_field` meets its contract: the row's mask is one bit, and the format keeps it or not. Assumes nothing.
 use borrow.Author.Needs.{needs}
 use mathlib.Core.Path.{ap, _∙_}
 use Rattle.ot_layouts.specs.declared.Field.{Field}

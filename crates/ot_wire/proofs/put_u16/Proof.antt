@@ -1,4 +1,4 @@
--- `wire::put_u16` meets its contract: two bytes are written, one behind the other. Assumes nothing.
+-- `ot_wire::put_u16` meets its contract: two bytes are written, one behind the other. Assumes nothing.
 use Rattle.folds.proofs.Put.{put-two}
 use Rattle.ot_layouts.specs.Numbers.{be16}
 use borrow.Author.Needs.{needs}

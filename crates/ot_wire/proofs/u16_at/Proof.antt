@@ -1,4 +1,4 @@
--- `wire::u16_at` meets its contract: two bytes make a number that fits sixteen bits. Assumes nothing.
+-- `ot_wire::u16_at` meets its contract: two bytes make a number that fits sixteen bits. Assumes nothing.
 use borrow.Author.Needs.{needs}
 use mathlib.Core.Path.{refl}
 use Prim.Native.Nat.{_+_}

@@ -1,4 +1,4 @@
--- `checks::check_parts` meets its contract: by the coverage, then by format. Assumes nothing.
+-- `pair_checks::check_parts` meets its contract: by the coverage, then by format. Assumes nothing.
 use Rattle.ot_layouts.specs.Coverage.{coverageOf}
 use Rattle.store_rules.specs.Store.{lent, bytesOf}
 use Rattle.pair_checks.proofs.Deciding.{part-read, part-inside, no-coverage, as-sets, as-rows}
@@ -22,17 +22,23 @@ glyphs-of-requires c κs =
 
 returns-2 : tie.Need-returns-2
 returns-2 c =
-    let a = c .before .before .before .before .before .before .before .before .before .before .before .args in
-    as-sets (lent (a .«data» .now) (a .objects .now) (a .links .now) (a .counts .now)) (a .table) (a .layout) (c .before .before .before .before .before .before .before .linked-coverage .ensures) (c .before .before .before .before .before .linked .given .1) (c .before .if1 .taken)
+    let after-linked-coverage = c .before .before .before .before .before .before .before in
+    let start = after-linked-coverage .before .before .before .before in
+    let a = start .args in
+    as-sets (lent (a .«data» .now) (a .objects .now) (a .links .now) (a .counts .now)) (a .table) (a .layout) (after-linked-coverage .linked-coverage .ensures) (c .before .before .before .before .before .linked .given .1) (c .before .if1 .taken)
     (c .check-sets .ensures (lent (a .«data» .now) (a .objects .now) (a .links .now) (a .counts .now)) (c .before .before .before .glyphs-of .ensures (a .links .now) (a .counts .now)))
 
 check-rows-requires : tie.Need-check-rows-requires
-check-rows-requires c κs = let a = c .before .before .before .before .before .before .before .before .before .before .args in (c .before .before .before .before .before .before .before .before .before .before .pre, c .before .before .glyphs-of .ensures (a .links .now) (a .counts .now))
+check-rows-requires c κs =
+    let start = c .before .before .before .before .before .before .before .before .before .before in
+    let a = start .args in (start .pre, c .before .before .glyphs-of .ensures (a .links .now) (a .counts .now))
 
 returns-3 : tie.Need-returns-3
 returns-3 c =
-    let a = c .before .before .before .before .before .before .before .before .before .before .before .args in
-    as-rows (lent (a .«data» .now) (a .objects .now) (a .links .now) (a .counts .now)) (a .table) (a .layout) (c .before .before .before .before .before .before .before .linked-coverage .ensures) (c .before .before .before .before .before .linked .given .1) (c .before .if1 .left) (c .check-rows .ensures)
+    let after-linked-coverage = c .before .before .before .before .before .before .before in
+    let start = after-linked-coverage .before .before .before .before in
+    let a = start .args in
+    as-rows (lent (a .«data» .now) (a .objects .now) (a .links .now) (a .counts .now)) (a .table) (a .layout) (after-linked-coverage .linked-coverage .ensures) (c .before .before .before .before .before .linked .given .1) (c .before .if1 .left) (c .check-rows .ensures)
 
 pub check-parts-spec : {M : Type 1} → statement M
 check-parts-spec =

@@ -1,4 +1,4 @@
--- `checks::check_sets` meets its contract: the glyphs are counted. Assumes nothing.
+-- `pair_checks::check_sets` meets its contract: the glyphs are counted. Assumes nothing.
 use Rattle.pair_checks.proofs.Deciding.{too-few, enough}
 use borrow.Author.Needs.{needs}
 use Rattle.pair_checks.proofs.check_sets.Statement.{statement}

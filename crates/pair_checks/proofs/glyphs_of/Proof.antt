@@ -1,4 +1,4 @@
--- `checks::glyphs_of` meets its contract: the coverage was read. Assumes nothing.
+-- `pair_checks::glyphs_of` meets its contract: the coverage was read. Assumes nothing.
 use mathlib.Core.Path.{_∙_, ap}
 use mathlib.Core.List.{List, []}
 use Prim.Native.Nat.{ℕ}

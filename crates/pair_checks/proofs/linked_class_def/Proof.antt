@@ -1,4 +1,4 @@
--- `checks::linked_class_def` meets its contract: by the link, and by what reading the object answers. Assumes nothing.
+-- `pair_checks::linked_class_def` meets its contract: by the link, and by what reading the object answers. Assumes nothing.
 use Rattle.ot_layouts.specs.ClassDef.{classDefOf}
 use Rattle.store_rules.specs.Store.{lent}
 use Rattle.pair_checks.proofs.Linking.{rows-in-order, no-child, child-inside, child-read, child-unread}
@@ -26,15 +26,17 @@ bytes-of-requires c κs =
 
 returns-2 : tie.Need-returns-2
 returns-2 c =
-    let start = c .before .before .before .before .before .before .before .before .before .before .before .before in
+    let after-child-at = c .before .before .before .before .before .before .before .before in
+    let start = after-child-at .before .before .before .before in
     let a = start .args in
-    child-read classDefOf (lent (a .«data» .now) (a .objects .now) (a .links .now) (a .counts .now)) (a .table) (a .position) (c .before .before .before .before .before .before .before .before .child-at .ensures (a .«data» .now) (a .objects .now)) (c .before .before .before .before .before .before .child .given .1) (c .before .before .before .before .bytes-of .ensures (a .links .now) (a .counts .now)) (c .before .before .before .read-class-def .ensures) (c .before .reading .given .1)
+    child-read classDefOf (lent (a .«data» .now) (a .objects .now) (a .links .now) (a .counts .now)) (a .table) (a .position) (after-child-at .child-at .ensures (a .«data» .now) (a .objects .now)) (c .before .before .before .before .before .before .child .given .1) (c .before .before .before .before .bytes-of .ensures (a .links .now) (a .counts .now)) (c .before .before .before .read-class-def .ensures) (c .before .reading .given .1)
 
 returns-3 : tie.Need-returns-3
 returns-3 c =
-    let start = c .before .before .before .before .before .before .before .before .before .before .before in
+    let after-child-at = c .before .before .before .before .before .before .before in
+    let start = after-child-at .before .before .before .before in
     let a = start .args in
-    child-unread classDefOf (lent (a .«data» .now) (a .objects .now) (a .links .now) (a .counts .now)) (a .table) (a .position) (c .before .before .before .before .before .before .before .child-at .ensures (a .«data» .now) (a .objects .now)) (c .before .before .before .before .before .child .given .1) (c .before .before .before .bytes-of .ensures (a .links .now) (a .counts .now)) (c .before .before .read-class-def .ensures) (c .enum-told2 .given .1)
+    child-unread classDefOf (lent (a .«data» .now) (a .objects .now) (a .links .now) (a .counts .now)) (a .table) (a .position) (after-child-at .child-at .ensures (a .«data» .now) (a .objects .now)) (c .before .before .before .before .before .child .given .1) (c .before .before .before .bytes-of .ensures (a .links .now) (a .counts .now)) (c .before .before .read-class-def .ensures) (c .enum-told2 .given .1)
 
 pub linked-class-def-spec : {M : Type 1} → statement M
 linked-class-def-spec =

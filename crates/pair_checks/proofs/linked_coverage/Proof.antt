@@ -1,4 +1,4 @@
--- `checks::linked_coverage` meets its contract: by the link, and by what reading the object answers. Assumes nothing.
+-- `pair_checks::linked_coverage` meets its contract: by the link, and by what reading the object answers. Assumes nothing.
 use Rattle.ot_layouts.specs.Coverage.{coverageOf}
 use Rattle.store_rules.specs.Store.{lent}
 use Rattle.pair_checks.proofs.Linking.{rows-in-order, no-child, child-inside, child-read, child-unread}
@@ -26,15 +26,17 @@ bytes-of-requires c κs =
 
 returns-2 : tie.Need-returns-2
 returns-2 c =
-    let start = c .before .before .before .before .before .before .before .before .before .before .before .before in
+    let after-child-at = c .before .before .before .before .before .before .before .before in
+    let start = after-child-at .before .before .before .before in
     let a = start .args in
-    child-read coverageOf (lent (a .«data» .now) (a .objects .now) (a .links .now) (a .counts .now)) (a .table) 2 (c .before .before .before .before .before .before .before .before .child-at .ensures (a .«data» .now) (a .objects .now)) (c .before .before .before .before .before .before .child .given .1) (c .before .before .before .before .bytes-of .ensures (a .links .now) (a .counts .now)) (c .before .before .before .read-coverage .ensures) (c .before .reading .given .1)
+    child-read coverageOf (lent (a .«data» .now) (a .objects .now) (a .links .now) (a .counts .now)) (a .table) 2 (after-child-at .child-at .ensures (a .«data» .now) (a .objects .now)) (c .before .before .before .before .before .before .child .given .1) (c .before .before .before .before .bytes-of .ensures (a .links .now) (a .counts .now)) (c .before .before .before .read-coverage .ensures) (c .before .reading .given .1)
 
 returns-3 : tie.Need-returns-3
 returns-3 c =
-    let start = c .before .before .before .before .before .before .before .before .before .before .before in
+    let after-child-at = c .before .before .before .before .before .before .before in
+    let start = after-child-at .before .before .before .before in
     let a = start .args in
-    child-unread coverageOf (lent (a .«data» .now) (a .objects .now) (a .links .now) (a .counts .now)) (a .table) 2 (c .before .before .before .before .before .before .before .child-at .ensures (a .«data» .now) (a .objects .now)) (c .before .before .before .before .before .child .given .1) (c .before .before .before .bytes-of .ensures (a .links .now) (a .counts .now)) (c .before .before .read-coverage .ensures) (c .enum-told2 .given .1)
+    child-unread coverageOf (lent (a .«data» .now) (a .objects .now) (a .links .now) (a .counts .now)) (a .table) 2 (after-child-at .child-at .ensures (a .«data» .now) (a .objects .now)) (c .before .before .before .before .before .child .given .1) (c .before .before .before .bytes-of .ensures (a .links .now) (a .counts .now)) (c .before .before .read-coverage .ensures) (c .enum-told2 .given .1)
 
 pub linked-coverage-spec : {M : Type 1} → statement M
 linked-coverage-spec =

@@ -1,4 +1,4 @@
--- `link_rows::keep_row` meets its contract: the child is the only number that changes. Assumes nothing.
+-- `pair_links::keep_row` meets its contract: the child is the only number that changes. Assumes nothing.
 use native.Mathlib.Omega.{arith}
 use borrow.Author.Needs.{needs}
 use Rattle.pair_links.proofs.Keeping.{kept-own, kept-other}
@@ -6,10 +6,10 @@ use Rattle.pair_links.proofs.keep_row.Statement.{statement}
 use Rattle.pair_links.proofs.keep_row.Tie as tie
 
 returns : tie.Need-returns
-returns c = kept-own _ _ _ _ _ (omega arith) (c .before .before .before .if1 .taken) (c .kept-child .ensures)
+returns c = kept-own _ _ _ _ _ _ (omega arith) (c .before .before .before .if1 .taken) (c .kept-child .ensures)
 
 returns-2 : tie.Need-returns-2
-returns-2 c = kept-other _ _ _ _ (omega arith) (c .if1 .left)
+returns-2 c = kept-other _ _ _ _ _ (omega arith) (c .if1 .left)
 
 pub keep-row-spec : {M : Type 1} → statement M
 keep-row-spec =

@@ -1,4 +1,4 @@
--- `link_rows::move_up` meets its contract: rows move from the last on, so that none is written over before it is read. Assumes nothing.
+-- `pair_links::move_up` meets its contract: rows move from the last on, so that none is written over before it is read. Assumes nothing.
 use borrow.Author.Needs.{needs}
 use Prim.Native.Nat.{_+_, _-_, _*_}
 use native.Mathlib.Omega.{arith}
@@ -23,11 +23,16 @@ returns : tie.Need-returns Inv-loop μ-loop
 returns c = up-stop _ _ _ _ _ _ _ _ _ _ (c .before .before .before .loop .inv) (c .before .before .loop-test .taken) (c .if1 .taken)
 
 cast-put-row : tie.Need-cast-put-row Inv-loop μ-loop
-cast-put-row c = omega (arith, c .before .before .before .before .slice-known2 .given (4 * (c .before .before .before .before .before .before .before .before .args .q + c .before .before .before .before .before .before .loop .left - 1) + 1))
+cast-put-row c =
+    let start = c .before .before .before .before .before .before .before .before in
+    omega (arith, c .before .before .before .before .slice-known2 .given (4 * (start .args .q + c .before .before .before .before .before .before .loop .left - 1) + 1))
 
 loop-again : tie.Need-loop-again Inv-loop μ-loop
 unfolding movedRow
-loop-again c = up-turn _ _ _ _ _ _ _ _ _ _ (c .before .before .before .before .before .before .before .before .before .loop .inv) _ (c .before .before .before .before .before .before .before .before .loop-test .taken) (c .before .before .before .before .before .before .if1 .left) (c .before .before .put-row .kept .0) (c .before .before .put-row .ensures)
+loop-again c =
+    let in-loop = c .before .before .before .before .before .before .before .before in
+    let at-loop = in-loop .before in
+    up-turn _ _ _ _ _ _ _ _ _ _ (at-loop .loop .inv) _ (in-loop .loop-test .taken) (c .before .before .before .before .before .before .if1 .left) (c .before .before .put-row .kept .0) (c .before .before .put-row .ensures)
 
 returns-2 : tie.Need-returns-2 Inv-loop μ-loop
 returns-2 c = up-all _ _ _ _ _ _ _ _ _ _ (c .before .loop .inv) (c .loop-test .left)

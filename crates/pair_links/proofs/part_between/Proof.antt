@@ -1,48 +1,49 @@
--- `link_rows::part_between` meets its contract: the rows that are cut off are parted, and then the rows that stay are led to the kept table's new objects.
+-- `pair_links::part_between` meets its contract: the rows that are cut off are parted, and then the rows that stay are led to the kept table's new objects.
 -- Assumes nothing.
 use native.Mathlib.Omega.{arith}
-use Rattle.store_rules.specs.Store.{lent}
-use mathlib.Core.List.{[]}
-use Rattle.pair_links.specs.Parting.{shapeWith}
-use Rattle.pair_links.proofs.Parting.{Ready, ready}
+use Rattle.pair_links.proofs.Parting.{ready}
 use Rattle.pair_links.proofs.Finishing.{parted-call}
 use borrow.Author.Needs.{needs}
 use Rattle.pair_links.proofs.part_between.Statement.{statement}
 use Rattle.pair_links.proofs.part_between.Tie as tie
 
-known : (c : tie.After-objects-per-table)
-    → Ready (lent [] [] (c .before .before .before .before .before .args .links .now) (c .before .before .before .before .before .args .counts .now)) (shapeWith (c .before .before .before .before .before .args .layout)) (c .before .before .before .before .before .args .cuts .now) (c .before .before .before .before .before .args .first) (c .before .before .before .before .before .args .after) (c .before .before .before .before .before .args .class2) (c .objects-per-table .result)
-known c = ready _ _ _ _ _ _ _ _ (c .before .before .before .before .before .pre) (c .objects-per-table .ensures)
+add-first-kept : tie.Need-add-first-kept
+add-first-kept c = omega (arith, ready _ _ _ _ _ _ _ (c .before .before .before .before .before .pre))
+
+mul-first-kept : tie.Need-mul-first-kept
+mul-first-kept c = omega (arith, ready _ _ _ _ _ _ _ (c .before .before .before .before .before .pre))
+
+add-first-kept-2 : tie.Need-add-first-kept-2
+add-first-kept-2 c = omega (arith, ready _ _ _ _ _ _ _ (c .before .before .before .before .before .pre))
 
 part-rows-requires : tie.Need-part-rows-requires
-part-rows-requires c κs = let r = known (c .before) in (r .fits, ((r .few, r .used, r .room), (r .order, r .bottom)))
-
-mul-keep-rows : tie.Need-mul-keep-rows
-mul-keep-rows c = omega (arith, known (c .before .before .before .before .before))
-
-add-keep-rows : tie.Need-add-keep-rows
-add-keep-rows c = omega (arith, known (c .before .before .before .before .before))
+part-rows-requires c κs = let r = ready _ _ _ _ _ _ _ (c .before .before .before .before .before .before .pre) in (r .fits, ((r .ends, r .used, r .room), (r .order, r .bottom)))
 
 cast-keep-rows : tie.Need-cast-keep-rows
-cast-keep-rows c = omega (arith, known (c .before .before .before .before .before))
+cast-keep-rows c =
+    let start = c .before .before .before .before .before .before .before .before .before .before in
+    omega (arith, ready _ _ _ _ _ _ _ (start .pre))
 
 keep-rows-requires : tie.Need-keep-rows-requires
-keep-rows-requires c κs = let r = known (c .before .before .before .before .before) in (omega (arith, r), r .numbers)
+keep-rows-requires c κs =
+    let start = c .before .before .before .before .before .before .before .before .before .before in
+    let r = ready _ _ _ _ _ _ _ (start .pre) in (omega (arith, r), r .numbers)
 
 mul-result : tie.Need-mul-result
-mul-result c = omega (arith, known (c .before .before .before .before .before .before .before .before))
-
-sub-result : tie.Need-sub-result
-sub-result c = omega (arith, known (c .before .before .before .before .before .before .before .before))
-
-mul-result-2 : tie.Need-mul-result-2
-mul-result-2 c = omega (arith, known (c .before .before .before .before .before .before .before .before))
+mul-result c =
+    let start = c .before .before .before .before .before .before .before .before .before .before .before .before .before .before in
+    omega (arith, ready _ _ _ _ _ _ _ (start .pre))
 
 add-result : tie.Need-add-result
-add-result c = omega (arith, known (c .before .before .before .before .before .before .before .before))
+add-result c =
+    let start = c .before .before .before .before .before .before .before .before .before .before .before .before .before .before in
+    omega (arith, ready _ _ _ _ _ _ _ (start .pre))
 
 returns : tie.Need-returns
-returns c = parted-call _ (c .before .before .before .before .before .before .before .before .before .before .before .before .before .args .counts .now) _ _ _ _ _ _ _ (c .before .before .before .before .before .before .before .before .before .before .before .before .before .pre) (c .before .before .before .before .before .before .before .before .objects-per-table .ensures) _ _ (c .before .before .before .before .before .before .part-rows .ensures) (c .before .before .keep-rows .ensures)
+returns c =
+    let after-part-rows = c .before .before .before .before .before .before .before in
+    let start = after-part-rows .before .before .before .before .before .before .before in
+    parted-call _ (start .args .counts .now) _ _ _ _ _ _ (start .pre) _ _ (after-part-rows .part-rows .ensures) (c .before .before .before .keep-rows .ensures)
 
 pub part-between-spec : {M : Type 1} → statement M
 part-between-spec =
@@ -52,17 +53,15 @@ part-between-spec =
     (λ c. search needs)
     (λ c. search needs)
     (λ c. search needs)
-    (λ c κs. search needs)
+    add-first-kept
+    mul-first-kept
+    add-first-kept-2
     part-rows-requires
     (λ c. search needs)
     (λ c. search needs)
-    mul-keep-rows
-    add-keep-rows
     cast-keep-rows
     keep-rows-requires
     mul-result
-    sub-result
-    mul-result-2
     add-result
     (λ c. search needs)
     returns)

@@ -1,4 +1,4 @@
--- `link_rows::part_links` meets its contract: the rows of the items that are cut off are found by two searches. Assumes nothing.
+-- `pair_links::part_links` meets its contract: the rows of the items that are cut off are found by two searches. Assumes nothing.
 use native.Mathlib.Omega.{arith}
 use Rattle.pair_links.proofs.Parting.{start-short, between}
 use borrow.Author.Needs.{needs}
@@ -15,11 +15,15 @@ add-start : tie.Need-add-start
 add-start c = omega (arith, start-short _ _ _ _ _ (c .before .before .before .before .before .before .pre))
 
 cast-first-row : tie.Need-cast-first-row
-cast-first-row c = omega (arith, start-short _ _ _ _ _ (c .before .before .before .before .before .before .before .before .before .before .pre))
+cast-first-row c =
+    let start = c .before .before .before .before .before .before .before .before .before .before in
+    omega (arith, start-short _ _ _ _ _ (start .pre))
 
 part-between-requires : tie.Need-part-between-requires
 part-between-requires c κs =
-    between _ _ _ _ _ (c .before .before .before .before .before .before .before .before .before .before .before .before .before .before .pre) _ _ (λ i. c .before .before .before .before .before .before .before .before .before .before .before .before .before .slice-known .given i .fits) (c .before .before .before .first-row .ensures) (c .before .first-row2 .ensures)
+    let after-slice-known = c .before .before .before .before .before .before .before .before .before .before .before .before .before in
+    let start = after-slice-known .before in
+    between _ _ _ _ _ (start .pre) _ _ (λ i. after-slice-known .slice-known .given i .fits) (c .before .before .before .first-row .ensures) (c .before .first-row2 .ensures)
 
 pub part-links-spec : {M : Type 1} → statement M
 part-links-spec =

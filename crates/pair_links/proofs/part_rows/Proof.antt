@@ -1,4 +1,4 @@
--- `link_rows::part_rows` meets its contract: the rows that move are the same rows behind the others. Assumes nothing.
+-- `pair_links::part_rows` meets its contract: the rows that move are the same rows behind the others. Assumes nothing.
 use Prim.Native.Nat.{_-_, _*_, _≤_}
 use lib.ListN.{length}
 use native.Mathlib.Omega.{arith}
@@ -9,8 +9,9 @@ use Rattle.pair_links.proofs.part_rows.Tie as tie
 
 spread-requires : tie.Need-spread-requires
 spread-requires c κs =
-    let pre = c .before .before .before .before .before .before .before .pre in
-    let l : 4 * c .before .before .before .before .before .before .before .args .m ≤ length (c .before .before .before .before .before .before .before .args .links .now) = omega (arith, pre) in (
+    let start = c .before .before .before .before .before .before .before in
+    let pre = start .pre in
+    let l : 4 * start .args .m ≤ length (start .args .links .now) = omega (arith, pre) in (
       pre .0,
       (
         omega (arith, pre),
@@ -23,8 +24,9 @@ spread-requires c κs =
 
 returns : tie.Need-returns
 returns c =
-    let pre = c .before .before .before .before .before .before .before .before .before .before .pre in
-    let l : 4 * c .before .before .before .before .before .before .before .before .before .before .args .m ≤ length (c .before .before .before .before .before .before .before .before .before .before .args .links .now) = omega (arith, pre) in
+    let start = c .before .before .before .before .before .before .before .before .before .before in
+    let pre = start .pre in
+    let l : 4 * start .args .m ≤ length (start .args .links .now) = omega (arith, pre) in
     parted-done _ _ _ _ (pre .1 .0 .0) (pre .1 .0 .1) l _ (c .before .before .before .before .before .before .rotate-rows .ensures) _ _ (pre .1 .0 .2) (c .before .before .spread .ensures)
 
 pub part-rows-spec : {M : Type 1} → statement M

@@ -1,76 +1,85 @@
--- `link_rows::spread` meets its contract: from the last table on, the rows from `at` on are those of the tables from j on. Assumes nothing.
+-- `pair_links::spread` meets its contract: from the last table on, the rows from `at` on are those of the tables from j on. Assumes nothing.
 use borrow.Author.Needs.{needs}
 use mathlib.Core.Path.{_∙_}
 use Prim.Native.Nat.{_-_}
 use native.Mathlib.Omega.{arith}
+use Rattle.ot_pairpos.proofs.Layouts.{few-heads}
 use Rattle.pair_links.specs.Blocks.{plan}
-use Rattle.pair_links.proofs.Spreading.{Given, At, at-start, at-done, at-turn, Numbers, numbers}
+use Rattle.pair_links.proofs.Spreading.{At, at-start, at-done, at-turn, Numbers, numbers}
 use Rattle.pair_links.proofs.spread.Statement.{statement}
 use Rattle.pair_links.proofs.spread.Tie as tie
 
 abbrev Inv-loop : tie.InvT-loop
-Inv-loop links₀ q m cuts header item first per-table class2 j₀ left₀ at₀ table₀ links j left at table = At links₀ q m (plan cuts header item first per-table class2) links j left at table
+Inv-loop links₀ q m cuts layout first class2 j₀ left₀ at₀ table₀ links j left at table =
+    At links₀ q m (plan cuts layout first class2) links j left at table
 
 abbrev μ-loop : tie.MeasureT-loop
-μ-loop links₀ q m cuts header item first per-table class2 j₀ left₀ at₀ table₀ links j left at table = j
+μ-loop links₀ q m cuts layout first class2 j₀ left₀ at₀ table₀ links j left at table = j
 
-given : (c : tie.After-shared-slice-known Inv-loop μ-loop) → Given (c .before .before .args .links .now) (c .before .before .args .q) (c .before .before .args .m) (plan (c .before .before .args .cuts .now) (c .before .before .args .header) (c .before .before .args .item) (c .before .before .args .first) (c .before .before .args .per-table) (c .before .before .args .class2))
-given c =
-    record {
-      fit = c .before .before .pre .0;
-      some = c .before .before .pre .1 .0 .0;
-      room = c .before .before .pre .1 .0 .1;
-      ordered = c .before .before .pre .1 .1 .0;
-      floor = c .before .before .pre .1 .1 .1;
-    }
-
-turn : (c : tie.In-loop Inv-loop μ-loop) → Numbers (c .before .before .before .before .args .links .now) (plan (c .before .before .before .before .args .cuts .now) (c .before .before .before .before .args .header) (c .before .before .before .before .args .item) (c .before .before .before .before .args .first) (c .before .before .before .before .args .per-table) (c .before .before .before .before .args .class2)) (c .before .before .before .before .args .q) (c .before .loop .left) (c .before .loop .at) (c .before .loop .table) (c .before .loop .j - 1)
+turn : (c : tie.In-loop Inv-loop μ-loop)
+    → Numbers (c .before .before .before .before .before .before .args .links .now) (plan (c .before .before .before .before .before .before .args .cuts .now) (c .before .before .before .before .before .before .args .layout) (c .before .before .before .before .before .before .args .first) (c .before .before .before .before .before .before .args .class2))
+    (c .before .before .before .before .before .before .args .q) (c .before .loop .left) (c .before .loop .at) (c .before .loop .table) (c .before .loop .j - 1)
 turn c = numbers _ _ _ _ _ _ _ _ _ (c .before .loop .inv) (c .before .loop .j - 1) (omega arith)
 
+add-table : tie.Need-add-table Inv-loop μ-loop
+add-table c = omega (arith, few-heads _ (c .before .before .before .before .pre .0 .numbered))
+
 loop-holds : tie.Need-loop-holds Inv-loop μ-loop
-loop-holds c = at-start _ _ _ _ (given c) (λ i. c .before .slice-known .given i .fits)
+loop-holds c =
+    let pre = c .before .before .before .before .pre in
+    at-start _ _ _ _
+    (record { fit = pre .0; some = pre .1 .0 .0; room = pre .1 .0 .1; ordered = pre .1 .1 .0; floor = pre .1 .1 .1 })
+    (λ i. c .before .before .before .slice-known .given i .fits)
+
+add-table-3 : tie.Need-add-table-3 Inv-loop μ-loop
+add-table-3 c = omega (arith, turn (c .before))
 
 sub-table : tie.Need-sub-table Inv-loop μ-loop
-sub-table c = omega (arith, turn c)
+sub-table c = omega (arith, turn (c .before))
 
 cast-down : tie.Need-cast-down Inv-loop μ-loop
-cast-down c = omega (arith, c .shared-slice-known2 .given (c .before .before .loop .j - 1))
+cast-down c = omega (arith, c .shared-slice-known2 .given (c .before .before .before .loop .j - 1))
 
 mul-down-2 : tie.Need-mul-down-2 Inv-loop μ-loop
-mul-down-2 c = omega (arith, turn (c .before))
+mul-down-2 c = omega (arith, turn (c .before .before .before))
 
 add-move-up : tie.Need-add-move-up Inv-loop μ-loop
-add-move-up c = omega (arith, turn (c .before .before))
+add-move-up c = omega (arith, turn (c .before .before .before .before .before))
 
 cast-move-up : tie.Need-cast-move-up Inv-loop μ-loop
-cast-move-up c = omega (arith, turn (c .before .before))
+cast-move-up c = omega (arith, turn (c .before .before .before .before .before))
 
 move-up-requires : tie.Need-move-up-requires Inv-loop μ-loop
-move-up-requires c κs = omega (arith, turn (c .before .before))
+move-up-requires c κs = omega (arith, turn (c .before .before .before .before .before))
 
 sub-at-2 : tie.Need-sub-at-2 Inv-loop μ-loop
-sub-at-2 c = omega (arith, turn (c .before .before .before .before .before), c .before .before .move-up .ensures .few)
+sub-at-2 c =
+    let place = c .before .before .before .before .before .before .before .before in
+    omega (arith, turn (place), c .before .before .move-up .ensures .few)
 
 sub-at-3 : tie.Need-sub-at-3 Inv-loop μ-loop
-sub-at-3 c = omega (arith, turn (c .before .before .before .before .before), c .before .before .move-up .ensures .few)
-
-mul-at-3 : tie.Need-mul-at-3 Inv-loop μ-loop
-mul-at-3 c = omega (arith, turn (c .before .before .before .before .before), c .before .before .move-up .ensures .few)
-
-sub-at-4 : tie.Need-sub-at-4 Inv-loop μ-loop
-sub-at-4 c = omega (arith, turn (c .before .before .before .before .before), c .before .before .move-up .ensures .few)
-
-sub-at-5 : tie.Need-sub-at-5 Inv-loop μ-loop
-sub-at-5 c = omega (arith, turn (c .before .before .before .before .before), c .before .before .move-up .ensures .few)
+sub-at-3 c =
+    let place = c .before .before .before .before .before .before .before .before .before in
+    omega (arith, turn (place), c .before .before .before .move-up .ensures .few)
 
 cast-put-heads : tie.Need-cast-put-heads Inv-loop μ-loop
-cast-put-heads c = omega (arith, turn (c .before .before .before .before .before .before))
+cast-put-heads c =
+    let place = c .before .before .before .before .before .before .before .before .before .before in
+    omega (arith, turn (place))
 
 put-heads-requires : tie.Need-put-heads-requires Inv-loop μ-loop
-put-heads-requires c κs = omega (arith, turn (c .before .before .before .before .before .before), c .before .before .before .move-up .ensures .few)
+put-heads-requires c κs =
+    let place = c .before .before .before .before .before .before .before .before .before .before in
+    let now = turn (place) in
+    (omega (arith, now, now .numbered .heads-is, c .before .before .before .before .move-up .ensures .few), omega (arith, now, now .numbered .own-is))
 
 loop-again : tie.Need-loop-again Inv-loop μ-loop
-loop-again c = at-turn _ _ _ _ _ _ _ _ _ (c .before .before .before .before .before .before .before .before .before .before .loop .inv) _ (omega (arith, c .before .before .before .before .before .before .before .before .before .loop-test .taken)) _ _ _ (c .before .before .before .before .before .before .move-up .ensures) (c .before .before .put-heads .kept .0 ∙ c .before .before .before .before .before .before .move-up .kept .0) (c .before .before .put-heads .ensures)
+loop-again c =
+    let after-move-up = c .before .before .before .before .before .before .before in
+    let in-loop = after-move-up .before .before .before .before .before .before in
+    let at-loop = in-loop .before in
+    at-turn _ _ _ _ _ _ _ _ _ (at-loop .loop .inv) _ (omega (arith, in-loop .loop-test .taken)) _ _ _ (after-move-up .move-up .ensures) (c .before .before .put-heads .kept .0 ∙ after-move-up .move-up .kept .0)
+    (c .before .before .put-heads .ensures)
 
 returns : tie.Need-returns Inv-loop μ-loop
 returns c = at-done _ _ _ _ _ _ _ _ _ (c .before .loop .inv) (omega arith)
@@ -84,12 +93,12 @@ spread-spec =
     (λ c. search needs)
     (λ c. search needs)
     (λ c. search needs)
-    (λ c. search needs)
-    (λ c. search needs)
+    add-table
     (λ c. search needs)
     (λ c. search needs)
     loop-holds
     (λ c. search needs)
+    add-table-3
     sub-table
     (λ c. search needs)
     (λ c. search needs)
@@ -98,11 +107,9 @@ spread-spec =
     add-move-up
     cast-move-up
     move-up-requires
+    (λ c. search needs)
     sub-at-2
     sub-at-3
-    mul-at-3
-    sub-at-4
-    sub-at-5
     cast-put-heads
     put-heads-requires
     (λ c. search needs)

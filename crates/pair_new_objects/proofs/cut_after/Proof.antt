@@ -1,4 +1,4 @@
--- `new_objects::cut_after` meets its contract: there is a cut behind j, or none. Assumes nothing.
+-- `pair_new_objects::cut_after` meets its contract: there is a cut behind j, or none. Assumes nothing.
 use Prim.Native.Nat.{_+_}
 use mathlib.Core.Path.{sym}
 use lib.ListN.{List·getD-eq-default}

@@ -1,4 +1,4 @@
--- `new_objects::new_length` meets its contract: the kept table's parts and the objects of the first i new tables are summed. Assumes nothing.
+-- `pair_new_objects::new_length` meets its contract: the kept table's parts and the objects of the first i new tables are summed. Assumes nothing.
 use borrow.Author.Needs.{needs}
 use native.Mathlib.Omega.{arith}
 use Prim.Native.Nat.{_-_}
@@ -16,10 +16,14 @@ abbrev μ-loop : tie.MeasureT-loop
 μ-loop glyphs classes cuts layout at₀ total₀ i₀ at total i = length cuts - i
 
 parts-length-requires : tie.Need-parts-length-requires Inv-loop μ-loop
-parts-length-requires c κs = (same-part _ _ _ _ (c .before .before .before .before .before .before .before .pre) 0 _ (omega arith) (c .before .before .part-end .ensures .inside), kept-beside _ _ _ _ (c .before .before .before .before .before .before .before .pre) _ (c .before .before .part-end .ensures))
+parts-length-requires c κs =
+    let start = c .before .before .before .before .before .before .before in
+    (same-part _ _ _ _ (start .pre) 0 _ (omega arith) (c .before .before .part-end .ensures .inside), kept-beside _ _ _ _ (start .pre) _ (c .before .before .part-end .ensures))
 
 loop-holds : tie.Need-loop-holds Inv-loop μ-loop
-loop-holds c = total-start _ _ _ _ (c .before .before .before .before .before .before .before .before .pre) _ _ (c .before .before .before .part-end .ensures) (c .parts-length .ensures)
+loop-holds c =
+    let start = c .before .before .before .before .before .before .before .before in
+    total-start _ _ _ _ (start .pre) _ _ (c .before .before .before .part-end .ensures) (c .parts-length .ensures)
 
 part-end-requires-2 : tie.Need-part-end-requires-2 Inv-loop μ-loop
 part-end-requires-2 c κs = c .before .before .before .loop .inv .halved .inside
@@ -28,25 +32,45 @@ parts-length-requires-2 : tie.Need-parts-length-requires-2 Inv-loop μ-loop
 parts-length-requires-2 c κs = turn-ready _ _ _ _ _ _ _ (c .before .before .before .before .before .before .loop .inv) (c .before .before .before .before .before .loop-test .taken) _ _ _ refl (c .before .before .before .cut-after .ensures) (c .before .before .part-end2 .ensures)
 
 sub-total : tie.Need-sub-total Inv-loop μ-loop
-sub-total c = omega (arith, turn-items _ _ _ _ _ _ _ (c .before .before .before .before .before .before .before .loop .inv) (c .before .before .before .before .before .before .loop-test .taken) _ _ _ _ refl (c .before .before .before .before .cut-after .ensures) (c .before .before .before .part-end2 .ensures) (c .parts-length2 .ensures))
+sub-total c =
+    let at-loop = c .before .before .before .before .before .before .before in
+    omega (arith, turn-items _ _ _ _ _ _ _ (at-loop .loop .inv) (c .before .before .before .before .before .before .loop-test .taken) _ _ _ _ refl (c .before .before .before .before .cut-after .ensures) (c .before .before .before .part-end2 .ensures) (c .parts-length2 .ensures))
 
 mul-total : tie.Need-mul-total Inv-loop μ-loop
-mul-total c = omega (arith, rows-small _ _ _ _ _ _ _ (c .before .before .before .before .before .before .before .before .loop .inv) (c .before .before .before .before .before .before .before .loop-test .taken) _ _ _ _ refl (c .before .before .before .before .before .cut-after .ensures) (c .before .before .before .before .part-end2 .ensures) (c .before .parts-length2 .ensures))
+mul-total c =
+    let in-loop = c .before .before .before .before .before .before .before in
+    let at-loop = in-loop .before in
+    omega (arith, rows-small _ _ _ _ _ _ _ (at-loop .loop .inv) (in-loop .loop-test .taken) _ _ _ _ refl (c .before .before .before .before .before .cut-after .ensures) (c .before .before .before .before .part-end2 .ensures) (c .before .parts-length2 .ensures))
 
 add-total : tie.Need-add-total Inv-loop μ-loop
-add-total c = omega (arith, turn-small _ _ _ _ _ _ _ (c .before .before .before .before .before .before .before .before .before .loop .inv) (c .before .before .before .before .before .before .before .before .loop-test .taken) _ _ _ _ refl (c .before .before .before .before .before .before .cut-after .ensures) (c .before .before .before .before .before .part-end2 .ensures) (c .before .before .parts-length2 .ensures))
+add-total c =
+    let in-loop = c .before .before .before .before .before .before .before .before in
+    let at-loop = in-loop .before in
+    omega (arith, turn-small _ _ _ _ _ _ _ (at-loop .loop .inv) (in-loop .loop-test .taken) _ _ _ _ refl (c .before .before .before .before .before .before .cut-after .ensures) (c .before .before .before .before .before .part-end2 .ensures) (c .before .before .parts-length2 .ensures))
 
 add-total-2 : tie.Need-add-total-2 Inv-loop μ-loop
-add-total-2 c = omega (arith, turn-small _ _ _ _ _ _ _ (c .before .before .before .before .before .before .before .before .before .loop .inv) (c .before .before .before .before .before .before .before .before .loop-test .taken) _ _ _ _ refl (c .before .before .before .before .before .before .cut-after .ensures) (c .before .before .before .before .before .part-end2 .ensures) (c .before .before .parts-length2 .ensures))
+add-total-2 c =
+    let in-loop = c .before .before .before .before .before .before .before .before in
+    let at-loop = in-loop .before in
+    omega (arith, turn-small _ _ _ _ _ _ _ (at-loop .loop .inv) (in-loop .loop-test .taken) _ _ _ _ refl (c .before .before .before .before .before .before .cut-after .ensures) (c .before .before .before .before .before .part-end2 .ensures) (c .before .before .parts-length2 .ensures))
 
 add-total-3 : tie.Need-add-total-3 Inv-loop μ-loop
-add-total-3 c = omega (arith, turn-fits _ _ _ _ _ _ _ (c .before .before .before .before .before .before .before .before .before .loop .inv) (c .before .before .before .before .before .before .before .before .loop-test .taken) _ _ _ _ refl (c .before .before .before .before .before .before .cut-after .ensures) (c .before .before .before .before .before .part-end2 .ensures) (c .before .before .parts-length2 .ensures))
+add-total-3 c =
+    let in-loop = c .before .before .before .before .before .before .before .before in
+    let at-loop = in-loop .before in
+    omega (arith, turn-fits _ _ _ _ _ _ _ (at-loop .loop .inv) (in-loop .loop-test .taken) _ _ _ _ refl (c .before .before .before .before .before .before .cut-after .ensures) (c .before .before .before .before .before .part-end2 .ensures) (c .before .before .parts-length2 .ensures))
 
 add-i : tie.Need-add-i Inv-loop μ-loop
-add-i c = omega (arith, next-few _ _ _ _ _ _ _ (c .before .before .before .before .before .before .before .before .before .loop .inv) (c .before .before .before .before .before .before .before .before .loop-test .taken))
+add-i c =
+    let in-loop = c .before .before .before .before .before .before .before .before in
+    let at-loop = in-loop .before in
+    omega (arith, next-few _ _ _ _ _ _ _ (at-loop .loop .inv) (in-loop .loop-test .taken))
 
 loop-again : tie.Need-loop-again Inv-loop μ-loop
-loop-again c = total-turn _ _ _ _ _ _ _ (c .before .before .before .before .before .before .before .before .before .loop .inv) (c .before .before .before .before .before .before .before .before .loop-test .taken) _ _ _ _ refl (c .before .before .before .before .before .before .cut-after .ensures) (c .before .before .before .before .before .part-end2 .ensures) (c .before .before .parts-length2 .ensures)
+loop-again c =
+    let in-loop = c .before .before .before .before .before .before .before .before in
+    let at-loop = in-loop .before in
+    total-turn _ _ _ _ _ _ _ (at-loop .loop .inv) (in-loop .loop-test .taken) _ _ _ _ refl (c .before .before .before .before .before .before .cut-after .ensures) (c .before .before .before .before .before .part-end2 .ensures) (c .before .before .parts-length2 .ensures)
 
 returns : tie.Need-returns Inv-loop μ-loop
 returns c = total-stop _ _ _ _ _ _ _ (c .before .loop .inv) (c .loop-test .left)

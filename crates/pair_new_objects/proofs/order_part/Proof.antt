@@ -1,11 +1,13 @@
--- `new_objects::order_part` meets its contract: the parts are lent, and back in order. Assumes nothing.
+-- `pair_new_objects::order_part` meets its contract: the parts are lent, and back in order. Assumes nothing.
 use Rattle.pair_new_objects.proofs.Ordering.{glyph-order-long, item-order-long, put-back}
 use borrow.Author.Needs.{needs}
 use Rattle.pair_new_objects.proofs.order_part.Statement.{statement}
 use Rattle.pair_new_objects.proofs.order_part.Tie as tie
 
 returns : tie.Need-returns
-returns c = (put-back _ _ _ _ _ (c .before .before .before .before .before .before .before .before .before .pre .0) (c .before .before .before .before .sort-pairs .ensures .0) (glyph-order-long _ _ _ _ (c .before .before .before .before .before .before .before .before .before .pre .0) (c .before .before .before .before .before .before .before .before .before .pre .1)), put-back _ _ _ _ _ (c .before .before .before .before .before .before .before .before .before .pre .0) (c .before .before .before .before .sort-pairs .ensures .1) (item-order-long _ _ _ _ (c .before .before .before .before .before .before .before .before .before .pre .0) (c .before .before .before .before .before .before .before .before .before .pre .1)))
+returns c =
+    let start = c .before .before .before .before .before .before .before .before .before in
+    (put-back _ _ _ _ _ (start .pre .0) (c .before .before .before .before .sort-pairs .ensures .0) (glyph-order-long _ _ _ _ (start .pre .0) (start .pre .1)), put-back _ _ _ _ _ (start .pre .0) (c .before .before .before .before .sort-pairs .ensures .1) (item-order-long _ _ _ _ (start .pre .0) (start .pre .1)))
 
 pub order-part-spec : {M : Type 1} → statement M
 order-part-spec =

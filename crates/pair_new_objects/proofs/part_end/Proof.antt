@@ -1,4 +1,4 @@
--- `new_objects::part_end` meets its contract: the items passed lie below the bound. Assumes nothing.
+-- `pair_new_objects::part_end` meets its contract: the items passed lie below the bound. Assumes nothing.
 use borrow.Author.Needs.{needs}
 use Prim.Native.Nat.{ℕ, _-_, _≤_, _<_}
 use mathlib.Core.Logic.{⊎-elim}

@@ -1,4 +1,4 @@
--- `new_objects::parts_length` meets its contract: coverage, and in format 2 class definition 1. Assumes nothing.
+-- `pair_new_objects::parts_length` meets its contract: coverage, and in format 2 class definition 1. Assumes nothing.
 use native.Mathlib.Omega.{arith}
 use Rattle.pair_new_objects.proofs.Parts.{one-length, two-length, glyphs-ascend, both-small}
 use borrow.Author.Needs.{needs}

@@ -1,4 +1,4 @@
--- `new_objects::write_tables` meets its contract: the objects of the first j new tables are written. Assumes nothing.
+-- `pair_new_objects::write_tables` meets its contract: the objects of the first j new tables are written. Assumes nothing.
 use borrow.Author.Needs.{needs}
 use native.Mathlib.Omega.{arith}
 use Prim.Native.Nat.{_-_}
@@ -9,28 +9,67 @@ use Rattle.pair_new_objects.proofs.write_tables.Statement.{statement}
 use Rattle.pair_new_objects.proofs.write_tables.Tie as tie
 
 abbrev Inv-loop : tie.InvT-loop
-Inv-loop data₀ objects₀ glyphs classes cuts layout head start byte-count object-count per-table from₀ at₀ row₀ j₀ «data» objects from at row j = Tables data₀ objects₀ glyphs classes cuts layout head byte-count object-count per-table «data» objects from at row j
+Inv-loop data₀ objects₀ glyphs classes cuts layout head start byte-count object-count from₀ at₀ row₀ j₀ «data» objects from at row j =
+    Tables data₀ objects₀ glyphs classes cuts layout head byte-count object-count «data» objects from at row j
 
 abbrev μ-loop : tie.MeasureT-loop
-μ-loop data₀ objects₀ glyphs classes cuts layout head start byte-count object-count per-table from₀ at₀ row₀ j₀ «data» objects from at row j = length cuts - j
+μ-loop data₀ objects₀ glyphs classes cuts layout head start byte-count object-count from₀ at₀ row₀ j₀ «data» objects from at row j = length cuts - j
 
 loop-holds : tie.Need-loop-holds Inv-loop μ-loop
-loop-holds c = tables-start _ _ _ _ _ _ _ _ _ _ _ (c .before .before .before .before .before .before .pre .0) (c .before .before .before .before .before .before .pre .1 .0) (c .before .before .before .before .before .before .pre .1 .1 .0) (c .before .before .before .before .before .before .pre .1 .1 .1) (c .objects-per-table .ensures)
+loop-holds c = let pre = c .before .before .before .before .before .pre in tables-start _ _ _ _ _ _ _ _ _ _ (pre .0) (pre .1 .0) (pre .1 .1 .0) (pre .1 .1 .1)
 
 part-end-requires : tie.Need-part-end-requires Inv-loop μ-loop
 part-end-requires c κs = c .before .before .before .loop .inv .halved .inside
 
 write-table-objects-requires : tie.Need-write-table-objects-requires Inv-loop μ-loop
-write-table-objects-requires c κs = (turn-same _ _ _ _ _ _ _ _ _ _ _ _ _ _ _ _ (c .before .before .before .before .before .before .before .before .loop .inv) (c .before .before .before .before .before .before .before .loop-test .taken) _ _ _ refl (c .before .before .before .before .before .cut-after .ensures) (c .before .before .before .before .part-end .ensures), (turn-beside _ _ _ _ _ _ _ _ _ _ _ _ _ _ _ _ (c .before .before .before .before .before .before .before .before .loop .inv) (c .before .before .before .before .before .before .before .loop-test .taken) _ _ _ refl (c .before .before .before .before .before .cut-after .ensures) (c .before .before .before .before .part-end .ensures), (old-now _ _ _ _ _ _ _ _ _ _ _ _ _ _ _ _ (c .before .before .before .before .before .before .before .before .loop .inv) (c .before .before .before .before .before .before .before .loop-test .taken), (turn-items _ _ _ _ _ _ _ _ _ _ _ _ _ _ _ _ (c .before .before .before .before .before .before .before .before .loop .inv) (c .before .before .before .before .before .before .before .loop-test .taken) _ _ _ refl (c .before .before .before .before .before .cut-after .ensures) (c .before .before .before .before .part-end .ensures), turn-room _ _ _ _ _ _ _ _ _ _ _ _ _ _ _ _ (c .before .before .before .before .before .before .before .before .loop .inv) (c .before .before .before .before .before .before .before .loop-test .taken) _ _ _ refl (c .before .before .before .before .before .cut-after .ensures) (c .before .before .before .before .part-end .ensures)))))
+write-table-objects-requires c κs =
+    let in-loop = c .before .before .before .before .before .before .before in
+    let at-loop = in-loop .before in
+    let inv = at-loop .loop .inv in
+    let more = in-loop .loop-test .taken in
+    let hi = c .before .before .before .before .before .cut-after .ensures in
+    let end = c .before .before .before .before .part-end .ensures in (
+      turn-same _ _ _ _ _ _ _ _ _ _ _ _ _ _ _ inv more _ _ _ refl hi end,
+      (
+        turn-beside _ _ _ _ _ _ _ _ _ _ _ _ _ _ _ inv more _ _ _ refl hi end,
+        (
+          old-now _ _ _ _ _ _ _ _ _ _ _ _ _ _ _ inv more,
+          (
+            turn-items _ _ _ _ _ _ _ _ _ _ _ _ _ _ _ inv more _ _ _ refl hi end,
+            turn-room _ _ _ _ _ _ _ _ _ _ _ _ _ _ _ inv more _ _ _ refl hi end,
+          ),
+        ),
+      ),
+    )
 
 add-row : tie.Need-add-row Inv-loop μ-loop
-add-row c = omega (arith, row-fits _ _ _ _ _ _ _ _ _ _ _ _ _ _ _ _ (c .before .before .before .before .before .before .before .before .before .before .before .before .before .loop .inv) (c .before .before .before .before .before .before .before .before .before .before .before .before .loop-test .taken), c .before .before .before .before .before .before .before .before .before .before .before .before .before .before .before .before .before .before .before .before .good)
+add-row c =
+    let in-loop = c .before .before .before .before .before .before .before .before .before .before .before .before .before in
+    let at-loop = in-loop .before in
+    let start = at-loop .before .before .before .before .before .before in
+    omega (arith, row-fits _ _ _ _ _ _ _ _ _ _ _ _ _ _ _ (at-loop .loop .inv) (in-loop .loop-test .taken), start .good)
+
+add-row-2 : tie.Need-add-row-2 Inv-loop μ-loop
+add-row-2 c =
+    let in-loop = c .before .before .before .before .before .before .before .before .before .before .before .before .before in
+    let at-loop = in-loop .before in
+    let start = at-loop .before .before .before .before .before .before in
+    omega (arith, row-fits _ _ _ _ _ _ _ _ _ _ _ _ _ _ _ (at-loop .loop .inv) (in-loop .loop-test .taken), start .good)
 
 add-j : tie.Need-add-j Inv-loop μ-loop
-add-j c = omega (arith, next-few _ _ _ _ _ _ _ _ _ _ _ _ _ _ _ _ (c .before .before .before .before .before .before .before .before .before .before .before .before .before .loop .inv) (c .before .before .before .before .before .before .before .before .before .before .before .before .loop-test .taken))
+add-j c =
+    let in-loop = c .before .before .before .before .before .before .before .before .before .before .before .before .before in
+    let at-loop = in-loop .before in
+    omega (arith, next-few _ _ _ _ _ _ _ _ _ _ _ _ _ _ _ (at-loop .loop .inv) (in-loop .loop-test .taken))
 
 loop-again : tie.Need-loop-again Inv-loop μ-loop
-loop-again c = tables-turn _ _ _ _ _ _ _ _ _ _ _ _ _ _ _ _ (c .before .before .before .before .before .before .before .before .before .before .before .before .before .loop .inv) (c .before .before .before .before .before .before .before .before .before .before .before .before .loop-test .taken) _ _ _ refl (c .before .before .before .before .before .before .before .before .before .before .cut-after .ensures) (c .before .before .before .before .before .before .before .before .before .part-end .ensures) _ _ _ (c .before .before .before .before .write-table-objects .ensures)
+loop-again c =
+    let after-part-end = c .before .before .before .before .before .before .before .before .before .before in
+    let after-cut-after = after-part-end .before in
+    let in-loop = after-cut-after .before .before in
+    let at-loop = in-loop .before in
+    tables-turn _ _ _ _ _ _ _ _ _ _ _ _ _ _ _ (at-loop .loop .inv) (in-loop .loop-test .taken) _ _ _ refl (after-cut-after .cut-after .ensures) (after-part-end .part-end .ensures) _ _ _
+    (c .before .before .before .before .before .write-table-objects .ensures)
 
 same-length : tie.Need-same-length Inv-loop μ-loop
 same-length c = c .before .loop .inv .same-data
@@ -39,7 +78,7 @@ same-length-2 : tie.Need-same-length-2 Inv-loop μ-loop
 same-length-2 c = c .before .loop .inv .same-rows
 
 returns : tie.Need-returns Inv-loop μ-loop
-returns c = tables-stop _ _ _ _ _ _ _ _ _ _ _ _ _ _ _ _ (c .before .loop .inv) (c .loop-test .left)
+returns c = tables-stop _ _ _ _ _ _ _ _ _ _ _ _ _ _ _ (c .before .loop .inv) (c .loop-test .left)
 
 pub write-tables-spec : {M : Type 1} → statement M
 write-tables-spec =
@@ -47,7 +86,6 @@ write-tables-spec =
     (tie.spec
     Inv-loop
     μ-loop
-    (λ c κs. search needs)
     loop-holds
     (λ c. search needs)
     (λ c. search needs)
@@ -63,6 +101,7 @@ write-tables-spec =
     (λ c. search needs)
     write-table-objects-requires
     add-row
+    add-row-2
     add-j
     (λ c. search needs)
     loop-again

@@ -1,4 +1,4 @@
--- `new_table::write_format2` meets its contract: head, counts and rows stand one behind another. Assumes nothing.
+-- `pair_new_table::write_format2` meets its contract: head, counts and rows stand one behind another. Assumes nothing.
 use native.Mathlib.Nat.{mul-sub, mul-le-mul-left}
 use native.Mathlib.Omega.{arith}
 use Rattle.pair_new_table.proofs.Cloning.{cloned2}
@@ -25,10 +25,11 @@ copy-up-requires c κs =
 
 returns : tie.Need-returns
 returns c tail l inside q =
-    let start = c .before .before .before .before .before .before .before .before .before .before .before .before .before in
+    let after-write-head = c .before .before .before .before .before .before .before .before .before .before in
+    let start = after-write-head .before .before .before in
     let a = start .args in
     cloned2 (a .«data» .now) (a .head) (a .at) tail (a .lo) (a .hi) inside (search needs) (a .row) (search needs) (search needs)
-    (c .before .before .before .before .before .before .before .before .before .before .write-head .ensures) (c .before .before .before .before .before .before .write-counts .ensures) (c .before .before .copy-up .ensures) l q
+    (after-write-head .write-head .ensures) (c .before .before .before .before .before .before .write-counts .ensures) (c .before .before .copy-up .ensures) l q
 
 pub write-format2-spec : {M : Type 1} → statement M
 write-format2-spec =

@@ -1,4 +1,4 @@
--- `plan::begin_walk` meets its contract: the scratch is prepared, and the walk begun. Assumes nothing.
+-- `pair_plan::begin_walk` meets its contract: the scratch is prepared, and the walk begun. Assumes nothing.
 use native.Mathlib.Omega.{arith}
 use denote.Ref.{now}
 use borrow.Author.Needs.{needs}
@@ -7,7 +7,9 @@ use Rattle.pair_plan.proofs.begin_walk.Statement.{statement}
 use Rattle.pair_plan.proofs.begin_walk.Tie as tie
 
 cast-walk-before : tie.Need-cast-walk-before
-cast-walk-before c = omega (arith, header-small (c .before .before .before .before .before .before .before .before .before .pre .0 .1))
+cast-walk-before c =
+    let start = c .before .before .before .before .before .before .before .before .before in
+    omega (arith, header-small (start .pre .0 .1))
 
 walk-before-requires : tie.Need-walk-before-requires
 walk-before-requires c κs =

@@ -1,4 +1,4 @@
--- `plan::copy_places` meets its contract: the places passed stand at the front. Assumes nothing.
+-- `pair_plan::copy_places` meets its contract: the places passed stand at the front. Assumes nothing.
 use Prim.Native.Nat.{_-_}
 use borrow.Author.Needs.{needs}
 use lib.ListN.{length}

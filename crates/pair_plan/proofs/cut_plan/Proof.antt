@@ -1,4 +1,4 @@
--- `plan::cut_plan` meets its contract: what was decided is handed out, and the scratch is cleared. Assumes nothing.
+-- `pair_plan::cut_plan` meets its contract: what was decided is handed out, and the scratch is cleared. Assumes nothing.
 use native.Mathlib.Omega.{arith}
 use Rattle.store_rules.specs.Store.{lent}
 use Rattle.call_rules.specs.Scratch.{scratchOf}
@@ -10,8 +10,10 @@ use Rattle.pair_plan.proofs.cut_plan.Tie as tie
 
 hand-out-requires : tie.Need-hand-out-requires
 hand-out-requires c κs =
-    can-hand-out (λ i. omega (arith, c .before .before .before .before .before .before .before .before .before .before .before .before .before .before .before .before .before .before .before .before .before .before .before .before .before .before .before .shared-slice-known .given i))
-    (c .before .before .before .before .before .before .before .before .before .before .before .before .before .decide .ensures)
+    let after-decide = c .before .before .before .before .before .before .before .before .before .before .before .before .before in
+    let after-shared-slice-known = after-decide .before .before .before .before .before .before .before .before .before .before .before .before .before .before in
+    can-hand-out (λ i. omega (arith, after-shared-slice-known .shared-slice-known .given i))
+    (after-decide .decide .ensures)
 
 returns : tie.Need-returns
 returns c =

@@ -1,4 +1,4 @@
--- `plan::decide_cuts` meets its contract: the table is cut, and a cycle refuses. Assumes nothing.
+-- `pair_plan::decide_cuts` meets its contract: the table is cut, and a cycle refuses. Assumes nothing.
 use native.Mathlib.Omega.{arith}
 use Rattle.call_rules.specs.Scratch.{Scratch, scratchOf}
 use Rattle.pair_plan.proofs.Deciding.{can-begin, table-marked, can-cut, decided-cycle, decided-cut}

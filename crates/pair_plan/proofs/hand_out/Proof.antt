@@ -1,13 +1,14 @@
--- `plan::hand_out` meets its contract: by what was decided, and by the room for the places. Assumes nothing.
+-- `pair_plan::hand_out` meets its contract: by what was decided, and by the room for the places. Assumes nothing.
 use native.Mathlib.Omega.{arith}
-use Rattle.pair_plan.proofs.Planning.{out-refused, out-short, out-places}
+use Rattle.pair_plan.proofs.Planning.{out-settled, out-short, out-places}
 use borrow.Author.Needs.{needs}
 use Rattle.pair_plan.proofs.hand_out.Statement.{statement}
 use Rattle.pair_plan.proofs.hand_out.Tie as tie
 
 returns : tie.Need-returns
 returns c =
-    let a = c .before .before .before .before .before .before .before .args in
+    let start = c .before .before .before .before .before .before .before in
+    let a = start .args in
     let d = c .before .before .before .decision2 .given in
     out-short (a .cuts .now) (a .places .now) (d .0 .0) (d .1) (c .number-of2 .ensures) (c .before .if1 .taken)
 
@@ -26,7 +27,7 @@ cast-place-count c =
 returns-2 : tie.Need-returns-2
 returns-2 c =
     let a = c .before .before .before .before .before .before .args in
-    out-refused (a .cuts .now) (a .places .now) (c .before .before .decision .given .1) (c .number-of .ensures)
+    out-settled (a .cuts .now) (a .places .now) (c .before .before .decision .given .1) (c .number-of .ensures)
 
 returns-3 : tie.Need-returns-3
 returns-3 c =

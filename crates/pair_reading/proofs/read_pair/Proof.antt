@@ -1,7 +1,7 @@
 -- `pair_reading::read_pair` meets its contract: by what the checks decide. Assumes nothing.
 use mathlib.Core.Path.{sym, _∙_}
 use Rattle.store_rules.specs.Store.{lent}
-use Rattle.pair_reading.proofs.Answering.{refused-call, open-call}
+use Rattle.pair_reading.proofs.Answering.{settled-call, open-call}
 use borrow.Author.Needs.{needs}
 use Rattle.pair_reading.proofs.read_pair.Statement.{statement}
 use Rattle.pair_reading.proofs.read_pair.Tie as tie
@@ -11,13 +11,17 @@ pair-of-requires c κs = sym (c .before .before .before .check-table .ensures) �
 
 returns : tie.Need-returns
 returns c =
-    let a = c .before .before .before .before .before .before .before .before .before .before .before .before .args in
-    refused-call (lent (a .«data» .now) (a .objects .now) (a .links .now) (a .counts .now)) (a .table) (a .first) (a .second) (c .before .before .before .before .before .before .before .before .check-table .ensures) (c .before .before .before .before .before .before .checked .given .1) (c .before .before .before .before .number-of .ensures) (c .before .before .before .no-pair .ensures) (c .report .ensures)
+    let after-check-table = c .before .before .before .before .before .before .before .before in
+    let start = after-check-table .before .before .before .before in
+    let a = start .args in
+    settled-call (lent (a .«data» .now) (a .objects .now) (a .links .now) (a .counts .now)) (a .table) (a .first) (a .second) (after-check-table .check-table .ensures) (c .before .before .before .before .before .before .checked .given .1) (c .before .before .before .before .number-of .ensures) (c .before .before .before .no-pair .ensures) (c .report .ensures)
 
 returns-2 : tie.Need-returns-2
 returns-2 c =
-    let a = c .before .before .before .before .before .before .before .before .before .before .before .args in
-    open-call (lent (a .«data» .now) (a .objects .now) (a .links .now) (a .counts .now)) (a .table) (a .first) (a .second) (c .before .before .before .before .before .before .before .check-table .ensures) (c .before .before .before .before .before .checked2 .given .1) (c .before .before .before .pair-of .ensures) (c .report2 .ensures)
+    let after-check-table = c .before .before .before .before .before .before .before in
+    let start = after-check-table .before .before .before .before in
+    let a = start .args in
+    open-call (lent (a .«data» .now) (a .objects .now) (a .links .now) (a .counts .now)) (a .table) (a .first) (a .second) (after-check-table .check-table .ensures) (c .before .before .before .before .before .checked2 .given .1) (c .before .before .before .pair-of .ensures) (c .report2 .ensures)
 
 pub read-pair-spec : {M : Type 1} → statement M
 read-pair-spec =

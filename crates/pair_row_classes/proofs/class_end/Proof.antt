@@ -1,4 +1,4 @@
--- `row_classes::class_end` meets its contract: all entries that were passed are of the class. Assumes nothing.
+-- `pair_row_classes::class_end` meets its contract: all entries that were passed are of the class. Assumes nothing.
 use Prim.Native.Nat.{_-_}
 use native.Mathlib.Omega.{arith}
 use lib.ListN.{length}

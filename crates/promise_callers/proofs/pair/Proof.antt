@@ -1,4 +1,4 @@
--- `callers::pair` meets its contract: the pair reading's equation gives what is promised. Assumes nothing.
+-- `promise_callers::pair` meets its contract: the pair reading's equation gives what is promised. Assumes nothing.
 use borrow.Author.Needs.{needs}
 use Rattle.promise_pairs.proofs.Calls.{pair-keeps}
 use Rattle.promise_callers.proofs.pair.Statement.{statement}

@@ -1,11 +1,13 @@
--- `callers::plan` meets its contract: the cut plan's equation gives what is promised. Assumes nothing.
+-- `promise_callers::plan` meets its contract: the cut plan's equation gives what is promised. Assumes nothing.
 use borrow.Author.Needs.{needs}
 use Rattle.promise_pairs.proofs.Calls.{plan-keeps}
 use Rattle.promise_callers.proofs.plan.Statement.{statement}
 use Rattle.promise_callers.proofs.plan.Tie as tie
 
 returns : tie.Need-returns
-returns c = plan-keeps _ _ _ _ _ (c .before .before .before .before .before .before .before .before .before .before .before .before .cut-plan .ensures)
+returns c =
+    let after-cut-plan = c .before .before .before .before .before .before .before .before .before .before .before .before in
+    plan-keeps _ _ _ _ _ (after-cut-plan .cut-plan .ensures)
 
 pub plan-spec : {M : Type 1} → statement M
 plan-spec =

@@ -1,4 +1,4 @@
--- `row_moves::put_row` meets its contract: four numbers are written, one behind the other. Assumes nothing.
+-- `store_link_rows::put_row` meets its contract: four numbers are written, one behind the other. Assumes nothing.
 use native.Mathlib.Omega.{arith}
 use lib.ListN.{length-set}
 use Rattle.folds.proofs.Put.{put-four}

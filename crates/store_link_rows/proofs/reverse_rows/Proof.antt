@@ -1,4 +1,4 @@
--- `row_moves::reverse_rows` meets its contract: the rows before i and from j on are reversed, those between are as they were. Assumes nothing.
+-- `store_link_rows::reverse_rows` meets its contract: the rows before i and from j on are reversed, those between are as they were. Assumes nothing.
 use borrow.Author.Needs.{needs}
 use Prim.Native.Nat.{_-_}
 use native.Mathlib.Omega.{arith}

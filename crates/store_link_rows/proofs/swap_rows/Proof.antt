@@ -1,4 +1,4 @@
--- `row_moves::swap_rows` meets its contract: one row is written after the other, from numbers read before. Assumes nothing.
+-- `store_link_rows::swap_rows` meets its contract: one row is written after the other, from numbers read before. Assumes nothing.
 use Rattle.folds.proofs.Put.{both-puts}
 use Rattle.store_link_rows.specs.Rows.{row}
 use borrow.Author.Needs.{needs}

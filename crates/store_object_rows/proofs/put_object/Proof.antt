@@ -1,4 +1,4 @@
--- `object_rows::put_object` meets its contract: two numbers are written, one behind the other. Assumes nothing.
+-- `store_object_rows::put_object` meets its contract: two numbers are written, one behind the other. Assumes nothing.
 use Rattle.folds.proofs.Put.{put-two}
 use borrow.Author.Needs.{needs}
 use Rattle.store_object_rows.proofs.put_object.Statement.{statement}

@@ -1,4 +1,4 @@
--- `object_store::bytes_of` meets its contract: from head to tail is the part that the definition takes. Assumes nothing.
+-- `store_reader::bytes_of` meets its contract: from head to tail is the part that the definition takes. Assumes nothing.
 use mathlib.Core.Path.{refl}
 use borrow.Author.Needs.{needs}
 use Rattle.store_rules.specs.Store.{bytesOf}

@@ -1,4 +1,4 @@
--- `object_store::child_at` meets its contract: no row but the first at or past the position can stand at it. Assumes nothing.
+-- `store_reader::child_at` meets its contract: no row but the first at or past the position can stand at it. Assumes nothing.
 use denote.Ref.{now}
 use borrow.Author.Needs.{needs}
 use Rattle.store_rules.specs.Store.{lent}

@@ -1,4 +1,4 @@
--- `object_store::count_fits` meets its contract: at most the smaller of two is at most each. Assumes nothing.
+-- `store_reader::count_fits` meets its contract: at most the smaller of two is at most each. Assumes nothing.
 use Rattle.store_reader.proofs.Checks.{count-over, count-under}
 use Rattle.store_reader.proofs.count_fits.Statement.{statement}
 use Rattle.store_reader.proofs.count_fits.Tie as tie

@@ -1,4 +1,4 @@
--- `object_store::first_row` meets its contract: the rows before `lo` are below the key, those from `hi` on are not. Assumes nothing.
+-- `store_reader::first_row` meets its contract: the rows before `lo` are below the key, those from `hi` on are not. Assumes nothing.
 use Prim.Native.Nat.{_-_}
 use native.Mathlib.Omega.{arith}
 use denote.Ref.{now}

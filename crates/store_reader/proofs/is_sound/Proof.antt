@@ -1,4 +1,4 @@
--- `object_store::is_sound` meets its contract: its tests are those of the definition, in the same order. Assumes nothing.
+-- `store_reader::is_sound` meets its contract: its tests are those of the definition, in the same order. Assumes nothing.
 use Prim.Native.Nat.{_/_, min}
 use mathlib.Core.Path.{_∙_}
 use native.Mathlib.Omega.{arith}
@@ -19,13 +19,15 @@ returns c =
 returns-2 : tie.Need-returns-2
 unfolding objectRoom
 returns-2 c =
-    let a = c .before .before .before .before .before .before .before .before .before .args in
+    let start = c .before .before .before .before .before .before .before .before .before in
+    let a = start .args in
     objects-over (lent (now (a .«data»)) (now (a .objects)) (now (a .links)) (now (a .counts))) (c .before .count-fits2 .ensures) (c .if2 .taken)
 
 returns-3 : tie.Need-returns-3
 unfolding linkRoom
 returns-3 c =
-    let a = c .before .before .before .before .before .before .before .before .before .before .before .before .args in
+    let start = c .before .before .before .before .before .before .before .before .before .before .before .before in
+    let a = start .args in
     links-over (lent (now (a .«data»)) (now (a .objects)) (now (a .links)) (now (a .counts))) (c .before .count-fits3 .ensures) (c .if3 .taken)
 
 objects-fit-requires : tie.Need-objects-fit-requires
@@ -36,7 +38,8 @@ objects-fit-requires c κs =
 
 returns-4 : tie.Need-returns-4
 returns-4 c =
-    let a = c .before .before .before .before .before .before .before .before .before .before .before .before .before .before .args in
+    let start = c .before .before .before .before .before .before .before .before .before .before .before .before .before .before in
+    let a = start .args in
     objects-unfit (lent (now (a .«data»)) (now (a .objects)) (now (a .links)) (now (a .counts))) (c .before .objects-fit .ensures (now (a .«data»)) (now (a .links))) (c .if4 .taken)
 
 links-fit-requires : tie.Need-links-fit-requires

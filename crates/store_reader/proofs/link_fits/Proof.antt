@@ -1,4 +1,4 @@
--- `object_store::link_fits` meets its contract: its tests are those of the definition, in the same order. Assumes nothing.
+-- `store_reader::link_fits` meets its contract: its tests are those of the definition, in the same order. Assumes nothing.
 use mathlib.Core.Path.{_∙_}
 use denote.Ref.{now}
 use borrow.Author.Needs.{needs}
@@ -14,17 +14,20 @@ returns c =
 
 returns-2 : tie.Need-returns-2
 returns-2 c =
-    let a = c .before .before .before .before .before .before .before .before .args in
+    let start = c .before .before .before .before .before .before .before .before in
+    let a = start .args in
     λ b. link-child (lent b (now (a .objects)) (now (a .links)) (now (a .counts))) (a .k) (c .if2 .taken)
 
 returns-3 : tie.Need-returns-3
 returns-3 c =
-    let a = c .before .before .before .before .before .before .before .before .before .before .args in
+    let start = c .before .before .before .before .before .before .before .before .before .before in
+    let a = start .args in
     λ b. link-width (lent b (now (a .objects)) (now (a .links)) (now (a .counts))) (a .k) (c .if3 .taken)
 
 returns-4 : tie.Need-returns-4
 returns-4 c =
-    let a = c .before .before .before .before .before .before .before .before .before .before .before .before .before .args in
+    let start = c .before .before .before .before .before .before .before .before .before .before .before .before .before in
+    let a = start .args in
     λ b. link-place (lent b (now (a .objects)) (now (a .links)) (now (a .counts))) (a .k) (c .before .position-fits .ensures) (c .if4 .taken)
 
 returns-5 : tie.Need-returns-5

@@ -1,4 +1,4 @@
--- `object_store::links_fit` meets its contract: the rows below `k` fit. Assumes nothing.
+-- `store_reader::links_fit` meets its contract: the rows below `k` fit. Assumes nothing.
 use Prim.Native.Nat.{ℕ, _-_}
 use mathlib.Core.List.{List}
 use lib.ListN.{getD}

@@ -1,4 +1,4 @@
--- `object_store::next_row` meets its contract: the rows before `row` are below the key. Assumes nothing.
+-- `store_reader::next_row` meets its contract: the rows before `row` are below the key. Assumes nothing.
 use Prim.Native.Nat.{_-_}
 use native.Mathlib.Omega.{arith}
 use borrow.Author.Needs.{needs}

@@ -1,4 +1,4 @@
--- `object_store::object_bytes` meets its contract: an object of a sound store lies within its bytes. Assumes nothing.
+-- `store_reader::object_bytes` meets its contract: an object of a sound store lies within its bytes. Assumes nothing.
 use mathlib.Core.Path.{_∙_}
 use denote.Ref.{now}
 use borrow.Author.Needs.{needs}
@@ -14,7 +14,8 @@ returns c =
 
 returns-2 : tie.Need-returns-2
 returns-2 c =
-    let a = c .before .before .before .before .before .before .before .before .args in
+    let start = c .before .before .before .before .before .before .before .before in
+    let a = start .args in
     handed-unused (lent (now (a .«data»)) (now (a .objects)) (now (a .links)) (now (a .counts))) (a .table) (c .before .if2 .taken)
 
 bytes-of-requires : tie.Need-bytes-of-requires

@@ -1,4 +1,4 @@
--- `object_store::object_fits` meets its contract: its tests are those of the definition, in the same order. Assumes nothing.
+-- `store_reader::object_fits` meets its contract: its tests are those of the definition, in the same order. Assumes nothing.
 use native.Mathlib.Omega.{arith}
 use denote.Ref.{now}
 use borrow.Author.Needs.{needs}
@@ -19,7 +19,8 @@ returns-2 c =
 
 returns-3 : tie.Need-returns-3
 returns-3 c =
-    let a = c .before .before .before .before .before .before .before .args in
+    let start = c .before .before .before .before .before .before .before in
+    let a = start .args in
     λ b l. object-ends (lent b (now (a .objects)) l (now (a .counts))) (a .i) (omega (arith, c .before .before .if1 .left, c .before .before .before .tail-before .ensures)) (c .before .if2 .left)
 
 pub object-fits-spec : {M : Type 1} → statement M

@@ -1,4 +1,4 @@
--- `object_store::objects_fit` meets its contract: the rows below `i` fit. Assumes nothing.
+-- `store_reader::objects_fit` meets its contract: the rows below `i` fit. Assumes nothing.
 use Prim.Native.Nat.{ℕ, _-_}
 use mathlib.Core.List.{List}
 use lib.ListN.{getD}

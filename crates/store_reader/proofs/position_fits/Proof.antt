@@ -1,4 +1,4 @@
--- `object_store::position_fits` meets its contract: three numbers of 32 bits add up in 64. Assumes nothing.
+-- `store_reader::position_fits` meets its contract: three numbers of 32 bits add up in 64. Assumes nothing.
 use Prim.Native.Nat.{_+_, _*_}
 use native.Mathlib.Omega.{arith}
 use lib.ListN.{getD}

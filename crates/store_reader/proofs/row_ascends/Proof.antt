@@ -1,4 +1,4 @@
--- `object_store::row_ascends` meets its contract: rows ascend as their keys do, since a position has 32 bits. Assumes nothing.
+-- `store_reader::row_ascends` meets its contract: rows ascend as their keys do, since a position has 32 bits. Assumes nothing.
 use Prim.Native.Nat.{_+_, _-_, _*_}
 use mathlib.Core.Path.{ap₂, _∙_}
 use native.Mathlib.Omega.{arith}

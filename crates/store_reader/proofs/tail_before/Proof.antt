@@ -1,4 +1,4 @@
--- `object_store::tail_before` meets its contract: the first object has none before it. Assumes nothing.
+-- `store_reader::tail_before` meets its contract: the first object has none before it. Assumes nothing.
 use Prim.Native.Nat.{ℕ, _+_, _*_}
 use lib.ListN.{getD}
 use denote.Ref.{now}

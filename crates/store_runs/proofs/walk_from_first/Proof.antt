@@ -10,13 +10,19 @@ prepare-requires : tie.Need-prepare-requires
 prepare-requires c κs = blank (c .before .before .before .before .pre)
 
 cast-count : tie.Need-cast-count
-cast-count c = omega (arith, links-few (c .before .before .before .before .before .before .before .before .pre))
+cast-count c =
+    let start = c .before .before .before .before .before .before .before .before in
+    omega (arith, links-few (start .pre))
 
 first-row-requires : tie.Need-first-row-requires
-first-row-requires c κs = rows-sorted (c .before .before .before .before .before .before .before .before .pre)
+first-row-requires c κs =
+    let start = c .before .before .before .before .before .before .before .before in
+    rows-sorted (start .pre)
 
 first-row-requires-2 : tie.Need-first-row-requires-2
-first-row-requires-2 c κs = rows-sorted (c .before .before .before .before .before .before .before .before .before .pre)
+first-row-requires-2 c κs =
+    let start = c .before .before .before .before .before .before .before .before .before in
+    rows-sorted (start .pre)
 
 subgraph-size-requires : tie.Need-subgraph-size-requires
 subgraph-size-requires c κs =

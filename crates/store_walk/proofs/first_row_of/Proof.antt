@@ -1,4 +1,4 @@
--- `walk::first_row_of` meets its contract: no rows stand before those of the first object. Assumes nothing.
+-- `store_walk::first_row_of` meets its contract: no rows stand before those of the first object. Assumes nothing.
 use Prim.Native.Nat.{ℕ, _+_}
 use lib.ListN.{getD}
 use denote.Ref.{now}

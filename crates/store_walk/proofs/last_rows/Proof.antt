@@ -1,4 +1,4 @@
--- `walk::last_rows` meets its contract: a later row of an object takes the place of an earlier one. Assumes nothing.
+-- `store_walk::last_rows` meets its contract: a later row of an object takes the place of an earlier one. Assumes nothing.
 use Prim.Native.Nat.{_-_, _*_, _+_, _<_}
 use native.Mathlib.Omega.{arith}
 use lib.ListN.{getD}

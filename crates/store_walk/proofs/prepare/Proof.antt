@@ -1,4 +1,4 @@
--- `walk::prepare` meets its contract: the scratch is zero, then has the last row of each object, and then where its rows end. Assumes nothing.
+-- `store_walk::prepare` meets its contract: the scratch is zero, then has the last row of each object, and then where its rows end. Assumes nothing.
 use Rattle.store_walk.proofs.Ends.{blank-zero, blank-still}
 use borrow.Author.Needs.{needs}
 use Rattle.store_walk.proofs.prepare.Statement.{statement}

@@ -1,4 +1,4 @@
--- `walk::row_ends` meets its contract: an object's rows end behind its last one, or where they start. Assumes nothing.
+-- `store_walk::row_ends` meets its contract: an object's rows end behind its last one, or where they start. Assumes nothing.
 use Prim.Native.Nat.{ℕ, _+_, _-_, _*_, _<_}
 use mathlib.Core.Logic.{⊎-elim}
 use mathlib.Core.Path.{sym, subst, _∙_}

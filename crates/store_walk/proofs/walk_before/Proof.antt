@@ -1,4 +1,4 @@
--- `walk::walk_before` meets its contract: the rows that are walked are the table's first. Assumes nothing.
+-- `store_walk::walk_before` meets its contract: the rows that are walked are the table's first. Assumes nothing.
 use native.Mathlib.Omega.{arith}
 use lib.ListN.{getD}
 use denote.Ref.{now}

@@ -1,6 +1,7 @@
 //! The calls that are stored.
 
 mod figures;
+mod neighbours;
 
 use super::plain;
 use crate::{
@@ -25,6 +26,7 @@ const MOST_RUNS: usize = 330;
 /// Hand-made, generated and damaged.
 pub fn all() -> Vec<Case> {
     let mut cases = figures::all();
+    cases.extend(neighbours::cases());
     cases.extend(generated());
     cases.extend(damaged());
     cases

@@ -1,4 +1,4 @@
--- `filling::Filling::new` meets its contract: no item is in, and there is no cut. Assumes nothing.
+-- `cut_filling::Filling::new` meets its contract: no item is in, and there is no cut. Assumes nothing.
 use Rattle.cut_filling.proofs.Weighing.{nothing-yet}
 use Rattle.cut_filling.proofs.Filling.new.Statement.{statement}
 use Rattle.cut_filling.proofs.Filling.new.Tie as tie

@@ -1,4 +1,4 @@
--- `filling::Filling::weigh` meets its contract: both branches are document 01's. Assumes nothing.
+-- `cut_filling::Filling::weigh` meets its contract: both branches are document 01's. Assumes nothing.
 use Rattle.cut_filling.proofs.Weighing.{weighed-cut, weighed-on}
 use borrow.Author.Needs.{needs}
 use Rattle.cut_filling.proofs.Filling.weigh.Statement.{statement}

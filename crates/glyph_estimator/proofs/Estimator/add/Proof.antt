@@ -1,4 +1,4 @@
--- `estimator::Estimator::add` meets its contract: after each turn the glyphs passed are added. The measure is what is left. Assumes nothing.
+-- `glyph_estimator::Estimator::add` meets its contract: after each turn the glyphs passed are added. The measure is what is left. Assumes nothing.
 use borrow.Author.Needs.{needs}
 use Prim.Native.Nat.{_-_}
 use lib.ListN.{length}

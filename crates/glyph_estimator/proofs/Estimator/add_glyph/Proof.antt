@@ -1,4 +1,4 @@
--- `estimator::Estimator::add_glyph` meets its contract: the glyph covered, and of a class but 0 its run counted. Assumes nothing.
+-- `glyph_estimator::Estimator::add_glyph` meets its contract: the glyph covered, and of a class but 0 its run counted. Assumes nothing.
 use native.Mathlib.Omega.{arith}
 use Rattle.glyph_estimator.proofs.Counting.{members-le}
 use Rattle.glyph_estimator.proofs.Taking.{starts-le, taken-none, taken-some}
@@ -11,18 +11,21 @@ returns c = taken-none _ _ _ _ _ _ _ (c .before .before .before .cover .ensures)
 
 mul-self : tie.Need-mul-self
 mul-self c =
-    let a = c .before .before .before .before .before .before .before .before .before .args in
+    let start = c .before .before .before .before .before .before .before .before .before in
+    let a = start .args in
     omega (arith, c .starts-run .ensures, starts-le (a .glyphs .now) (a .k))
 
 add-self : tie.Need-add-self
 add-self c =
-    let a = c .before .before .before .before .before .before .before .before .before .before .args in
+    let start = c .before .before .before .before .before .before .before .before .before .before in
+    let a = start .args in
     let d = c .before .before .before .before .before .cover in
     omega (arith, c .before .starts-run .ensures, starts-le (a .glyphs .now) (a .k), d .ensures .counts .ranged, d .ensures .counts .glyphs, members-le (d .last .1 .1 .0))
 
 returns-2 : tie.Need-returns-2
 returns-2 c =
-    taken-some _ _ _ _ _ _ _ (c .before .before .before .before .before .before .before .before .before .before .pre .1) (c .before .before .before .before .before .cover .ensures) (c .before .before .if1 .left) _ (c .before .starts-run .ensures)
+    let start = c .before .before .before .before .before .before .before .before .before .before in
+    taken-some _ _ _ _ _ _ _ (start .pre .1) (c .before .before .before .before .before .cover .ensures) (c .before .before .if1 .left) _ (c .before .starts-run .ensures)
 
 pub add-glyph-spec : {M : Type 1} → statement M
 add-glyph-spec =

@@ -1,4 +1,4 @@
--- `estimator::Estimator::beside` meets its contract: the three sizes without the largest. Assumes nothing.
+-- `glyph_estimator::Estimator::beside` meets its contract: the three sizes without the largest. Assumes nothing.
 use Rattle.glyph_rules.specs.Estimates.{besideRows}
 use borrow.Author.Needs.{needs}
 use Rattle.glyph_estimator.proofs.Estimator.beside.Statement.{statement}

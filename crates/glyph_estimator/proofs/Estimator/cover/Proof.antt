@@ -1,4 +1,4 @@
--- `estimator::Estimator::cover` meets its contract: the figures of the set with the glyph, one by one. Assumes nothing.
+-- `glyph_estimator::Estimator::cover` meets its contract: the figures of the set with the glyph, one by one. Assumes nothing.
 use native.Mathlib.Omega.{arith}
 use Rattle.glyph_estimator.proofs.Counting.{members-le, runs-le, first-le, last-ge, joined-le, covered}
 use borrow.Author.Needs.{needs}
@@ -17,20 +17,23 @@ add-self-2 c =
 
 sub-self : tie.Need-sub-self
 sub-self c =
-    let a = c .before .before .before .before .before .before .before .before .before .before .before in
-    omega (arith, joined-le (a .args .self) (a .args .set .now) (a .args .glyph) (a .fits .glyph .fits) (a .pre), c .before .before .before .before .before .before .before .before .joined .ensures)
+    let after-joined = c .before .before .before .before .before .before .before .before in
+    let a = after-joined .before .before .before in
+    omega (arith, joined-le (a .args .self) (a .args .set .now) (a .args .glyph) (a .fits .glyph .fits) (a .pre), after-joined .joined .ensures)
 
 sub-self-2 : tie.Need-sub-self-2
 sub-self-2 c =
-    let a = c .before .before .before .before .before .before .before .before .before .before .before .args in
+    let start = c .before .before .before .before .before .before .before .before .before .before .before in
+    let a = start .args in
     omega (arith, c .before .before .before .first-with .ensures, c .before .before .last-with .ensures, first-le (a .self .glyphs) (a .self .first) (a .glyph), last-ge (a .self .glyphs) (a .self .last) (a .glyph))
 
 returns : tie.Need-returns
 returns c =
-    let a = c .before .before .before .before .before .before .before .before .before .before .before in
+    let after-joined = c .before .before .before .before .before .before .before .before in
+    let a = after-joined .before .before .before in
     covered (a .args .self) (a .args .set .now) (a .args .glyph) (a .fits .glyph .fits) (a .pre) _ _ _ _
     (c .before .before .before .before .before .before .insert .ensures)
-    (c .before .before .before .before .before .before .before .before .joined .ensures)
+    (after-joined .joined .ensures)
     (c .before .before .before .first-with .ensures)
     (c .before .before .last-with .ensures)
 

@@ -1,4 +1,4 @@
--- `estimator::Estimator::reset` meets its contract: the figures of no entries. Assumes nothing.
+-- `glyph_estimator::Estimator::reset` meets its contract: the figures of no entries. Assumes nothing.
 use mathlib.Core.Path.{refl}
 use Rattle.ot_layouts.specs.Coverage.{runs}
 use Rattle.ot_layouts.specs.ClassDef.{firstGlyph, lastGlyph, span, named}

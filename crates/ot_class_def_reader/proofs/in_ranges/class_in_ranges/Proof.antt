@@ -1,4 +1,4 @@
--- `class_def::in_ranges::class_in_ranges` meets its contract: the class beside the range that has the glyph. Assumes nothing.
+-- `ot_class_def_reader::in_ranges::class_in_ranges` meets its contract: the class beside the range that has the glyph. Assumes nothing.
 use borrow.Author.Needs.{needs}
 use Prim.Native.Nat.{ℕ, _+_, _*_, _<_}
 use mathlib.Core.Path.{_≡_, sym, _∙_}

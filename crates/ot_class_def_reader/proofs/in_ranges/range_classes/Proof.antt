@@ -1,4 +1,4 @@
--- `class_def::in_ranges::range_classes` meets its contract: the ranges passed end below the glyph, and the next decides its class. Assumes nothing.
+-- `ot_class_def_reader::in_ranges::range_classes` meets its contract: the ranges passed end below the glyph, and the next decides its class. Assumes nothing.
 use borrow.Author.Needs.{needs}
 use Prim.Native.Nat.{ℕ, _+_, _-_, _≤_, _<_}
 use mathlib.Core.Path.{_≡_, sym, _∙_}

@@ -1,4 +1,4 @@
--- `class_def::in_ranges::read_ranges` meets its contract: ranges that fit are readable. Assumes nothing.
+-- `ot_class_def_reader::in_ranges::read_ranges` meets its contract: ranges that fit are readable. Assumes nothing.
 use borrow.Author.Needs.{needs}
 use Prim.Native.Nat.{ℕ}
 use mathlib.Core.Path.{_≡_}

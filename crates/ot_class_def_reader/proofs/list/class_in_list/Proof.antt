@@ -1,4 +1,4 @@
--- `class_def::list::class_in_list` meets its contract: the class at the glyph's place, 0 outside. Assumes nothing.
+-- `ot_class_def_reader::list::class_in_list` meets its contract: the class at the glyph's place, 0 outside. Assumes nothing.
 use borrow.Author.Needs.{needs}
 use Prim.Native.Nat.{ℕ, _+_, _*_, _-_, _≤_, _<_}
 use mathlib.Core.Path.{_≡_, _∙_}

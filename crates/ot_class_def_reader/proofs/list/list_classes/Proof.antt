@@ -1,4 +1,4 @@
--- `class_def::list::list_classes` meets its contract: one glyph's class after another. Assumes nothing.
+-- `ot_class_def_reader::list::list_classes` meets its contract: one glyph's class after another. Assumes nothing.
 use borrow.Author.Needs.{needs}
 use Prim.Native.Nat.{_-_}
 use lib.ListN.{length}

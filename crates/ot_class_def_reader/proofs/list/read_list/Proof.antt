@@ -1,4 +1,4 @@
--- `class_def::list::read_list` meets its contract: a list is readable by its length and its last glyph. Assumes nothing.
+-- `ot_class_def_reader::list::read_list` meets its contract: a list is readable by its length and its last glyph. Assumes nothing.
 use borrow.Author.Needs.{needs}
 use Prim.Native.Nat.{ℕ, _+_, _*_, _≤_}
 use mathlib.Core.Path.{_≡_}

@@ -1,4 +1,4 @@
--- `class_def_writer::in_ranges::put_runs` meets its contract: the ranges written, and those of the entries left, are all ranges. Assumes nothing.
+-- `ot_class_def_writer::in_ranges::put_runs` meets its contract: the ranges written, and those of the entries left, are all ranges. Assumes nothing.
 use borrow.Author.Needs.{needs}
 use Prim.Native.Nat.{ℕ, _+_, _-_, _*_, _≤_, _<_}
 use mathlib.Core.Path.{_≡_, refl, sym, ap, _∙_}
@@ -115,13 +115,21 @@ loop-holds : tie.Need-loop-holds Inv-loop μ-loop
 loop-holds c = start _ _ _ _ _ (c .before .before .before .pre .0) (c .before .before .before .pre .1 .0) (c .before .before .before .pre .1 .1)
 
 put-range-requires : tie.Need-put-range-requires Inv-loop μ-loop
-put-range-requires c κs = space (c .before .before .before .before .before .before .before .loop .inv) (c .before .before .before .run-last .ensures) (c .before .before .before .before .if1 .taken)
+put-range-requires c κs =
+    let at-loop = c .before .before .before .before .before .before .before in
+    space (at-loop .loop .inv) (c .before .before .before .run-last .ensures) (c .before .before .before .before .if1 .taken)
 
 add-end : tie.Need-add-end Inv-loop μ-loop
-add-end c = let h = space (c .before .before .before .before .before .before .before .before .before .before .loop .inv) (c .before .before .before .before .before .before .run-last .ensures) (c .before .before .before .before .before .before .before .if1 .taken) in omega arith
+add-end c =
+    let after-if1 = c .before .before .before .before .before .before .before in
+    let at-loop = after-if1 .before .before .before in
+    let h = space (at-loop .loop .inv) (c .before .before .before .before .before .before .run-last .ensures) (after-if1 .if1 .taken) in omega arith
 
 loop-again : tie.Need-loop-again Inv-loop μ-loop
-loop-again c = turn (c .before .before .before .before .before .before .before .before .before .before .loop .inv) (c .before .before .before .before .before .before .run-last .ensures) (c .before .before .before .before .before .before .before .if1 .taken) (c .before .before .put-range .kept .0) (c .before .before .put-range .ensures)
+loop-again c =
+    let after-if1 = c .before .before .before .before .before .before .before in
+    let at-loop = after-if1 .before .before .before in
+    turn (at-loop .loop .inv) (c .before .before .before .before .before .before .run-last .ensures) (after-if1 .if1 .taken) (c .before .before .put-range .kept .0) (c .before .before .put-range .ensures)
 
 loop-again-2 : tie.Need-loop-again-2 Inv-loop μ-loop
 loop-again-2 c = skip (c .before .before .before .loop .inv) (c .before .before .loop-test .taken) (c .if1 .left)

@@ -1,4 +1,4 @@
--- `class_def_writer::list::put_classes` meets its contract: each glyph's class is that of the entries left, the first of which is no lower. Assumes nothing.
+-- `ot_class_def_writer::list::put_classes` meets its contract: each glyph's class is that of the entries left, the first of which is no lower. Assumes nothing.
 use borrow.Author.Needs.{needs}
 use Prim.Native.Nat.{ℕ, _+_, _-_, _*_, _≤_, _<_}
 use mathlib.Core.Path.{_≡_, refl, sym, ap, _∙_}
@@ -173,10 +173,16 @@ shared-slice-read-reduced : tie.Need-shared-slice-read-reduced Inv-loop μ-loop
 shared-slice-read-reduced c = let h = inside (c .before .before .before .before .before .loop .inv) (c .before .before .before .before .loop-test .taken) (c .before .before .before .stands .ensures) (c .before .before .if1 .taken) in omega arith
 
 loop-again : tie.Need-loop-again Inv-loop μ-loop
-loop-again c = hit (c .before .before .before .before .before .before .before .before .before .loop .inv) (c .before .before .before .before .before .before .before .before .loop-test .taken) (c .before .before .before .before .before .before .before .stands .ensures) (c .before .before .before .before .before .before .if1 .taken) (c .before .before .put-u16 .kept .0) (c .before .before .before .reduced .ensures) (c .before .before .put-u16 .ensures)
+loop-again c =
+    let after-stands = c .before .before .before .before .before .before .before in
+    let in-loop = after-stands .before in
+    let at-loop = in-loop .before in
+    hit (at-loop .loop .inv) (in-loop .loop-test .taken) (after-stands .stands .ensures) (c .before .before .before .before .before .before .if1 .taken) (c .before .before .put-u16 .kept .0) (c .before .before .before .reduced .ensures) (c .before .before .put-u16 .ensures)
 
 loop-again-2 : tie.Need-loop-again-2 Inv-loop μ-loop
-loop-again-2 c = miss (c .before .before .before .before .before .before .before .loop .inv) (c .before .before .before .before .before .before .loop-test .taken) (c .before .before .before .before .before .stands .ensures) (c .before .before .before .before .if1 .left) (c .before .before .put-u162 .kept .0) (c .before .before .put-u162 .ensures)
+loop-again-2 c =
+    let at-loop = c .before .before .before .before .before .before .before in
+    miss (at-loop .loop .inv) (c .before .before .before .before .before .before .loop-test .taken) (c .before .before .before .before .before .stands .ensures) (c .before .before .before .before .if1 .left) (c .before .before .put-u162 .kept .0) (c .before .before .put-u162 .ensures)
 
 returns : tie.Need-returns Inv-loop μ-loop
 returns c = stop (c .before .loop .inv) (c .loop-test .left)

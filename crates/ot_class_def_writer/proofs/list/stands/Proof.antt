@@ -1,4 +1,4 @@
--- `class_def_writer::list::stands` meets its contract, test by test. Assumes nothing.
+-- `ot_class_def_writer::list::stands` meets its contract, test by test. Assumes nothing.
 use borrow.Author.Needs.{needs}
 use native.Mathlib.Omega.{arith}
 use borrow.Author.Tests.{lt-ltb, le-ltb}

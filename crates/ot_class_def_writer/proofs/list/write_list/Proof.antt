@@ -1,4 +1,4 @@
--- `class_def_writer::list::write_list` meets its contract: format, start glyph and count, and the classes behind them. Assumes nothing.
+-- `ot_class_def_writer::list::write_list` meets its contract: format, start glyph and count, and the classes behind them. Assumes nothing.
 use borrow.Author.Needs.{needs}
 use native.Mathlib.Omega.{arith}
 use Rattle.ot_class_def_writer.proofs.Heads.{three-then}
@@ -6,10 +6,16 @@ use Rattle.ot_class_def_writer.proofs.list.write_list.Statement.{statem
 use Rattle.ot_class_def_writer.proofs.list.write_list.Tie as tie
 
 put-classes-requires : tie.Need-put-classes-requires
-put-classes-requires c κs = let p = c .before .before .before .before .before .before .before .before .before .before .before .before .before .before .before .before .pre in (p .0, (p .1 .0, (p .1 .1 .0, omega (arith, p .1 .1 .1 .1))))
+put-classes-requires c κs =
+    let start = c .before .before .before .before .before .before .before .before .before .before .before .before .before .before .before .before in
+    let p = start .pre in (p .0, (p .1 .0, (p .1 .1 .0, omega (arith, p .1 .1 .1 .1))))
 
 returns : tie.Need-returns
-returns c = let p = c .before .before .before .before .before .before .before .before .before .before .before .before .before .before .before .before .before .before .before .pre in (three-then _ _ _ _ _ _ (omega (arith, p .1 .1 .1 .1)) (c .before .before .before .before .before .before .before .before .before .before .before .before .before .before .put-u16 .ensures) (c .before .before .before .before .before .before .before .before .before .before .put-u162 .ensures) (c .before .before .before .before .before .before .put-u163 .ensures) (c .before .before .put-classes .ensures), omega arith)
+returns c =
+    let after-put-u162 = c .before .before .before .before .before .before .before .before .before .before in
+    let after-put-u16 = after-put-u162 .before .before .before .before in
+    let start = after-put-u16 .before .before .before .before .before in
+    let p = start .pre in (three-then _ _ _ _ _ _ (omega (arith, p .1 .1 .1 .1)) (after-put-u16 .put-u16 .ensures) (after-put-u162 .put-u162 .ensures) (c .before .before .before .before .before .before .put-u163 .ensures) (c .before .before .put-classes .ensures), omega arith)
 
 pub write-list-spec : {M : Type 1} → statement M
 write-list-spec =

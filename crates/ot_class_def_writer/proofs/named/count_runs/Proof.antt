@@ -1,4 +1,4 @@
--- `class_def_writer::named::count_runs` meets its contract: the runs counted and the runs of the entries left are all runs. Assumes nothing.
+-- `ot_class_def_writer::named::count_runs` meets its contract: the runs counted and the runs of the entries left are all runs. Assumes nothing.
 use borrow.Author.Needs.{needs}
 use Prim.Native.Nat.{ℕ, _+_, _-_, _≤_, _<_}
 use mathlib.Core.Path.{_≡_, ap, _∙_}

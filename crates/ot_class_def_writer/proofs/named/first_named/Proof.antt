@@ -1,4 +1,4 @@
--- `class_def_writer::named::first_named` meets its contract: no class passed is named. Assumes nothing.
+-- `ot_class_def_writer::named::first_named` meets its contract: no class passed is named. Assumes nothing.
 use borrow.Author.Needs.{needs}
 use Prim.Native.Nat.{ℕ, _+_, _-_, _≤_, _<_}
 use mathlib.Core.List.{List}

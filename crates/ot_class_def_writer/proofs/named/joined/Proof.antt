@@ -1,4 +1,4 @@
--- `class_def_writer::named::joined` meets its contract, test by test. Assumes nothing.
+-- `ot_class_def_writer::named::joined` meets its contract, test by test. Assumes nothing.
 use borrow.Author.Needs.{needs}
 use Prim.Native.Nat.{ℕ, _+_, _≤_, _<_}
 use mathlib.Core.Path.{_≡_}

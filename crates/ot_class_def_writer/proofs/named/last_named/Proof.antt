@@ -1,4 +1,4 @@
--- `class_def_writer::named::last_named` meets its contract: no class passed from the end on is named. Assumes nothing.
+-- `ot_class_def_writer::named::last_named` meets its contract: no class passed from the end on is named. Assumes nothing.
 use borrow.Author.Needs.{needs}
 use Prim.Native.Nat.{ℕ, _-_, _≤_, _<_}
 use mathlib.Core.Path.{_≡_}

@@ -1,4 +1,4 @@
--- `class_def_writer::named::outline_of` meets its contract: the named entries span from the first of them to the last. Assumes nothing.
+-- `ot_class_def_writer::named::outline_of` meets its contract: the named entries span from the first of them to the last. Assumes nothing.
 use borrow.Author.Needs.{needs}
 use Prim.Native.Nat.{ℕ, _+_, _-_, _≤_, _<_}
 use mathlib.Core.Path.{_≡_}
@@ -52,10 +52,14 @@ add-end : tie.Need-add-end
 add-end c = omega (arith, c .shared-slice-known4 .given (c .before .before .last-named .result - 1))
 
 sub-t12 : tie.Need-sub-t12
-sub-t12 c = let h = ordered (c .before .before .before .before .before .before .before .before .args .glyphs .now) (c .before .before .before .before .before .before .before .before .args .classes .now) (c .before .before .before .before .before .before .before .before .args .first) (c .before .before .before .before .before .before .before .before .pre .0) _ (c .before .before .before .before .first-named .ensures) (c .before .before .before .if1 .taken) _ (c .before .before .last-named .ensures) (c .before .before .before .before .before .before .before .before .pre .1) in omega arith
+sub-t12 c =
+    let start = c .before .before .before .before .before .before .before .before in
+    let h = ordered (start .args .glyphs .now) (start .args .classes .now) (start .args .first) (start .pre .0) _ (c .before .before .before .before .first-named .ensures) (c .before .before .before .if1 .taken) _ (c .before .before .last-named .ensures) (start .pre .1) in omega arith
 
 returns : tie.Need-returns
-returns c = with-some _ _ _ (c .before .before .before .before .before .before .before .before .pre .0) (c .before .before .before .before .before .before .before .before .pre .1) (λ i. omega (arith, c .shared-slice-known4 .given i)) (c .before .before .before .before .before .count-runs .ensures) (c .before .before .before .before .first-named .ensures) (c .before .before .before .if1 .taken) (c .before .before .last-named .ensures)
+returns c =
+    let start = c .before .before .before .before .before .before .before .before in
+    with-some _ _ _ (start .pre .0) (start .pre .1) (λ i. omega (arith, c .shared-slice-known4 .given i)) (c .before .before .before .before .before .count-runs .ensures) (c .before .before .before .before .first-named .ensures) (c .before .before .before .if1 .taken) (c .before .before .last-named .ensures)
 
 returns-2 : tie.Need-returns-2
 returns-2 c = with-none _ _ _ (c .before .before .before .before .before .pre .0) (c .before .before .before .before .before .pre .1) (λ i. omega (arith, c .before .before .before .before .shared-slice-known .given i)) (c .before .before .count-runs .ensures) (c .before .first-named .ensures) (c .if1 .left)

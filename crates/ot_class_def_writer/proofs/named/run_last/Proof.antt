@@ -1,4 +1,4 @@
--- `class_def_writer::named::run_last` meets its contract: each entry passed joins the next. Assumes nothing.
+-- `ot_class_def_writer::named::run_last` meets its contract: each entry passed joins the next. Assumes nothing.
 use borrow.Author.Needs.{needs}
 use Prim.Native.Nat.{ℕ, _+_, _-_, _≤_, _<_}
 use mathlib.Core.Path.{_≡_, sym, _∙_}

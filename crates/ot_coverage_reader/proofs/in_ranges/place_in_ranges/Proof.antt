@@ -74,7 +74,9 @@ sub-t11 : tie.Need-sub-t11
 sub-t11 c = omega (arith, here (c .before .before) .starts)
 
 returns : tie.Need-returns
-returns c = hit (c .before .before .before .before .before .before .before .args .part .now) (c .before .before .before .before .before .before .before .args .count) (c .before .before .before .before .before .before .before .args .glyph) (c .before .before .before .before .before .before .before .pre) (c .before .before .before .before .before .range-of .ensures) (c .before .before .before .found .given .1) (c .before .u16-at .ensures) (c .u16-at2 .ensures)
+returns c =
+    let start = c .before .before .before .before .before .before .before in
+    hit (start .args .part .now) (start .args .count) (start .args .glyph) (start .pre) (c .before .before .before .before .before .range-of .ensures) (c .before .before .before .found .given .1) (c .before .u16-at .ensures) (c .u16-at2 .ensures)
 
 returns-2 : tie.Need-returns-2
 returns-2 c = miss (c .before .before .before .before .args .part .now) (c .before .before .before .before .args .count) (c .before .before .before .before .args .glyph) (c .before .before .before .before .pre) (c .before .before .range-of .ensures) (c .enum-told .given .1)

@@ -93,7 +93,9 @@ add-at : tie.Need-add-at Inv-loop μ-loop
 add-at c = omega (arith, fit (c .before .before .before .before .before .before) .ordered, fit (c .before .before .before .before .before .before) .room)
 
 loop-again : tie.Need-loop-again Inv-loop μ-loop
-loop-again c = turn (c .before .before .before .before .before .before .before .loop .inv) (c .before .before .before .before .before .before .loop-test .taken) (c .before .before .before .before .before .u16-at .ensures) (c .before .before .before .before .u16-at2 .ensures) (c .before .before .run-into .kept .0) (c .before .before .run-into .ensures)
+loop-again c =
+    let at-loop = c .before .before .before .before .before .before .before in
+    turn (at-loop .loop .inv) (c .before .before .before .before .before .before .loop-test .taken) (c .before .before .before .before .before .u16-at .ensures) (c .before .before .before .before .u16-at2 .ensures) (c .before .before .run-into .kept .0) (c .before .before .run-into .ensures)
 
 returns : tie.Need-returns Inv-loop μ-loop
 returns c = done (c .before .loop .inv) (c .loop-test .left)

@@ -9,7 +9,9 @@ use Rattle.ot_coverage_writer.proofs.write.put_head.Statement.{statemen
 use Rattle.ot_coverage_writer.proofs.write.put_head.Tie as tie
 
 returns : tie.Need-returns
-returns c = put-then _ _ _ _ _ (c .before .before .before .before .before .before .put-u16 .ensures) (c .before .before .put-u162 .ensures) (ap (λ (n : ℕ). c .before .before .before .before .before .before .before .before .before .args .at + n) (sym (length-be16 (c .before .before .before .before .before .before .before .before .before .args .format)))) (omega arith)
+returns c =
+    let start = c .before .before .before .before .before .before .before .before .before in
+    put-then _ _ _ _ _ (c .before .before .before .before .before .before .put-u16 .ensures) (c .before .before .put-u162 .ensures) (ap (λ (n : ℕ). start .args .at + n) (sym (length-be16 (start .args .format)))) (omega arith)
 
 pub put-head-spec : {M : Type 1} → statement M
 put-head-spec =

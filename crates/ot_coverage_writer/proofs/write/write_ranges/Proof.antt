@@ -142,7 +142,10 @@ add-end-2 : tie.Need-add-end-2 Inv-loop μ-loop
 add-end-2 c = omega (arith, room-at (c .before .before .before .before .before .before))
 
 loop-again-2 : tie.Need-loop-again-2 Inv-loop μ-loop
-loop-again-2 c = part (c .before .before .before .before .before .before .before .before .before .loop .inv) (c .before .before .before .before .before .before .before .before .loop-test .taken) (ends (c .before .before .before .before .before .before)) (c .before .before .put-range .kept .0) (c .before .before .put-range .ensures)
+loop-again-2 c =
+    let in-loop = c .before .before .before .before .before .before .before .before in
+    let at-loop = in-loop .before in
+    part (at-loop .loop .inv) (in-loop .loop-test .taken) (ends (c .before .before .before .before .before .before)) (c .before .before .put-range .kept .0) (c .before .before .put-range .ensures)
 
 returns : tie.Need-returns Inv-loop μ-loop
 returns c = done _ _ _ (c .before .loop .inv) (c .loop-test .left) (omega arith) (c .before .before .before .before .put-head .ensures)

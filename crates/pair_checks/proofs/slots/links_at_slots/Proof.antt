@@ -1,4 +1,4 @@
--- `checks::slots::links_at_slots` meets its contract: the rows of the table's own links decide. Assumes nothing.
+-- `pair_checks::slots::links_at_slots` meets its contract: the rows of the table's own links decide. Assumes nothing.
 use mathlib.Core.Path.{_∙_}
 use native.Mathlib.Omega.{arith}
 use Rattle.store_reader.proofs.Rows.{rows-rise}

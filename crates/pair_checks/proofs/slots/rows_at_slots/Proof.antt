@@ -1,4 +1,4 @@
--- `checks::slots::rows_at_slots` meets its contract: all rows passed stand at slots. Assumes nothing.
+-- `pair_checks::slots::rows_at_slots` meets its contract: all rows passed stand at slots. Assumes nothing.
 use Prim.Native.Nat.{_+_, _-_, _*_}
 use native.Mathlib.Omega.{arith}
 use borrow.Author.Needs.{needs}

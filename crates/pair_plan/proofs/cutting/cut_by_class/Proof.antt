@@ -1,4 +1,4 @@
--- `plan::cutting::cut_by_class` meets its contract: the fronts of the scratch are lent, and back with glyphs and classes. Assumes nothing.
+-- `pair_plan::cutting::cut_by_class` meets its contract: the fronts of the scratch are lent, and back with glyphs and classes. Assumes nothing.
 use native.Mathlib.Omega.{arith}
 use borrow.Author.Needs.{needs}
 use Rattle.pair_plan.proofs.Fronting.{fronts-lent, fronts-looked, fronts-cut}

@@ -1,11 +1,13 @@
--- `plan::cutting::cut_rows` meets its contract: what is asked of the table, and of its places, goes by what the checks hold, with the set emptied. Assumes nothing.
+-- `pair_plan::cutting::cut_rows` meets its contract: what is asked of the table, and of its places, goes by what the checks hold, with the set emptied. Assumes nothing.
 use borrow.Author.Needs.{needs}
 use Rattle.pair_plan.proofs.Looking.{class2-beside, rows-ready, rows-placed, rows-tell}
 use Rattle.pair_plan.proofs.cutting.cut_rows.Statement.{statement}
 use Rattle.pair_plan.proofs.cutting.cut_rows.Tie as tie
 
 info-of-requires : tie.Need-info-of-requires
-info-of-requires c κs = class2-beside (c .before .before .before .before .before .before .before .before .pre .1)
+info-of-requires c κs =
+    let start = c .before .before .before .before .before .before .before .before in
+    class2-beside (start .pre .1)
 
 compute-format2-split-points-requires : tie.Need-compute-format2-split-points-requires
 compute-format2-split-points-requires c κs =

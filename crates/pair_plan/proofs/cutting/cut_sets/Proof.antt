@@ -1,4 +1,4 @@
--- `plan::cutting::cut_sets` meets its contract: what is asked of the table, and of its places, goes by what the checks hold. Assumes nothing.
+-- `pair_plan::cutting::cut_sets` meets its contract: what is asked of the table, and of its places, goes by what the checks hold. Assumes nothing.
 use borrow.Author.Needs.{needs}
 use Rattle.pair_plan.proofs.Looking.{coverage-beside, sets-ready, sets-placed, sets-tell}
 use Rattle.pair_plan.proofs.cutting.cut_sets.Statement.{statement}

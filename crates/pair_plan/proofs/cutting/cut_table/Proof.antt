@@ -1,4 +1,4 @@
--- `plan::cutting::cut_table` meets its contract: the format decides. Assumes nothing.
+-- `pair_plan::cutting::cut_table` meets its contract: the format decides. Assumes nothing.
 use borrow.Author.Needs.{needs}
 use Rattle.pair_plan.specs.Cutting.{Looked1}
 use Rattle.pair_plan.proofs.cutting.cut_table.Statement.{statement}

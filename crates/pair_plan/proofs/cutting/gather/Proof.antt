@@ -1,4 +1,4 @@
--- `plan::cutting::gather` meets its contract: each step fills the whole slice, and the last puts both in order. Assumes nothing.
+-- `pair_plan::cutting::gather` meets its contract: each step fills the whole slice, and the last puts both in order. Assumes nothing.
 use native.Mathlib.Omega.{arith}
 use borrow.Author.Needs.{needs}
 use Rattle.pair_plan.proofs.Gathering.{coverage-inside, class1-inside, glyphs-ready, glyphs-apart, classes-ready, gathered}
@@ -6,15 +6,20 @@ use Rattle.pair_plan.proofs.cutting.gather.Statement.{statement}
 use Rattle.pair_plan.proofs.cutting.gather.Tie as tie
 
 bytes-of-requires : tie.Need-bytes-of-requires
-bytes-of-requires c κs = coverage-inside (c .before .before .before .before .before .before .before .before .pre .0 .3)
+bytes-of-requires c κs =
+    let start = c .before .before .before .before .before .before .before .before in
+    coverage-inside (start .pre .0 .3)
 
 glyphs-into-requires : tie.Need-glyphs-into-requires
 glyphs-into-requires c κs =
-    let (l, n, t, k) = c .before .before .before .before .before .before .before .before .before .before .pre .0 in
+    let start = c .before .before .before .before .before .before .before .before .before .before in
+    let (l, n, t, k) = start .pre .0 in
     glyphs-ready k (c .before .bytes-of .ensures l n)
 
 bytes-of-requires-2 : tie.Need-bytes-of-requires-2
-bytes-of-requires-2 c κs = class1-inside (c .before .before .before .before .before .before .before .before .before .before .before .before .before .before .pre .0 .3)
+bytes-of-requires-2 c κs =
+    let start = c .before .before .before .before .before .before .before .before .before .before .before .before .before .before in
+    class1-inside (start .pre .0 .3)
 
 classes-into-requires : tie.Need-classes-into-requires
 classes-into-requires c κs =

@@ -1,4 +1,4 @@
--- `plan::cutting::info_of` meets its contract: the length is what `size_of` answers. Assumes nothing.
+-- `pair_plan::cutting::info_of` meets its contract: the length is what `size_of` answers. Assumes nothing.
 use borrow.Author.Needs.{needs}
 use Rattle.pair_plan.proofs.cutting.info_of.Statement.{statement}
 use Rattle.pair_plan.proofs.cutting.info_of.Tie as tie

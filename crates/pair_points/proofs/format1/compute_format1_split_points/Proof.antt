@@ -1,4 +1,4 @@
--- `split_points::format1::compute_format1_split_points` meets its contract: after each pair set the code stands where document 01 does. Assumes nothing.
+-- `pair_points::format1::compute_format1_split_points` meets its contract: after each pair set the code stands where document 01 does. Assumes nothing.
 use Prim.Native.Nat.{_-_}
 use mathlib.Core.Path.{refl}
 use native.Mathlib.Omega.{arith}
@@ -37,11 +37,12 @@ weigh-set-requires c κs =
 
 loop-again : tie.Need-loop-again Inv-loop μ-loop
 loop-again c =
+    let at-loop = c .before .before .before .before .before .before .before .before .before in
     record {
       within = search needs;
       walk = search needs;
       long = search needs;
-      below = λ b r. c .before .before .before .before .weigh-set .ensures b _ (c .before .before .before .before .before .before .before .before .before .loop .inv .below b r);
+      below = λ b r. c .before .before .before .before .weigh-set .ensures b _ (at-loop .loop .inv .below b r);
     }
 
 returns : tie.Need-returns Inv-loop μ-loop

@@ -1,4 +1,4 @@
--- `split_points::format1::weigh_set` meets its contract: the slot is empty exactly if it has no row, and the cost and what stands beside the sets
+-- `pair_points::format1::weigh_set` meets its contract: the slot is empty exactly if it has no row, and the cost and what stands beside the sets
 -- are document 01's. Assumes nothing.
 use mathlib.Core.Path.{_∙_}
 use native.Mathlib.Omega.{arith}
@@ -33,15 +33,15 @@ add-partial c =
 
 add-weigh : tie.Need-add-weigh
 add-weigh c =
-    let s = c .before .before .before .before .before .before .before .before .before .before .before .before .before .before .before .before .before .before in
     let m = c .before .before .before .before .before .before .before .before in
+    let s = m .before .before .before .before .before .before .before .before .before .before in
     let v = s .pre .1 .2 in
     omega (arith, m .measure .ensures (s .pre .1 .0) _ _ (s .args .i) (m .before .before .item-end .ensures ∙ set-ends v (s .pre .0) .0) (v .filled .at) .most)
 
 weigh-requires : tie.Need-weigh-requires
 weigh-requires c κs =
-    let s = c .before .before .before .before .before .before .before .before .before .before .before .before .before .before .before .before .before .before .before in
     let m = c .before .before .before .before .before .before .before .before .before in
+    let s = m .before .before .before .before .before .before .before .before .before .before in
     let v = s .pre .1 .2 in
     let y = m .measure .ensures (s .pre .1 .0) _ _ (s .args .i) (m .before .before .item-end .ensures ∙ set-ends v (s .pre .0) .0) (v .filled .at) in
     let f = v .filled in

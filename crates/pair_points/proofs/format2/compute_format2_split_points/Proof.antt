@@ -1,4 +1,4 @@
--- `split_points::format2::compute_format2_split_points` meets its contract: after each row the code stands where document 01 does. Assumes nothing.
+-- `pair_points::format2::compute_format2_split_points` meets its contract: after each row the code stands where document 01 does. Assumes nothing.
 use Prim.Native.Nat.{_-_}
 use mathlib.Core.Path.{refl}
 use native.Mathlib.Omega.{arith}
@@ -16,10 +16,14 @@ abbrev μ-loop : tie.MeasureT-loop
 μ-loop objects links counts info glyphs classes walk₀ set₀ cuts₀ count rows₀ i₀ walk set cuts rows i = info .count - i
 
 cast-count : tie.Need-cast-count Inv-loop μ-loop
-cast-count c = omega (arith, sound-fits _ (c .before .before .before .before .before .before .before .before .pre .1 .table .described .is-sound) .linksMost)
+cast-count c =
+    let start = c .before .before .before .before .before .before .before .before in
+    omega (arith, sound-fits _ (start .pre .1 .table .described .is-sound) .linksMost)
 
 first-row-requires : tie.Need-first-row-requires Inv-loop μ-loop
-first-row-requires c κs = in-order _ (sound-fits _ (c .before .before .before .before .before .before .before .before .before .pre .1 .table .described .is-sound))
+first-row-requires c κs =
+    let start = c .before .before .before .before .before .before .before .before .before in
+    in-order _ (sound-fits _ (start .pre .1 .table .described .is-sound))
 
 loop-holds : tie.Need-loop-holds Inv-loop μ-loop
 loop-holds c =
@@ -38,12 +42,13 @@ weigh-row-requires c κs =
 
 loop-again : tie.Need-loop-again Inv-loop μ-loop
 loop-again c =
+    let at-loop = c .before .before .before .before .before .before .before .before .before .before .before .before in
     record {
       inside = search needs;
       walk = search needs;
       glyphs = search needs;
       long = search needs;
-      below = λ b r. c .before .before .before .before .before .before .weigh-row .ensures b _ (c .before .before .before .before .before .before .before .before .before .before .before .before .loop .inv .below b r);
+      below = λ b r. c .before .before .before .before .before .before .weigh-row .ensures b _ (at-loop .loop .inv .below b r);
     }
 
 returns : tie.Need-returns Inv-loop μ-loop

@@ -1,4 +1,4 @@
--- `split_points::format2::weigh_row` meets its contract: the row's cost and what stands beside the rows are document 01's, and a cut restarts
+-- `pair_points::format2::weigh_row` meets its contract: the row's cost and what stands beside the rows are document 01's, and a cut restarts
 -- the estimate with the row's class. Assumes nothing.
 use mathlib.Core.Path.{_∙_}
 use native.Mathlib.Omega.{arith}
@@ -22,27 +22,29 @@ measure-requires c κs =
 
 add-requires : tie.Need-add-requires
 add-requires c κs =
-    let v = c .before .before .before .before .before .before .before .before .before .before .before .before .before .before .before .before .pre .1 .2 in
+    let start = c .before .before .before .before .before .before .before .before .before .before .before .before .before .before .before .before in
+    let v = start .pre .1 .2 in
     (_, _, v .filled .first, v .table .ordered, v .held)
 
 beside-requires : tie.Need-beside-requires
 beside-requires c κs =
-    let v = c .before .before .before .before .before .before .before .before .before .before .before .before .before .before .before .before .before .before .before .before .pre .1 .2 in
+    let start = c .before .before .before .before .before .before .before .before .before .before .before .before .before .before .before .before .before .before .before .before in
+    let v = start .pre .1 .2 in
     let (h, e) = c .before .before .before .add .ensures _ _ (v .filled .first) (v .table .ordered) (v .held) in
     (held-small (v .table .ordered) h, omega (arith, v .table .class2, linked-most (v .table .described) 10))
 
 add-weigh : tie.Need-add-weigh
 add-weigh c =
-    let s = c .before .before .before .before .before .before .before .before .before .before .before .before .before .before .before .before .before .before .before .before .before .before in
     let m = c .before .before .before .before .before .before .before .before .before in
+    let s = m .before .before .before .before .before .before .before .before .before .before .before .before .before in
     let v = s .pre .1 .2 in
     let y = m .measure .ensures (s .pre .1 .0) _ _ (s .args .i) (m .before .before .item-end .ensures ∙ row-ends v (s .pre .0) .0) (v .filled .at) in
     omega (arith, y .most, row-most v (s .pre .0))
 
 weigh-requires : tie.Need-weigh-requires
 weigh-requires c κs =
-    let s = c .before .before .before .before .before .before .before .before .before .before .before .before .before .before .before .before .before .before .before .before .before .before .before in
     let m = c .before .before .before .before .before .before .before .before .before .before in
+    let s = m .before .before .before .before .before .before .before .before .before .before .before .before .before in
     let v = s .pre .1 .2 in
     let y = m .measure .ensures (s .pre .1 .0) _ _ (s .args .i) (m .before .before .item-end .ensures ∙ row-ends v (s .pre .0) .0) (v .filled .at) in
     let (h, e) = c .before .before .before .before .before .before .add .ensures _ _ (v .filled .first) (v .table .ordered) (v .held) in
@@ -50,8 +52,10 @@ weigh-requires c κs =
 
 restart-requires : tie.Need-restart-requires
 restart-requires c κs =
-    let v = c .before .before .before .before .before .before .before .before .before .before .before .before .before .before .before .before .before .before .before .before .before .before .before .before .before .before .before .before .before .before .pre .1 .2 in
-    let (h, e) = c .before .before .before .before .before .before .before .before .before .before .before .before .before .add .ensures _ _ (v .filled .first) (v .table .ordered) (v .held) in
+    let after-add = c .before .before .before .before .before .before .before .before .before .before .before .before .before in
+    let start = after-add .before .before .before .before .before .before .before .before .before .before .before .before .before .before .before .before .before in
+    let v = start .pre .1 .2 in
+    let (h, e) = after-add .add .ensures _ _ (v .filled .first) (v .table .ordered) (v .held) in
     (_, _, _, v .filled .first, v .table .ordered, h, e)
 
 same-length : tie.Need-same-length

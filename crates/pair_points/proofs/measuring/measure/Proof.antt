@@ -1,4 +1,4 @@
--- `split_points::measuring::measure` meets its contract: the rows up to the item's end are the item's, so that the walk adds its S. Assumes nothing.
+-- `pair_points::measuring::measure` meets its contract: the rows up to the item's end are the item's, so that the walk adds its S. Assumes nothing.
 use native.Mathlib.Omega.{arith}
 use borrow.Author.Needs.{needs}
 use Rattle.pair_points.proofs.ItemSizes.{at-fits, at-in-order, rows-before, measured}

@@ -7,13 +7,19 @@ use Rattle.pair_reading.proofs.find_spot.spot_in_set.Statement.{stateme
 use Rattle.pair_reading.proofs.find_spot.spot_in_set.Tie as tie
 
 mul-at : tie.Need-mul-at
-mul-at c = let a = c .before .before .before .before .before .before .before .args in omega (arith, record-place (c .before .before .before .before .bytes-of .result .now) (a .size) (a .second) _ (c .before .before .before .record-in-set .ensures) (c .before .found .given .1))
+mul-at c =
+    let start = c .before .before .before .before .before .before .before in
+    let a = start .args in omega (arith, record-place (c .before .before .before .before .bytes-of .result .now) (a .size) (a .second) _ (c .before .before .before .record-in-set .ensures) (c .before .found .given .1))
 
 add-at-2 : tie.Need-add-at-2
-add-at-2 c = let a = c .before .before .before .before .before .before .before .args in omega (arith, record-place (c .before .before .before .before .bytes-of .result .now) (a .size) (a .second) _ (c .before .before .before .record-in-set .ensures) (c .before .found .given .1))
+add-at-2 c =
+    let start = c .before .before .before .before .before .before .before in
+    let a = start .args in omega (arith, record-place (c .before .before .before .before .bytes-of .result .now) (a .size) (a .second) _ (c .before .before .before .record-in-set .ensures) (c .before .found .given .1))
 
 returns : tie.Need-returns
-returns c l k = let a = c .before .before .before .before .before .before .before .args in record-in (lent (a .«data» .now) (a .objects .now) l k) (a .size) (a .second) (a .object) (c .before .before .before .before .bytes-of .ensures l k) (c .before .before .before .record-in-set .ensures) (c .before .found .given .1)
+returns c l k =
+    let start = c .before .before .before .before .before .before .before in
+    let a = start .args in record-in (lent (a .«data» .now) (a .objects .now) l k) (a .size) (a .second) (a .object) (c .before .before .before .before .bytes-of .ensures l k) (c .before .before .before .record-in-set .ensures) (c .before .found .given .1)
 
 returns-2 : tie.Need-returns-2
 returns-2 c l k = let a = c .before .before .before .before .before .before .args in no-record-in (lent (a .«data» .now) (a .objects .now) l k) (a .size) (a .second) (a .object) (c .before .before .before .bytes-of .ensures l k) (c .before .before .record-in-set .ensures) (c .enum-told .given .1)

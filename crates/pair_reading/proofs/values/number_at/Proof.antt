@@ -36,7 +36,9 @@ cast-device-number c =
     omega (arith, field-within (start .pre .0) (a .j) (start .pre .1) (c .before .before .before .before .has-field .ensures) (c .before .before .before .if1 .left), object-small (start .pre .0), c .before .before .position .ensures)
 
 device-number-requires : tie.Need-device-number-requires
-device-number-requires c κs = let start = c .before .before .before .before .before .before .before .before in (links-in-order (start .pre .0), children-small (start .pre .0))
+device-number-requires c κs =
+    let place = c .before .before .before .before .before .before .before .before in
+    let start = place in (links-in-order (start .pre .0), children-small (start .pre .0))
 
 returns-2 : tie.Need-returns-2
 returns-2 c =
@@ -46,7 +48,9 @@ returns-2 c =
     ∙ device (start .pre .0) (a .j) (start .pre .1) (c .before .before .before .before .before .has-field .ensures) (c .before .before .before .before .if1 .left) (c .before .before .before .position .ensures) (c .before .before .field-at .ensures) (c .before .if2 .taken) (c .device-number .ensures (a .«data» .now) (a .objects .now))
 
 bytes-of-requires : tie.Need-bytes-of-requires
-bytes-of-requires c κs = object-inside (c .before .before .before .before .before .before .before .before .pre .0)
+bytes-of-requires c κs =
+    let start = c .before .before .before .before .before .before .before .before in
+    object-inside (start .pre .0)
 
 u16-at-requires : tie.Need-u16-at-requires
 u16-at-requires c κs =
@@ -56,10 +60,11 @@ u16-at-requires c κs =
 
 returns-3 : tie.Need-returns-3
 returns-3 c =
-    let start = c .before .before .before .before .before .before .before .before .before .before .before in
+    let after-has-field = c .before .before .before .before .before .before .before in
+    let start = after-has-field .before .before .before .before in
     let a = start .args in
     toZ-ofZ w32 (c .signed .result) (search needs)
-    ∙ plain (start .pre .0) (a .j) (start .pre .1) (c .before .before .before .before .before .before .before .has-field .ensures) (c .before .before .before .before .before .before .if1 .left) (c .before .before .before .before .before .position .ensures) (c .before .before .before .before .field-at .ensures) (c .before .before .before .if2 .left) (c .before .before .bytes-of .ensures (a .links .now) (a .counts .now)) (c .before .u16-at .ensures) (c .signed .ensures)
+    ∙ plain (start .pre .0) (a .j) (start .pre .1) (after-has-field .has-field .ensures) (c .before .before .before .before .before .before .if1 .left) (c .before .before .before .before .before .position .ensures) (c .before .before .before .before .field-at .ensures) (c .before .before .before .if2 .left) (c .before .before .bytes-of .ensures (a .links .now) (a .counts .now)) (c .before .u16-at .ensures) (c .signed .ensures)
 
 pub number-at-spec : {M : Type 1} → statement M
 number-at-spec =

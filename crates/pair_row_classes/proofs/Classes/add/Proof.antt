@@ -1,4 +1,4 @@
--- `row_classes::Classes::add` meets its contract: the class's glyphs stand behind those that are held. Assumes nothing.
+-- `pair_row_classes::Classes::add` meets its contract: the class's glyphs stand behind those that are held. Assumes nothing.
 use Prim.Native.Nat.{_+_}
 use native.Mathlib.Omega.{arith}
 use Rattle.pair_row_classes.proofs.ClassesHeld.{part-inside, held-from, held-end, held-ready, held-more}

@@ -1,4 +1,4 @@
--- `row_classes::Classes::new` meets its contract: the estimator has no class. Assumes nothing.
+-- `pair_row_classes::Classes::new` meets its contract: the estimator has no class. Assumes nothing.
 use Rattle.pair_row_classes.proofs.ClassesHeld.{held-begins}
 use borrow.Author.Needs.{needs}
 use Rattle.pair_row_classes.proofs.Classes.new.Statement.{statement}

@@ -1,4 +1,4 @@
--- `row_classes::Classes::restart` meets its contract: the set is empty again, and the last class is added to it. Assumes nothing.
+-- `pair_row_classes::Classes::restart` meets its contract: the set is empty again, and the last class is added to it. Assumes nothing.
 use Prim.Native.Nat.{_+_}
 use mathlib.Core.Path.{refl}
 use native.Mathlib.Omega.{arith}
@@ -59,8 +59,9 @@ add-requires c κs =
 
 returns : tie.Need-returns
 returns c =
+    let after-forget = c .before .before .before .before .before .before .before .before in
     λ es cs a order o v e.
-    let n = held-none v refl refl (c .before .before .before .before .before .before .before .before .forget .ensures) (c .before .before .before .before .before .reset .ensures) e in
+    let n = held-none v refl refl (after-forget .forget .ensures) (c .before .before .before .before .before .reset .ensures) e in
     held-more o n (omega arith) e (v .to) (c .before .before .add .ensures)
 
 pub restart-spec : {M : Type 1} → statement M

@@ -6,12 +6,14 @@ use Rattle.pair_split.proofs.arranging.arrange.Tie as tie
 
 bytes-of-requires : tie.Need-bytes-of-requires
 bytes-of-requires c κs =
-    let (l, n, t, k) = c .before .before .before .before .before .before .before .before .before .before .pre in
+    let start = c .before .before .before .before .before .before .before .before .before .before in
+    let (l, n, t, k) = start .pre in
     coverage-inside k
 
 glyphs-into-requires : tie.Need-glyphs-into-requires
 glyphs-into-requires c κs =
-    let (l, n, t, k) = c .before .before .before .before .before .before .before .before .before .before .before .before .pre in
+    let start = c .before .before .before .before .before .before .before .before .before .before .before .before in
+    let (l, n, t, k) = start .pre in
     glyphs-ready k (c .before .bytes-of .ensures l n)
 
 number-places-requires : tie.Need-number-places-requires

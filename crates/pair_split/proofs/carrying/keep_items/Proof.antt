@@ -4,7 +4,9 @@ use Rattle.pair_split.proofs.carrying.keep_items.Statement.{statement}
 use Rattle.pair_split.proofs.carrying.keep_items.Tie as tie
 
 returns : tie.Need-returns
-returns c = (rw (c .before .before .before .before .before .before .before .before .before .count-position .ensures) at (c .before .before .before .before .before .before .before .before .put-u16 .ensures), c .before .before .shorten .ensures)
+returns c =
+    let after-put-u16 = c .before .before .before .before .before .before .before .before in
+    (after-put-u16 .put-u16 .ensures, c .before .before .shorten .ensures)
 
 pub keep-items-spec : {M : Type 1} → statement M
 keep-items-spec =
@@ -14,7 +16,6 @@ keep-items-spec =
     (λ c. search needs)
     (λ c. search needs)
     (λ c. search needs)
-    (λ c κs. search needs)
     (λ c. search needs)
     (λ c κs. search needs)
     (λ c. search needs)

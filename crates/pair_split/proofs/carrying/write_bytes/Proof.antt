@@ -11,19 +11,30 @@ cast-head : tie.Need-cast-head
 cast-head c = omega (arith, c .slice-known3 .given (2 * c .before .before .before .before .before .before .args .table))
 
 write-objects-requires : tie.Need-write-objects-requires
-write-objects-requires c κs = write-asked (c .before .before .before .before .before .before .before .before .before .before .pre .1)
+write-objects-requires c κs =
+    let start = c .before .before .before .before .before .before .before .before .before .before in
+    write-asked (start .pre .1)
 
 keep-items-requires : tie.Need-keep-items-requires
-keep-items-requires c κs = keep-ready (c .before .before .before .before .before .before .before .before .before .before .before .before .before .before .before .before .before .before .pre .1) (c .before .before .before .before .before .before .before .write-objects .ensures)
+keep-items-requires c κs =
+    let after-write-objects = c .before .before .before .before .before .before .before in
+    let start = after-write-objects .before .before .before .before .before .before .before .before .before .before .before in
+    keep-ready (start .pre .1) (after-write-objects .write-objects .ensures)
 
 same-length : tie.Need-same-length
-same-length c = c .before .before .before .data2 .given ∙ c .before .before .before .before .before .before .before .before .before .before .before .«data» .given
+same-length c =
+    let after-data = c .before .before .before .before .before .before .before .before .before .before .before in
+    c .before .before .before .data2 .given ∙ after-data .«data» .given
 
 same-length-2 : tie.Need-same-length-2
-same-length-2 c = c .before .objects2 .given ∙ c .before .before .before .before .before .before .before .before .before .objects .given
+same-length-2 c =
+    let after-objects = c .before .before .before .before .before .before .before .before .before in
+    c .before .objects2 .given ∙ after-objects .objects .given
 
 returns : tie.Need-returns
-returns c l w = keep-wrote w (c .before .before .before .before .before .before .before .before .before .before .before .before .write-objects .ensures) (c .before .before .before .before .keep-items .ensures .0) (c .before .before .before .before .keep-items .ensures .1)
+returns c l w =
+    let after-write-objects = c .before .before .before .before .before .before .before .before .before .before .before .before in
+    keep-wrote w (after-write-objects .write-objects .ensures) (c .before .before .before .before .keep-items .ensures .0) (c .before .before .before .before .keep-items .ensures .1)
 
 pub write-bytes-spec : {M : Type 1} → statement M
 write-bytes-spec =

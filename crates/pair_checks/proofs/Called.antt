@@ -1,0 +1,134 @@
+-- The checks that need no scratch but its lengths, and the look for a cycle after them, decide in document 01's order. Assumes nothing.
+use Prim.Native.Nat.{ℕ, _<_}
+use mathlib.Core.Path.{_≡_, refl, sym, ap, ap₂, _∙_}
+use mathlib.Core.Bool.{Bool, true, false, cond, not, _||_}
+use mathlib.Core.List.{List, [], _∷_}
+use mathlib.Core.Option.{Option, some, none}
+use native.Mathlib.Omega.{arith}
+use lib.ListN.{getD}
+use borrow.Author.Tests.{not-true, not-false}
+use Rattle.store_reader.specs.Rows.{InOrder}
+use Rattle.store_reader.proofs.Rows.{in-order}
+use Rattle.ot_pairpos.specs.declared.Layout.{Layout}
+use Rattle.ot_pairpos.specs.Layout.{layoutOf}
+use Rattle.call_rules.specs.declared.Answer.{Answer}
+use Rattle.call_rules.specs.declared.Answer.the-variants.{ShortScratch, BadLinks}
+use Rattle.store_rules.specs.Store.{Store, lent}
+use Rattle.store_rules.specs.Reach.{onCycle}
+use Rattle.pair_rules.specs.Table.{allAtSlots}
+use Rattle.call_rules.specs.Scratch.{Scratch}
+use Rattle.call_rules.specs.Answers.{number, firstCase, case}
+use Rattle.pair_rules.specs.Calls.{readCases, scratchShort, cutCases}
+use Rattle.store_rules.proofs.Sound.{sound-fits}
+use Rattle.call_rules.proofs.Scratch.{LongEnough, long-enough}
+use Rattle.call_rules.proofs.Cases.{first-skip, first-stands}
+use Rattle.pair_checks.specs.declared.PairTable.{PairTable}
+use Rattle.pair_checks.specs.declared.Checked.{Checked}
+use Rattle.pair_checks.specs.declared.Checked.the-variants.{Open, Settled}
+use Rattle.pair_checks.specs.Checked.{checkedOf, settledAs}
+use Rattle.pair_checks.specs.Opens.{Opens}
+use Rattle.pair_checks.proofs.Refusals.{opens, refusals}
+use Rattle.call_rules.specs.declared.Lengths.{Lengths}
+use Rattle.call_rules.specs.Scratch.{lengthsOf, lengthsShort}
+use Rattle.pair_checks.specs.Called.{lentBy, calledBy, calledOf}
+
+-- ---- 6 and the slots of 7, of a table that is open
+
+pub can-ask-slots : (b o l c : List ℕ) {t : ℕ} {p : PairTable} → Opens (lent b o l c) t p → (InOrder l (getD c 2 0)) × (t < 65536)
+can-ask-slots b o l c x =
+    let f = sound-fits (lent b o l c) (x .reads .sounds) in
+    (in-order (lent b o l c) f, omega (arith, x .reads .used, f .objectsMost))
+
+module _ (s : Store) (t : ℕ) (n : Lengths) (p : PairTable) {short : Bool} (e : short ≡ lengthsShort n (s .objectCount) (p .glyphs) (p .layout .count)) where
+  pub lent-short : short ≡ true → Settled ShortScratch ≡ lentBy s t n p
+  unfolding lentBy
+  lent-short h = rw (sym e ∙ h)
+
+  module _ (h : short ≡ false) {slots : Bool} (f : slots ≡ allAtSlots s t) where
+    pub lent-unslotted : not slots ≡ true → Settled BadLinks ≡ lentBy s t n p
+    unfolding lentBy
+    lent-unslotted g = rw (sym e ∙ h, sym f ∙ not-true slots g)
+
+    pub lent-open : not slots ≡ false → Open p ≡ lentBy s t n p
+    unfolding lentBy
+    lent-open g = rw (sym e ∙ h, sym f ∙ not-false slots g)
+
+-- ---- by what 1 to 5 decide
+
+module _ (s : Store) (t : ℕ) {x : Checked} (e : x ≡ checkedOf s t) where
+  pub is-open : {p : PairTable} → x ≡ Open p → checkedOf s t ≡ Open p
+  is-open y = sym e ∙ y
+
+  module _ (n : Lengths) where
+    pub call-settled : {a : Answer} → x ≡ Settled a → Settled a ≡ calledOf s t n
+    unfolding calledOf
+    call-settled y = ap (calledBy s t n) (sym y ∙ e)
+
+    pub call-open : {p : PairTable} {r : Checked} → x ≡ Open p → (checkedOf s t ≡ Open p → r ≡ lentBy s t n p) → r ≡ calledOf s t n
+    unfolding calledOf
+    call-open y h = h (is-open y) ∙ ap (calledBy s t n) (sym y ∙ e)
+
+-- ---- the cases 1 to 7
+
+-- the number of the answer, if there is one, where the look for a cycle comes last
+abbrev pub lookedLast : Checked → Bool → Option ℕ
+lookedLast (Open p) cycle = cond cycle (some (number BadLinks)) none
+lookedLast (Settled a) cycle = some (number a)
+
+module _ (s : Store) (t : ℕ) (w : Scratch) where
+  -- 6, by the table's own numbers
+  same-short : {p : PairTable} → Opens s t p → lengthsShort (lengthsOf w) (s .objectCount) (p .glyphs) (p .layout .count) ≡ scratchShort s t w
+  unfolding lengthsShort scratchShort layoutOf
+  same-short o = ap₂ (λ (g i : ℕ). lengthsShort (lengthsOf w) (s .objectCount) g i) (o .glyphs) (ap (λ (l : Layout). l .count) (o .layout))
+
+  -- 6 and 7
+  lent-cases : (p : PairTable) → Opens s t p
+      → firstCase (case ShortScratch (scratchShort s t w) ∷ case BadLinks (not (allAtSlots s t) || onCycle s t) ∷ []) ≡ lookedLast (lentBy s t (lengthsOf w) p) (onCycle s t)
+  unfolding firstCase lentBy
+  lent-cases p o = rw (same-short o) (go (scratchShort s t w) (allAtSlots s t) (onCycle s t))
+    where
+      go : (short slots cycle : Bool) → cond short (some (number ShortScratch)) (cond (not slots || cycle) (some (number BadLinks)) none)
+          ≡ lookedLast (cond short (Settled ShortScratch) (cond (not slots) (Settled BadLinks) (Open p))) cycle
+      go true slots cycle = refl
+      go false true cycle = refl
+      go false false cycle = refl
+
+  pub called : firstCase (cutCases s t w) ≡ lookedLast (calledOf s t (lengthsOf w)) (onCycle s t)
+  unfolding cutCases calledOf
+  called = go (checkedOf s t) refl
+    where
+      go : (x : Checked) → checkedOf s t ≡ x → firstCase (cutCases s t w) ≡ lookedLast (calledBy s t (lengthsOf w) x) (onCycle s t)
+      go (Open p) e = first-skip (readCases s t) _ (refusals s t ∙ ap settledAs e) ∙ lent-cases p (opens s t p e)
+      go (Settled a) e = first-stands (readCases s t) _ (number a) (refusals s t ∙ ap settledAs e)
+
+-- ---- a table to which neither 1 to 6 nor the slots of 7 apply
+
+pub record Passed (s : Store) (t : ℕ) (n : Lengths) (p : PairTable) : Type 0 where
+  pub opens : Opens s t p
+  pub slots : allAtSlots s t ≡ true
+  pub long : LongEnough n (s .objectCount) (p .glyphs) (p .layout .count)
+
+module _ (s : Store) (t : ℕ) (n : Lengths) (p : PairTable) where
+  by-lent : (q : PairTable) → lentBy s t n q ≡ Open p → (q ≡ p) × (lengthsShort n (s .objectCount) (q .glyphs) (q .layout .count) ≡ false) × (allAtSlots s t ≡ true)
+  unfolding lentBy
+  by-lent q h = go (lengthsShort n (s .objectCount) (q .glyphs) (q .layout .count)) (allAtSlots s t) h
+    where
+      go : (short slots : Bool) → cond short (Settled ShortScratch) (cond (not slots) (Settled BadLinks) (Open q)) ≡ Open p
+          → (q ≡ p) × (short ≡ false) × (slots ≡ true)
+      go true slots e = let z : _≡_ {A = ℕ} 0 1 = cc in absurd (omega arith)
+      go false false e = let z : _≡_ {A = ℕ} 0 1 = cc in absurd (omega arith)
+      go false true e = (cc, refl, refl)
+
+  pub passed : calledOf s t n ≡ Open p → Passed s t n p
+  unfolding calledOf
+  passed h = go (checkedOf s t) refl h
+    where
+      go : (x : Checked) → checkedOf s t ≡ x → calledBy s t n x ≡ Open p → Passed s t n p
+      go (Settled a) e f = let z : _≡_ {A = ℕ} 0 1 = cc in absurd (omega arith)
+      go (Open q) e f =
+          let (same, short, slots) = by-lent q f in
+          record {
+            opens = opens s t p (e ∙ ap Open same);
+            slots = slots;
+            long = long-enough n (s .objectCount) (p .glyphs) (p .layout .count) (rw same at short);
+          }

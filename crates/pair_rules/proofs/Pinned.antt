@@ -1,0 +1,282 @@
+-- Pair tables held against small whole stores, as one check; each list pins what its comment says. Assumes nothing.
+use Prim.Native.Nat.{ℕ, _+_, _*_, _/_}
+use mathlib.Core.Path.{_≡_, refl}
+use mathlib.Core.Bool.{Bool, true, false, cond, _&&_}
+use mathlib.Core.List.{List, [], _∷_, _++_}
+use lib.ListN.{length, getD, replicate, take}
+use lib.IntN.{ℤ, pos, negsuc}
+use lib.Dec.{eqb}
+use Rattle.folds.specs.Folds.{all, run}
+use Rattle.folds.specs.Lists.{isEmpty}
+use Rattle.folds.proofs.Compared as compared
+use Rattle.folds.proofs.Compared.{same, every, agree}
+use Rattle.ot_layouts.specs.Numbers.{words}
+use Rattle.ot_layouts.specs.Coverage.{Entry}
+use Rattle.ot_layouts.specs.PairPos.{shapeOf}
+use Rattle.store_rules.specs.Store.{Store, perLink, sound, bytesOf}
+use Rattle.store_rules.specs.Appended.{rowNumbers}
+use Rattle.store_rules.proofs.Pinned.{linkRow, packed}
+use Rattle.cut_rules.specs.Cuts.{cutsOf}
+use Rattle.call_rules.specs.Scratch.{Scratch}
+use Rattle.call_rules.specs.Outcomes.{Outcome}
+use Rattle.pair_rules.specs.Rules.{bareRule, rule2}
+use Rattle.pair_rules.specs.Table.{cutPlaces}
+use Rattle.pair_rules.specs.Written.{newLinks, splitStore, newTables}
+use Rattle.pair_rules.specs.Pairs.{Pair, noPair, pairOf, pairAmong}
+use Rattle.pair_rules.specs.Calls.{splitCall, planCall, pairCall}
+use Rattle.pair_rules.specs.Computing as definitions
+
+-- ---- comparing
+
+abbrev sameℤ : ℤ → ℤ → Bool
+sameℤ (pos a) (pos b) = eqb a b
+sameℤ (negsuc a) (negsuc b) = eqb a b
+sameℤ (pos a) (negsuc b) = false
+sameℤ (negsuc a) (pos b) = false
+
+unfoldable pub sameℤs : List ℤ → List ℤ → Bool
+sameℤs [] [] = true
+sameℤs [] (y ∷ ys) = false
+sameℤs (x ∷ xs) [] = false
+sameℤs (x ∷ xs) (y ∷ ys) = sameℤ x y && sameℤs xs ys
+
+unfoldable pub samePair : Pair → Pair → Bool
+samePair p q = agree (p .found) (q .found) && sameℤs (p .first) (q .first) && sameℤs (p .second) (q .second)
+
+-- ---- stores
+
+-- a store of objects of these sizes
+unfoldable pub storeOf : List ℕ → List ℕ → List ℕ → Store
+storeOf bytes sizes links =
+    record {
+      bytes = bytes;
+      objects = packed 0 sizes;
+      links = links;
+      byteCount = length bytes;
+      objectCount = length sizes;
+      linkCount = length links / perLink;
+    }
+
+-- with these bytes, objects and links to spare, none of them zero
+unfoldable pub roomy : ℕ → ℕ → ℕ → Store → Store
+roomy bytes objects links s =
+    record {
+      bytes = s .bytes ++ replicate bytes 77;
+      objects = s .objects ++ replicate (2 * objects) 77;
+      links = s .links ++ replicate (perLink * links) 77;
+      byteCount = s .byteCount;
+      objectCount = s .objectCount;
+      linkCount = s .linkCount;
+    }
+
+-- format 1, value formats 0011 and 0004, under a coverage: sets 2 and 3 at the first and the last of three slots, and a device, 4, of set 2
+unfoldable pub bare1 : List ℕ → List ℕ → Store
+bare1 cover links =
+    storeOf
+    (words (1 ∷ 0 ∷ 0x11 ∷ 0x04 ∷ 3 ∷ 0 ∷ 0 ∷ 0 ∷ []) ++ words cover ++ words (2 ∷ 5 ∷ 65535 ∷ 999 ∷ 7 ∷ 6 ∷ 1 ∷ 0 ∷ 2 ∷ [])
+    ++ words (1 ∷ 5 ∷ 3 ∷ 0 ∷ 65534 ∷ []) ++ words (12 ∷ 13 ∷ 1 ∷ []))
+    (16 ∷ 2 * length cover ∷ 18 ∷ 10 ∷ 6 ∷ []) links
+
+unfoldable pub under1 : List ℕ → List ℕ → Store
+under1 cover links = roomy 400 20 20 (bare1 cover links)
+
+unfoldable pub tens : List ℕ
+tens = 1 ∷ 3 ∷ 10 ∷ 20 ∷ 30 ∷ []
+
+unfoldable pub slots1 : List ℕ
+slots1 = linkRow 0 10 2 ++ linkRow 0 14 3 ++ linkRow 2 6 4
+
+unfoldable pub store1 : Store
+store1 = under1 tens (linkRow 0 2 1 ++ slots1)
+
+-- format 2, value formats 0044 and 0: glyphs 10 to 14 of classes 0, 1, 1, 2, 3; rows as counted, 2 columns; glyphs 50 to 60 in column 1; a device, 4
+unfoldable pub rows2 : ℕ → List ℕ → List ℕ → Store
+rows2 rows class2 links =
+    roomy 400 20 20 (storeOf
+    (words (2 ∷ 0 ∷ 0x44 ∷ 0 ∷ 0 ∷ 0 ∷ rows ∷ 2 ∷ 1 ∷ 0 ∷ 2 ∷ 0 ∷ 3 ∷ 0 ∷ 4 ∷ 0 ∷ 5 ∷ 0 ∷ 6 ∷ 0 ∷ [])
+    ++ words (2 ∷ 1 ∷ 10 ∷ 14 ∷ 0 ∷ []) ++ words (1 ∷ 11 ∷ 4 ∷ 1 ∷ 1 ∷ 2 ∷ 3 ∷ []) ++ words class2 ++ words (12 ∷ 13 ∷ 1 ∷ []))
+    (40 ∷ 10 ∷ 14 ∷ 10 ∷ 6 ∷ []) links)
+
+unfoldable pub fifties : List ℕ
+fifties = 2 ∷ 1 ∷ 50 ∷ 60 ∷ 1 ∷ []
+
+unfoldable pub heads2 : List ℕ
+heads2 = linkRow 0 2 1 ++ linkRow 0 8 2 ++ linkRow 0 10 3
+
+unfoldable pub store2 : Store
+store2 = rows2 3 fifties (heads2 ++ linkRow 0 30 4 ++ linkRow 0 38 4)
+
+-- one set of 65,518 bytes under a coverage of 6: with room for its cut, at 0, and as many bytes, objects, links as are to spare
+unfoldable pub store9 : ℕ → ℕ → ℕ → Store
+store9 bytes objects links =
+    record {
+      bytes = words (1 ∷ 0 ∷ 4 ∷ 0 ∷ 1 ∷ 0 ∷ 1 ∷ 1 ∷ 10 ∷ []) ++ replicate (65518 + bytes) 0;
+      objects = packed 0 (12 ∷ 6 ∷ 65518 ∷ []) ++ replicate (2 * objects) 77;
+      links = linkRow 0 2 1 ++ linkRow 0 10 2 ++ replicate (perLink * links) 77;
+      byteCount = 65536;
+      objectCount = 3;
+      linkCount = 2;
+    }
+
+-- scratch that holds fives, of these lengths
+unfoldable pub fives : ℕ → ℕ → ℕ → ℕ → ℕ → Scratch
+fives w b g c k = record { walk = replicate w 5; set = replicate b 5; glyphs = replicate g 5; classes = replicate c 5; cuts = replicate k 5 }
+
+-- just enough for store1 and store2
+unfoldable pub enough : Scratch
+enough = fives 10 8192 5 5 3
+
+-- ---- readings
+
+-- the answer of a reading, with a pair or none
+unfoldable pub reads : Store → ℕ → ℕ → ℕ → ℕ → Pair → Bool
+reads s t a b n p = eqb (pairCall s t a b .answer) n && eqb (pairCall s t a b .found) (cond (p .found) 1 0) && sameℤs (pairCall s t a b .values) (p .first ++ p .second)
+
+-- a pair
+unfoldable pub found : List ℤ → List ℤ → Pair
+found xs ys = record { found = true; first = xs; second = ys }
+
+abbrev zero8 : List ℤ
+zero8 = replicate 8 (pos 0)
+
+-- `spot1`, `spot2`, `numberOf`, `pairAt`, `pairCall`: signed values, devices, absent fields, no record, no set, no class, not covered
+unfoldable pub readings : List Bool
+readings =
+    reads store1 0 10 5 0 (found (negsuc 0 ∷ pos 0 ∷ pos 0 ∷ pos 0 ∷ pos 5 ∷ pos 0 ∷ pos 0 ∷ pos 0 ∷ []) (pos 0 ∷ pos 0 ∷ pos 7 ∷ pos 0 ∷ pos 0 ∷ pos 0 ∷ pos 0 ∷ pos 0 ∷ []))
+    ∷ reads store1 0 30 5 0 (found (pos 3 ∷ pos 0 ∷ pos 0 ∷ pos 0 ∷ pos 0 ∷ pos 0 ∷ pos 0 ∷ pos 0 ∷ []) (pos 0 ∷ pos 0 ∷ negsuc 1 ∷ pos 0 ∷ pos 0 ∷ pos 0 ∷ pos 0 ∷ pos 0 ∷ []))
+    ∷ reads store1 0 20 5 0 noPair ∷ reads store1 0 10 7 0 noPair ∷ reads store1 0 11 5 0 noPair
+    ∷ reads store2 0 12 50 0 (found (pos 0 ∷ pos 0 ∷ pos 4 ∷ pos 0 ∷ pos 0 ∷ pos 0 ∷ pos 5 ∷ pos 0 ∷ []) zero8)
+    ∷ reads store2 0 10 49 0 (found (pos 0 ∷ pos 0 ∷ pos 1 ∷ pos 0 ∷ pos 0 ∷ pos 0 ∷ pos 0 ∷ pos 0 ∷ []) zero8)
+    ∷ reads store2 0 14 50 0 noPair ∷ reads store2 0 9 50 0 noPair
+    ∷ []
+
+-- ---- cuts
+
+abbrev entry : ℕ → ℕ → Entry
+entry g c = record { glyph = g; class = c }
+
+-- format 2 over bare additions of rows: five glyphs of class 0, one each of classes 1 and 2, class definition 2 of 1,000 bytes
+unfoldable pub cutRows : List ℕ → List ℕ
+cutRows sizes =
+    cutsOf (rule2 (length sizes) 0 (λ a i. getD sizes i 0)
+    (entry 0 0 ∷ entry 2 0 ∷ entry 4 0 ∷ entry 6 0 ∷ entry 8 0 ∷ entry 10 1 ∷ entry 12 2 ∷ []) 1000)
+
+-- three sets of 100, 30,000 and 100 bytes; the first two lead to 40,000 bytes, and the last, too, where it is asked
+unfoldable pub sharing : List ℕ → Store
+sharing more =
+    storeOf (words (1 ∷ 0 ∷ 4 ∷ 0 ∷ 3 ∷ 0 ∷ 0 ∷ 0 ∷ []) ++ words (1 ∷ 3 ∷ 10 ∷ 20 ∷ 30 ∷ [])) (16 ∷ 10 ∷ 100 ∷ 30000 ∷ 100 ∷ 40000 ∷ [])
+    (linkRow 0 2 1 ++ linkRow 0 10 2 ++ linkRow 0 12 3 ++ linkRow 0 14 4 ++ linkRow 2 4 5 ++ linkRow 3 4 5 ++ more)
+
+-- `rule1`, `partialCover`: an empty slot adds nothing, coverage is no more than its own length, and starts anew after a cut
+-- `rule2`: estimates start anew with the glyphs of the row at a cut; `ruleOf`: what was seen before a cut counts again, the cut item's too
+unfoldable pub cuttings : List Bool
+cuttings =
+    same (cutsOf (bareRule (40000 ∷ 0 ∷ 0 ∷ 25513 ∷ []) 204)) [] ∷ same (cutsOf (bareRule (40000 ∷ 0 ∷ 0 ∷ 25514 ∷ []) 204)) (3 ∷ [])
+    ∷ same (cutsOf (bareRule (40000 ∷ 25515 ∷ []) 6)) [] ∷ same (cutsOf (bareRule (40000 ∷ 25516 ∷ []) 6)) (1 ∷ [])
+    ∷ same (cutsOf (bareRule (40000 ∷ 40000 ∷ 25513 ∷ []) 204)) (1 ∷ []) ∷ same (cutsOf (bareRule (40000 ∷ 40000 ∷ 25514 ∷ []) 204)) (1 ∷ 2 ∷ [])
+    ∷ same (cutsOf (bareRule (65518 ∷ 0 ∷ 0 ∷ 1 ∷ []) 204)) (0 ∷ 3 ∷ [])
+    ∷ same (cutRows (40000 ∷ 30000 ∷ 35499 ∷ [])) (1 ∷ []) ∷ same (cutRows (40000 ∷ 30000 ∷ 35500 ∷ [])) (1 ∷ 2 ∷ [])
+    ∷ same (cutPlaces (sharing []) 0) (1 ∷ []) ∷ same (cutPlaces (sharing (linkRow 4 4 5)) 0) (1 ∷ 2 ∷ [])
+    ∷ []
+
+-- ---- answers
+
+-- split, plan and reading answer alike
+unfoldable pub refuses : Store → ℕ → ℕ → Bool
+refuses s t n = eqb (splitCall s t enough [] .answer) n && eqb (planCall s t enough [] .answer) n && reads s t 10 5 n noPair
+
+-- split and plan of table 0 answer alike
+unfoldable pub splits : Store → ℕ → Scratch → Bool
+splits s n w = eqb (splitCall s 0 w [] .answer) n && eqb (planCall s 0 w [] .answer) n
+
+-- `readCases`, `cutCases`, `partsReadable`, `allAtSlots`: each refusal at its edge
+unfoldable pub refusals : List Bool
+refusals =
+    refuses (under1 tens (linkRow 0 10 2 ++ linkRow 0 2 1)) 0 1
+    ∷ refuses store1 5 2
+    ∷ refuses store1 1 3 ∷ refuses (rows2 2 fifties heads2) 0 3 ∷ refuses (rows2 4 fifties heads2) 0 3
+    ∷ refuses store1 4 0
+    ∷ refuses (under1 tens slots1) 0 4 ∷ refuses (under1 (1 ∷ 3 ∷ 10 ∷ 30 ∷ 20 ∷ []) (linkRow 0 2 1 ++ slots1)) 0 4
+    ∷ refuses (rows2 3 fifties (linkRow 0 2 1 ++ linkRow 0 8 2)) 0 4 ∷ refuses (rows2 3 (2 ∷ 1 ∷ 60 ∷ 50 ∷ 1 ∷ []) heads2) 0 4
+    ∷ refuses (under1 (1 ∷ 2 ∷ 10 ∷ 20 ∷ []) (linkRow 0 2 1 ++ slots1)) 0 5
+    ∷ splits store2 6 (fives 9 8192 5 5 3) ∷ splits store2 6 (fives 10 8191 5 5 3) ∷ splits store2 6 (fives 10 8192 4 5 3)
+    ∷ splits store2 6 (fives 10 8192 5 4 3) ∷ splits store2 6 (fives 10 8192 5 5 2)
+    ∷ splits (under1 tens (linkRow 0 2 1 ++ linkRow 0 4 1 ++ slots1)) 7 enough ∷ splits (under1 tens (linkRow 0 2 1 ++ slots1 ++ linkRow 3 4 0)) 7 enough
+    ∷ splits (rows2 3 fifties (heads2 ++ linkRow 0 16 4)) 7 enough ∷ splits (rows2 3 fifties (heads2 ++ linkRow 0 18 4)) 0 enough
+    ∷ splits store1 0 enough ∷ splits store2 0 enough
+    ∷ []
+
+-- scratch with a cut too few
+unfoldable pub short : Scratch
+short = fives 10 8192 5 5 2
+
+-- their order: each two neighbours apply at once, and the first one answers
+unfoldable pub orders : List Bool
+orders =
+    -- 1 before 2
+    refuses (under1 tens (linkRow 0 10 2 ++ linkRow 0 2 1)) 5 1
+    -- 2 before 3: an object that is not in use has no bytes
+    ∷ refuses (storeOf [] [] []) 0 2
+    -- 3 before another format's 0: under 2 bytes
+    ∷ refuses (storeOf (9 ∷ []) (1 ∷ []) []) 0 3
+    -- another format's 0 before 3: of no length that a header gives
+    ∷ refuses (storeOf (words (3 ∷ [])) (2 ∷ []) []) 0 0
+    -- 3 before 4: a byte too many, and no coverage
+    ∷ refuses (storeOf (words (1 ∷ 0 ∷ 0 ∷ 0 ∷ 0 ∷ []) ++ (0 ∷ [])) (11 ∷ []) []) 0 3
+    -- 4 before 5: a coverage of two glyphs, out of order, for three sets
+    ∷ refuses (under1 (1 ∷ 2 ∷ 20 ∷ 10 ∷ []) (linkRow 0 2 1 ++ slots1)) 0 4
+    -- 5 before 6
+    ∷ splits (under1 (1 ∷ 2 ∷ 10 ∷ 20 ∷ []) (linkRow 0 2 1 ++ slots1)) 5 short
+    -- 6 before 7
+    ∷ splits (under1 tens (linkRow 0 2 1 ++ linkRow 0 4 1 ++ slots1)) 6 short
+    -- 7 before "no cut"
+    ∷ splits (under1 tens (linkRow 0 2 1 ++ linkRow 0 4 1 ++ slots1)) 7 enough
+    -- "no cut" before 8: there is no room at all
+    ∷ splits (bare1 tens (linkRow 0 2 1 ++ slots1)) 0 enough
+    ∷ []
+
+-- ---- splits
+
+-- how many of the tables have the pair
+unfoldable pub having : Store → List ℕ → ℕ → ℕ → ℕ
+having s [] a b = 0
+having s (u ∷ us) a b = cond (pairOf s u a b .found) 1 0 + having s us a b
+
+-- table 0 of s, split at cs into the tables us of s′: a sound store with so many more objects and links, and each pair in as many tables as before, read as before
+unfoldable pub keepsIn : Store → Store → ℕ → ℕ → List ℕ → List ℕ → List ℕ → Bool
+keepsIn s s′ objects links us gs hs =
+    sound s′ && isEmpty (cutPlaces s′ 0) && eqb (s′ .objectCount) (s .objectCount + objects) && eqb (s′ .linkCount) (s .linkCount + links)
+    && all (λ i. all (λ j. samePair (pairOf s 0 (getD gs i 0) (getD hs j 0)) (pairAmong s′ us (getD gs i 0) (getD hs j 0))
+    && eqb (having s (0 ∷ []) (getD gs i 0) (getD hs j 0)) (having s′ us (getD gs i 0) (getD hs j 0))) (length hs)) (length gs)
+
+unfoldable pub keeps : Store → List ℕ → ℕ → ℕ → List ℕ → List ℕ → Bool
+keeps s cs objects links gs hs = keepsIn s (splitStore s 0 cs) objects links (0 ∷ newTables s 0 cs) gs hs
+
+-- a whole outcome of W9: a new table, its coverage and the kept table's
+unfoldable pub splitsAt0 : Outcome → Bool
+splitsAt0 o =
+    eqb (o .answer) 0 && eqb (o .count) 1 && same (o .list) (3 ∷ 9 ∷ [])
+    && same (take 12 (o .store .objects)) (packed 0 (10 ∷ []) ++ (12 ∷ 18 ∷ 18 ∷ 65536 ∷ []) ++ packed 65536 (12 ∷ 6 ∷ 4 ∷ []))
+    && same (take 12 (o .store .links)) (linkRow 0 2 5 ++ linkRow 3 2 4 ++ linkRow 3 10 2)
+    && eqb (o .store .byteCount) 65558 && eqb (o .store .objectCount) 6 && eqb (o .store .linkCount) 3
+    && same (bytesOf (o .store) 0) (words (1 ∷ 0 ∷ 4 ∷ 0 ∷ 0 ∷ [])) && same (bytesOf (o .store) 3) (words (1 ∷ 0 ∷ 4 ∷ 0 ∷ 1 ∷ 0 ∷ []))
+    && same (bytesOf (o .store) 4) (words (1 ∷ 1 ∷ 10 ∷ [])) && same (bytesOf (o .store) 5) (words (1 ∷ 0 ∷ []))
+
+-- `newTable`, `newParts`, `tableLinks`, `kept`, `needed`: at one and at several places; "2K+1 objects and K links", "3K+2 objects and 3K links"
+-- `splitCall`, `planCall`: a whole outcome; 8 at its edges: bytes, objects, links, the list, and the plan's list
+unfoldable pub splittings : List Bool
+splittings =
+    keeps store1 (1 ∷ []) 3 1 (10 ∷ 20 ∷ 30 ∷ []) (5 ∷ 6 ∷ []) ∷ keeps store1 (0 ∷ 2 ∷ []) 5 2 (10 ∷ 20 ∷ 30 ∷ []) (5 ∷ 6 ∷ [])
+    ∷ keeps store2 (1 ∷ []) 5 3 (run 10 5) (49 ∷ 50 ∷ []) ∷ keeps store2 (0 ∷ 1 ∷ 2 ∷ []) 11 9 (run 10 5) (49 ∷ 50 ∷ [])
+    ∷ same (newTables store2 0 (1 ∷ 2 ∷ [])) (5 ∷ 8 ∷ [])
+    ∷ same (rowNumbers (newLinks store2 0 (shapeOf (bytesOf store2 0)) (1 ∷ [])))
+    (linkRow 0 2 8 ++ linkRow 0 8 9 ++ linkRow 0 10 3 ++ linkRow 5 2 6 ++ linkRow 5 8 7 ++ linkRow 5 10 3 ++ linkRow 5 22 4 ++ linkRow 5 30 4)
+    ∷ splitsAt0 (splitCall (store9 22 3 1) 0 enough (8 ∷ 9 ∷ []))
+    ∷ eqb (splitCall (store9 21 3 1) 0 enough (9 ∷ []) .answer) 8 ∷ eqb (splitCall (store9 22 2 1) 0 enough (9 ∷ []) .answer) 8
+    ∷ eqb (splitCall (store9 22 3 0) 0 enough (9 ∷ []) .answer) 8 ∷ eqb (splitCall (store9 22 3 1) 0 enough [] .answer) 8
+    ∷ same (planCall (store9 0 0 0) 0 enough (8 ∷ 9 ∷ []) .list) (0 ∷ 9 ∷ []) ∷ eqb (planCall (store9 22 3 1) 0 enough [] .answer) 8
+    ∷ []
+
+pub pinned : every (readings ++ cuttings ++ refusals ++ orders ++ splittings) ≡ true
+unfolding definitions.computes compared.computes packed sameℤs samePair storeOf roomy bare1 under1 tens slots1 store1 rows2 fifties heads2 store2 store9 fives enough reads found readings cutRows sharing cuttings refuses splits refusals short orders having keepsIn keeps splitsAt0 splittings
+pinned = refl

@@ -1,0 +1,4 @@
+pub mod Settled
+pub mod Given
+pub mod Unique
+pub mod Keeps

@@ -1,0 +1,4 @@
+pub mod Unchanged
+pub mod Given
+pub mod Keeps
+pub mod Exits

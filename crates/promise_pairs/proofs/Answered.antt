@@ -1,0 +1,110 @@
+-- When there is a split, a plan or a pair, and which number is answered: each exactly if document 01 says so. Assumes nothing.
+use Prim.Native.Nat.{ℕ, _<_}
+use mathlib.Core.Path.{_≡_, refl, ap, subst, _∙_}
+use mathlib.Core.Bool.{Bool, true, false, cond}
+use mathlib.Core.List.{List}
+use mathlib.Core.Option.{Option, some, none}
+use native.Mathlib.Omega.{arith}
+use lib.ListN.{length}
+use Rattle.folds.proofs.Folds.{length-upto}
+use Rattle.store_rules.specs.Store.{Store}
+use Rattle.store_rules.specs.Appended.{newNumber}
+use Rattle.call_rules.specs.Scratch.{Scratch}
+use Rattle.call_rules.specs.Answers.{firstCase}
+use Rattle.call_rules.specs.Outcomes.{Outcome, settle, done}
+use Rattle.pair_rules.specs.Table.{cutPlaces, shape}
+use Rattle.pair_rules.specs.Written.{newTables, perTable}
+use Rattle.pair_rules.specs.Pairs.{noPair, pairOf}
+use Rattle.pair_rules.specs.Reads.{Reads}
+use Rattle.pair_rules.specs.Calls.{splitCall, planCall, pairCall, splitCases, planCases, readCases, reported, settlePair}
+use Rattle.pair_rules.proofs.Checks.{no-case-reads, reads-no-case}
+use Rattle.promise_calls.specs.Given.{Gives}
+use Rattle.promise_calls.proofs.Settled.{went}
+use Rattle.promise_calls.proofs.Given.{answerOf, gives-first, settle-gives, exactly}
+use Rattle.promise_pairs.specs.Demands.{Splits}
+use Rattle.promise_pairs.specs.Exactly.{MaySplit, MayPlan, SplitsExactly, PlansExactly, PairsExactly, PairAnswersExactly}
+use Rattle.promise_pairs.proofs.Exactly.{no-case-splits, splits-no-case, no-case-plans, plans-no-case}
+use Rattle.promise_pairs.proofs.Ready.{splitAhead}
+use Rattle.promise_pairs.proofs.Refusals.{planAhead}
+
+-- ---- a split
+
+module _ (s : Store) (t : ℕ) (w : Scratch) (list : List ℕ) where
+  pub may-splits : MaySplit s t w list → Splits s t w list
+  unfolding splitCall settle done newTables
+  may-splits m =
+      let ahead : splitCall s t w list ≡ splitAhead s t w list
+      = ap (λ (c : Option ℕ). settle c s list w (splitAhead s t w list)) (splits-no-case s t w list m) in
+      let many = ap (λ (o : Outcome). o .count) ahead ∙ length-upto (newNumber s (perTable (shape s t))) (length (cutPlaces s t)) in
+      record { answers = ap (λ (o : Outcome). o .answer) ahead; cuts = omega (arith, many, m .cuts) }
+
+  splits-may : Splits s t w list → MaySplit s t w list
+  unfolding splitCall
+  splits-may p = no-case-splits s t w list (went s w list (splitAhead s t w list) (firstCase (splitCases s t w list)) (p .cuts))
+
+  -- ---- a plan
+
+  pub may-plans : MayPlan s t w list → planCall s t w list ≡ planAhead s t w list
+  unfolding planCall settle
+  may-plans m = ap (λ (c : Option ℕ). settle c s list w (planAhead s t w list)) (plans-no-case s t w list m)
+
+  plans-may : 0 < planCall s t w list .count → MayPlan s t w list
+  unfolding planCall
+  plans-may h = no-case-plans s t w list (went s w list (planAhead s t w list) (firstCase (planCases s t w list)) h)
+
+-- the answer is 0 with new tables exactly if checks 1 to 7 pass, there is a cut and room is enough
+pub splits-exactly : SplitsExactly
+splits-exactly s t w list = (splits-may s t w list, may-splits s t w list)
+
+-- places are handed out exactly if checks 1 to 7 pass, there is a cut and the list is long enough
+pub plans-exactly : PlansExactly
+unfolding done
+plans-exactly s t w list = (
+  λ h. let m = plans-may s t w list h in (m, subst (λ (o : Outcome). 0 < o .count) (may-plans s t w list m) h),
+  may-plans s t w list,
+)
+
+-- ---- a pair
+
+pub may-pair : (s : Store) (t a b : ℕ) → Reads s t → pairCall s t a b ≡ reported 0 (pairOf s t a b)
+unfolding pairCall settlePair
+may-pair s t a b r = ap (λ (c : Option ℕ). settlePair c (pairOf s t a b)) (reads-no-case s t r)
+
+-- there is a pair exactly if checks 1 to 5 pass, the format is 1 or 2, and the table has one
+pub pairs-exactly : PairsExactly
+unfolding pairCall settlePair noPair
+pairs-exactly s t a b = (go (firstCase (readCases s t)) refl, may-pair s t a b)
+  where
+    found : (f : Bool) → _≡_ {A = ℕ} (cond f 1 0) 1 → f ≡ true
+    found true e = refl
+    found false e = absurd (omega arith)
+
+    go : (c : Option ℕ) → firstCase (readCases s t) ≡ c → settlePair c (pairOf s t a b) .found ≡ 1 → Reads s t × (pairOf s t a b .found ≡ true)
+    go (some n) e h = absurd (omega (arith, h))
+    go none e h = (no-case-reads s t e, found (pairOf s t a b .found) h)
+
+-- ---- the number
+
+pub split-gives : (s : Store) (t : ℕ) (w : Scratch) (list : List ℕ) → Gives (splitCases s t w list) (splitCall s t w list .answer)
+unfolding splitCall done
+split-gives s t w list = settle-gives (splitCases s t w list) s w list (splitAhead s t w list) refl
+
+pub plan-gives : (s : Store) (t : ℕ) (w : Scratch) (list : List ℕ) → Gives (planCases s t w list) (planCall s t w list .answer)
+unfolding planCall done
+plan-gives s t w list = settle-gives (planCases s t w list) s w list (planAhead s t w list) refl
+
+pub pair-gives : (s : Store) (t a b : ℕ) → Gives (readCases s t) (pairCall s t a b .answer)
+unfolding pairCall settlePair
+pair-gives s t a b = go (firstCase (readCases s t)) (gives-first (readCases s t))
+  where
+    go : (c : Option ℕ) → Gives (readCases s t) (answerOf c) → Gives (readCases s t) (settlePair c (pairOf s t a b) .answer)
+    go (some n) g = g
+    go none g = g
+
+-- "Given exactly if (first that applies, in this order)"
+pub answers-exactly : PairAnswersExactly
+answers-exactly s t w list = (
+  exactly (splitCases s t w list) (splitCall s t w list .answer) (split-gives s t w list),
+  exactly (planCases s t w list) (planCall s t w list .answer) (plan-gives s t w list),
+  λ a b. exactly (readCases s t) (pairCall s t a b .answer) (pair-gives s t a b),
+)

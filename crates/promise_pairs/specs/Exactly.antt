@@ -1,0 +1,73 @@
+-- When a call splits, hands out places or reads a pair, and which number it answers: exactly if document 01 says so. Assumes nothing.
+use Prim.Native.Nat.{ℕ, _+_, _<_, _≤_}
+use mathlib.Core.Path.{_≡_}
+use mathlib.Core.Bool.{true, false}
+use mathlib.Core.List.{List}
+use lib.ListN.{length}
+use Rattle.folds.specs.Lists.{put, join}
+use Rattle.store_rules.specs.Store.{Store, objectRoom, linkRoom, byteRoom}
+use Rattle.store_rules.specs.Reach.{onCycle}
+use Rattle.call_rules.specs.Scratch.{Scratch, cleared}
+use Rattle.call_rules.specs.Outcomes.{outcome}
+use Rattle.pair_rules.specs.Table.{cutPlaces, shape, allAtSlots}
+use Rattle.pair_rules.specs.Written.{newOf, needObjects, needLinks}
+use Rattle.pair_rules.specs.Reads.{Reads}
+use Rattle.pair_rules.specs.Pairs.{pairOf}
+use Rattle.pair_rules.specs.Calls.{splitCall, planCall, pairCall, splitCases, planCases, readCases, scratchShort, reported}
+use Rattle.promise_calls.specs.Given.{AnswersExactly}
+use Rattle.promise_pairs.specs.Demands.{Splits}
+
+-- ---- what has to hold
+
+-- checks 1 to 7 pass, and the format is 1 or 2
+pub record Checked (s : Store) (t : ℕ) (w : Scratch) : Type 0 where
+  pub reads : Reads s t
+  pub scratch : scratchShort s t w ≡ false
+  -- "a link of the table stands at no slot, or the table can be reached from itself"
+  pub atSlots : allAtSlots s t ≡ true
+  pub acyclic : onCycle s t ≡ false
+
+-- a split: there is a cut, and room is enough
+pub record MaySplit (s : Store) (t : ℕ) (w : Scratch) (list : List ℕ) : Type 0 where
+  pub checked : Checked s t w
+  pub cuts : 0 < length (cutPlaces s t)
+  -- "Room is the smaller of lent length and maximum"
+  pub objects : s .objectCount + needObjects (shape s t) (length (cutPlaces s t)) ≤ objectRoom (length (s .objects))
+  pub links : s .linkCount + needLinks (shape s t) (length (cutPlaces s t)) ≤ linkRoom (length (s .links))
+  pub bytes : s .byteCount + length (join (newOf s t (cutPlaces s t))) ≤ byteRoom (length (s .bytes))
+  pub entries : length (cutPlaces s t) ≤ length list
+
+-- a cut plan: its list holds the places
+pub record MayPlan (s : Store) (t : ℕ) (w : Scratch) (list : List ℕ) : Type 0 where
+  pub checked : Checked s t w
+  pub entries : length (cutPlaces s t) ≤ length list
+
+-- ---- exactly then
+
+-- the answer is 0 with new tables exactly if checks 1 to 7 pass, there is a cut and room is enough
+abbrev pub SplitsExactly : Type 0
+SplitsExactly =
+    (s : Store) (t : ℕ) (w : Scratch) (list : List ℕ)
+    → (Splits s t w list → MaySplit s t w list) × (MaySplit s t w list → Splits s t w list)
+
+-- places are handed out exactly if checks 1 to 7 pass, there is a cut and the list is long enough; with no cut there are none
+abbrev pub PlansExactly : Type 0
+PlansExactly =
+    (s : Store) (t : ℕ) (w : Scratch) (list : List ℕ)
+    → (0 < planCall s t w list .count → MayPlan s t w list × (0 < length (cutPlaces s t)))
+    × (MayPlan s t w list → planCall s t w list ≡ outcome 0 (length (cutPlaces s t)) s (put list 0 (cutPlaces s t)) (cleared w))
+
+-- there is a pair exactly if checks 1 to 5 pass, the format is 1 or 2, and the table has one
+abbrev pub PairsExactly : Type 0
+PairsExactly =
+    (s : Store) (t a b : ℕ)
+    → (pairCall s t a b .found ≡ 1 → Reads s t × (pairOf s t a b .found ≡ true))
+    × (Reads s t → pairCall s t a b ≡ reported 0 (pairOf s t a b))
+
+-- "Given exactly if (first that applies, in this order)": of each of the three
+abbrev pub PairAnswersExactly : Type 0
+PairAnswersExactly =
+    (s : Store) (t : ℕ) (w : Scratch) (list : List ℕ)
+    → AnswersExactly (splitCases s t w list) (splitCall s t w list .answer)
+    × AnswersExactly (planCases s t w list) (planCall s t w list .answer)
+    × ((a b : ℕ) → AnswersExactly (readCases s t) (pairCall s t a b .answer))
