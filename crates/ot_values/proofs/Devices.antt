@@ -105,19 +105,3 @@ module _ (vf k : ℕ) where
   pub devices-between : among k (devices vf) ≡ between k (position vf 4) (fieldCount vf)
   unfolding devices piece
   devices-between = by-index Before before-none before-more 8 (omega arith) ∙ ap (between k (position vf 4)) (position-all vf)
-
-  -- a field at position k is a device, if its row of the table says so
-  pub device-at : (j : ℕ) → j < 8 → bit vf j ≡ 1 → position vf j ≡ k → fieldAt j .device ≡ among k (devices vf)
-  device-at j h one e =
-      device-row j h
-      ∙ ⊎-elim
-      (λ l. let a : k + 1 ≤ position vf 4 = omega (arith, position-more vf j, position-le vf (j + 1) 4 (omega arith)) in
-      lt-leb 4 j l ∙ sym (devices-between ∙ rw (lt-leb (position vf 4) k (omega arith))))
-      (λ l. let a : k + 1 ≤ fieldCount vf = omega (arith, position-more vf j, position-le vf (j + 1) 8 (omega arith), position-all vf) in
-      let b : position vf 4 ≤ k = omega (arith, position-le vf 4 j l) in
-      le-leb 4 j l ∙ sym (devices-between ∙ rw (le-leb (position vf 4) k b, lt-ltb k (fieldCount vf) (omega arith))))
-      (either j 4)
-
-  -- and nothing stands behind the fields
-  pub device-none : fieldCount vf ≤ k → false ≡ among k (devices vf)
-  device-none h = sym (devices-between ∙ and-second (leb (position vf 4) k) (ltb k (fieldCount vf)) (le-ltb k (fieldCount vf) h))

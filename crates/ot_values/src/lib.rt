@@ -5,6 +5,9 @@ ghost use lib.Dec.{eqb};
 ghost use Rattle.folds.specs.Lists.{among};
 ghost use Rattle.ot_layouts.specs.Values.{bit, fieldCount, position, devices};
 
+// The first row of the table that is a device.
+const FIRST_DEVICE: usize = 4;
+
 // The fields of `format`: the ones among its low eight bits.
 pub fn field_count(format: u16) -> usize
     ensures { λ r. ⌜ r ≡ fieldCount format ⌝ }
@@ -30,22 +33,9 @@ pub fn position(format: u16, j: usize) -> usize
     u16::count_ones(format & below) as usize
 }
 
-// Whether a device stands at position `k`: the row of the table that has the field at this position says so.
+// Whether a device stands at position `k`: the devices are the rows of the table from `FIRST_DEVICE` on, so they stand behind the plain fields.
 pub fn is_device(format: u16, k: usize) -> bool
     ensures { λ r. ⌜ r ≡ among k (devices format) ⌝ }
 {
-    let mut at: usize = 0;
-    let mut j: usize = 0;
-    while j < 8 {
-        if has_field(format, j) {
-            if at == k {
-                return ot_layouts::field_at(j).device;
-            }
-            at += 1;
-            j += 1;
-        } else {
-            j += 1;
-        }
-    }
-    false
+    position(format, FIRST_DEVICE) <= k && k < field_count(format)
 }

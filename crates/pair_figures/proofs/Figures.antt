@@ -4,7 +4,7 @@ use Prim.Native.Nat.{ℕ, zero, suc, _+_, _-_, _*_, _/_, _%_}
 use mathlib.Core.Path.{_≡_, refl}
 use mathlib.Core.Bool.{Bool, true, _&&_}
 use mathlib.Core.List.{List, [], _∷_, _++_}
-use lib.ListN.{length, take, replicate}
+use lib.ListN.{length, replicate}
 use lib.Dec.{eqb}
 use Rattle.folds.specs.Folds.{upto, run}
 use Rattle.folds.specs.Lists.{join}
@@ -12,7 +12,7 @@ use Rattle.folds.proofs.Compared as compared
 use Rattle.folds.proofs.Compared.{same, every}
 use Rattle.ot_layouts.specs.Numbers.{u16At, be16, words}
 use Rattle.ot_layouts.specs.Values.{fieldCount, devices}
-use Rattle.ot_layouts.specs.Coverage.{Entry, coverageBytes}
+use Rattle.ot_layouts.specs.Coverage.{coverageBytes}
 use Rattle.ot_layouts.specs.ClassDef.{classDefBytes}
 use Rattle.store_rules.specs.Store.{Store, Link, perLink, sizeOf}
 use Rattle.store_rules.specs.Appended.{link, rowsFrom, rowNumbers}

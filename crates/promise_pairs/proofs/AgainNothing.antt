@@ -33,7 +33,7 @@ use Rattle.pair_rules.specs.Calls.{splitCall, splitCases, cutCases, lastCases}
 use Rattle.call_rules.specs.Needs.{roomShort}
 use Rattle.call_rules.specs.Outcomes.{outcome, settle, done}
 use Rattle.call_rules.specs.Answers.{firstCase, Case, case}
-use Rattle.call_rules.specs.declared.Answer.the-variants.{Done, NoRoom}
+use Rattle.call_rules.specs.declared.Answer.the-variants.{NoRoom}
 use Rattle.store_rules.proofs.Sound.{Fits, size-bytes}
 use Rattle.pair_rules.proofs.TableCuts.{rule-count}
 use Rattle.cut_rules.proofs.FirstCut.{none-before, cuts-none}

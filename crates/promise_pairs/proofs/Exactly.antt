@@ -15,7 +15,7 @@ use Rattle.store_rules.specs.Reach.{onCycle}
 use Rattle.call_rules.specs.Scratch.{Scratch}
 use Rattle.call_rules.specs.Answers.{Case, case, firstCase}
 use Rattle.call_rules.specs.Needs.{shortBy}
-use Rattle.call_rules.specs.declared.Answer.the-variants.{ShortScratch, BadLinks, Done, NoRoom}
+use Rattle.call_rules.specs.declared.Answer.the-variants.{ShortScratch, BadLinks}
 use Rattle.call_rules.proofs.Cases.{first-append, first-head, first-skip}
 use Rattle.pair_rules.specs.Table.{shape, allAtSlots, cutPlaces}
 use Rattle.pair_rules.specs.Written.{newOf, needLinks, needObjects, needsOf, needed}

@@ -11,7 +11,6 @@ use borrow.Author.Tests.{leb-true, ltb-true, eqb-true, eqb-false, le-leb, lt-ltb
 use Rattle.folds.proofs.Agree.{both-ways}
 use Rattle.folds.proofs.Joined.{or-either, or-second}
 use Rattle.folds.proofs.Tests.{and-both, and-intro, and-first, and-second, by-test, either, true-false}
-use Rattle.ot_layouts.specs.PairPos.{Shape, itemAt}
 use Rattle.store_rules.specs.Store.{Store, lent, linkAt, parentOf, positionOf, ofParent}
 use Rattle.store_rules.specs.Reach.{marked, reached, onCycle, Reach}
 use Rattle.store_rules.proofs.Reached.{reached-only, reached-all}

@@ -1,7 +1,6 @@
 -- `glyph_set::present` meets its contract: the test, as a number. Assumes nothing.
 use mathlib.Core.Path.{_≡_, refl, ap, _∙_}
 use mathlib.Core.Bool.{Bool, true, false, cond}
-use Prim.Native.Nat.{ℕ}
 use mir.Val.{boolByte}
 use borrow.Author.Needs.{needs}
 use Rattle.glyph_set.proofs.present.Statement.{statement}

@@ -1,5 +1,5 @@
 -- `pair_links::part_rows` meets its contract: the rows that move are the same rows behind the others. Assumes nothing.
-use Prim.Native.Nat.{_-_, _*_, _≤_}
+use Prim.Native.Nat.{_*_, _≤_}
 use lib.ListN.{length}
 use native.Mathlib.Omega.{arith}
 use Rattle.pair_links.proofs.Joining.{ordered-there, floor-there, parted-done}

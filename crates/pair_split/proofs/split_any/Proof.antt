@@ -1,5 +1,5 @@
 -- `pair_split::split_any` meets its contract: refused by 1 to 7, or split as planned. Assumes nothing.
-use mathlib.Core.Path.{refl, _∙_}
+use mathlib.Core.Path.{_∙_}
 use borrow.Author.Needs.{needs}
 use Rattle.store_rules.specs.Store.{lent}
 use Rattle.call_rules.specs.Scratch.{scratchOf}

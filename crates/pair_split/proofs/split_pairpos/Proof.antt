@@ -1,5 +1,4 @@
 -- `pair_split::split_pairpos` meets its contract: the table is split or refused, and the scratch is cleared. Assumes nothing.
-use mathlib.Core.Path.{_∙_}
 use borrow.Author.Needs.{needs}
 use Rattle.store_rules.specs.Store.{lent}
 use Rattle.call_rules.specs.Scratch.{scratchOf}
