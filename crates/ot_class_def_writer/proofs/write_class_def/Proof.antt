@@ -13,12 +13,19 @@ outline-of-requires c κs = (c .before .before .before .pre .0, ascends (c .befo
 write-ranges-requires : tie.Need-write-ranges-requires
 write-ranges-requires c κs =
     let start = c .before .before .before .before .before .before .before in
-    let p = start .pre in let o = c .before .before .before .outline-of .ensures in let h = ranges-long _ _ _ _ o (sym (c .before .before .ranges-win .ensures) ∙ c .before .if1 .taken) in (p .0, (ascends (start .args .glyphs .now) (p .1 .0), (o .runs-are, (omega (arith, p .1 .1 .0, o .runs-are), omega (arith, p .1 .1 .1)))))
+    let p = start .pre in
+    let o = c .before .before .before .outline-of .ensures in
+    let h = ranges-long _ _ _ _ o (sym (c .before .before .ranges-win .ensures) ∙ c .before .if1 .taken) in
+    (p .0, (ascends (start .args .glyphs .now) (p .1 .0), (o .runs-are, (omega (arith, p .1 .1 .0, o .runs-are), omega (arith, p .1 .1 .1)))))
 
 write-list-requires : tie.Need-write-list-requires
 write-list-requires c κs =
     let start = c .before .before .before .before .before .before .before in
-    let p = start .pre in let o = c .before .before .before .outline-of .ensures in let t = sym (c .before .before .ranges-win .ensures) ∙ c .before .if1 .left in let h = list-long _ _ _ _ o t in (p .0, (ascends (start .args .glyphs .now) (p .1 .0), (o, (countable _ _ _ _ o t, omega (arith, p .1 .1 .1)))))
+    let p = start .pre in
+    let o = c .before .before .before .outline-of .ensures in
+    let t = sym (c .before .before .ranges-win .ensures) ∙ c .before .if1 .left in
+    let h = list-long _ _ _ _ o t in
+    (p .0, (ascends (start .args .glyphs .now) (p .1 .0), (o, (countable _ _ _ _ o t, omega (arith, p .1 .1 .1)))))
 
 returns : tie.Need-returns
 returns c = ranges-done _ _ _ _ (c .before .before .before .before .before .before .outline-of .ensures) (sym (c .before .before .before .before .before .ranges-win .ensures) ∙ c .before .before .before .before .if1 .taken) _ _ (c .before .before .write-ranges .ensures)

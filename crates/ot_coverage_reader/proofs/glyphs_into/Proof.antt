@@ -12,8 +12,15 @@ use Rattle.ot_coverage_reader.proofs.glyphs_into.Tie as tie
 
 list-into-requires : tie.Need-list-into-requires
 list-into-requires c κs =
-    let r = header-list _ (c .before .before .before .before .before .args .header) (c .before .before .before .before .before .pre .0) (c .before .enum-told .given .1) in
-    (as-list _ (c .before .before .before .before .before .args .header) (c .before .before .before .before .before .pre .0) (c .before .enum-told .given .1), omega (arith, ap length (r .glyphs), length-upto (glyphAt (c .before .before .before .before .before .args .part .now)) (c .before .before .before .before .before .args .header .count)))
+    let r = header-list _ (c .before .before .before .before .before .args .header) (c .before .before .before .before .before .pre .0) (c .before .enum-told .given .1) in (
+      as-list _ (c .before .before .before .before .before .args .header) (c .before .before .before .before .before .pre .0)
+          (c .before .enum-told .given .1),
+      omega (
+        arith,
+        ap length (r .glyphs),
+        length-upto (glyphAt (c .before .before .before .before .before .args .part .now)) (c .before .before .before .before .before .args .header .count),
+      ),
+    )
 
 ranges-into-requires : tie.Need-ranges-into-requires
 ranges-into-requires c κs = (as-ranges _ (c .before .before .before .before .before .args .header) (c .before .before .before .before .before .pre .0) (c .before .enum-told2 .given .1), c .before .before .before .before .before .pre .1)

@@ -22,17 +22,23 @@ indices-fit-requires c κs = sym (c .before .ranges-fit .ensures) ∙ c .if5 .ta
 returns-4 : tie.Need-returns-4
 returns-4 c =
     let after-u16-at = c .before .before .before .before .before .before .before in
-    by-ranges _ _ _ (after-u16-at .u16-at .ensures) (c .before .before .before .before .before .before .u16-at2 .ensures) true true (c .before .before .before .before .if4 .taken) (sym (c .before .before .if5 .taken) ∙ c .before .before .before .ranges-fit .ensures) (sym (c .if6 .taken) ∙ c .before .indices-fit .ensures)
+    by-ranges _ _ _ (after-u16-at .u16-at .ensures) (c .before .before .before .before .before .before .u16-at2 .ensures) true true
+    (c .before .before .before .before .if4 .taken) (sym (c .before .before .if5 .taken) ∙ c .before .before .before .ranges-fit .ensures)
+    (sym (c .if6 .taken) ∙ c .before .indices-fit .ensures)
 
 returns-5 : tie.Need-returns-5
 returns-5 c =
     let after-u16-at = c .before .before .before .before .before .before .before in
-    by-ranges _ _ _ (after-u16-at .u16-at .ensures) (c .before .before .before .before .before .before .u16-at2 .ensures) true false (c .before .before .before .before .if4 .taken) (sym (c .before .before .if5 .taken) ∙ c .before .before .before .ranges-fit .ensures) (sym (c .if6 .left) ∙ c .before .indices-fit .ensures)
+    by-ranges _ _ _ (after-u16-at .u16-at .ensures) (c .before .before .before .before .before .before .u16-at2 .ensures) true false
+    (c .before .before .before .before .if4 .taken) (sym (c .before .before .if5 .taken) ∙ c .before .before .before .ranges-fit .ensures)
+    (sym (c .if6 .left) ∙ c .before .indices-fit .ensures)
 
 returns-6 : tie.Need-returns-6
 returns-6 c =
     let start = c .before .before .before .before .before .before .before .before in
-    by-ranges _ _ _ (c .before .before .before .before .before .u16-at .ensures) (c .before .before .before .before .u16-at2 .ensures) false (indexed (start .args .part .now) (c .before .before .before .before .u16-at2 .result)) (c .before .before .if4 .taken) (sym (c .if5 .left) ∙ c .before .ranges-fit .ensures) refl
+    by-ranges _ _ _ (c .before .before .before .before .before .u16-at .ensures) (c .before .before .before .before .u16-at2 .ensures) false
+    (indexed (start .args .part .now) (c .before .before .before .before .u16-at2 .result)) (c .before .before .if4 .taken)
+    (sym (c .if5 .left) ∙ c .before .ranges-fit .ensures) refl
 
 returns-7 : tie.Need-returns-7
 returns-7 c = by-none _ _ _ (c .before .before .before .u16-at .ensures) (c .before .before .u16-at2 .ensures) (c .before .if2 .left) (c .if4 .left)

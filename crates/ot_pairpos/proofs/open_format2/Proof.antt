@@ -20,12 +20,16 @@ add-if2 c = let f = rows-fit (c .record-size .result) (c .before .u16-at4 .resul
 returns-2 : tie.Need-returns-2
 returns-2 c =
     let start = c .before .before .before .before .before .before .before .before in
-    bad-format2 (start .args .table .now) (start .pre .0) (start .pre .1) (c .before .before .before .before .before .u16-at .ensures) (c .before .before .before .before .u16-at2 .ensures) (c .before .record-size .ensures .0) (c .before .before .u16-at4 .ensures) (c .before .before .before .u16-at3 .ensures) (c .if2 .taken)
+    bad-format2 (start .args .table .now) (start .pre .0) (start .pre .1) (c .before .before .before .before .before .u16-at .ensures)
+    (c .before .before .before .before .u16-at2 .ensures) (c .before .record-size .ensures .0) (c .before .before .u16-at4 .ensures)
+    (c .before .before .before .u16-at3 .ensures) (c .if2 .taken)
 
 returns-3 : tie.Need-returns-3
 returns-3 c =
     let start = c .before .before .before .before .before .before .before .before in
-    opened-format2 (start .args .table .now) (start .pre .0) (start .pre .1) (c .before .before .before .before .before .u16-at .ensures) (c .before .before .before .before .u16-at2 .ensures) (c .before .record-size .ensures .0) (c .before .before .u16-at4 .ensures) (c .before .before .before .u16-at3 .ensures) (c .if2 .left)
+    opened-format2 (start .args .table .now) (start .pre .0) (start .pre .1) (c .before .before .before .before .before .u16-at .ensures)
+    (c .before .before .before .before .u16-at2 .ensures) (c .before .record-size .ensures .0) (c .before .before .u16-at4 .ensures)
+    (c .before .before .before .u16-at3 .ensures) (c .if2 .left)
 
 pub open-format2-spec : {M : Type 1} → statement M
 open-format2-spec =

@@ -12,7 +12,22 @@ mul-result : tie.Need-mul-result
 mul-result c = omega (arith, c .field-count2 .ensures, c .before .field-count .ensures, fieldCount-le (c .before .before .args .value1), fieldCount-le (c .before .before .args .value2))
 
 returns : tie.Need-returns
-returns c = (omega (arith, c .field-count2 .ensures, c .before .field-count .ensures, fieldCount-le (c .before .before .args .value1), fieldCount-le (c .before .before .args .value2)), omega (arith, c .field-count2 .ensures, c .before .field-count .ensures, fieldCount-le (c .before .before .args .value1), fieldCount-le (c .before .before .args .value2)))
+returns c = (
+  omega (
+    arith,
+    c .field-count2 .ensures,
+    c .before .field-count .ensures,
+    fieldCount-le (c .before .before .args .value1),
+    fieldCount-le (c .before .before .args .value2),
+  ),
+  omega (
+    arith,
+    c .field-count2 .ensures,
+    c .before .field-count .ensures,
+    fieldCount-le (c .before .before .args .value1),
+    fieldCount-le (c .before .before .args .value2),
+  ),
+)
 
 pub record-size-spec : {M : Type 1} → statement M
 record-size-spec =

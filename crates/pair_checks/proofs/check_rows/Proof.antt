@@ -15,14 +15,18 @@ returns-2 : tie.Need-returns-2
 returns-2 c =
     let start = c .before .before .before .before .before .before .before .before .before .before in
     let a = start .args in
-    no-second (lent (a .«data» .now) (a .objects .now) (a .links .now) (a .counts .now)) (a .layout) (a .coverage) (c .before .before .before .before .before .before .linked-class-def .ensures) (c .before .before .linked-class-def2 .ensures) (c .before .before .before .before .first .given .1) (c .enum-told2 .given .1)
+    no-second (lent (a .«data» .now) (a .objects .now) (a .links .now) (a .counts .now)) (a .layout) (a .coverage)
+    (c .before .before .before .before .before .before .linked-class-def .ensures) (c .before .before .linked-class-def2 .ensures)
+    (c .before .before .before .before .first .given .1) (c .enum-told2 .given .1)
 
 returns-3 : tie.Need-returns-3
 returns-3 c =
     let after-linked-class-def = c .before .before .before .before .before .before .before in
     let start = after-linked-class-def .before .before .before .before in
     let a = start .args in
-    both-there (lent (a .«data» .now) (a .objects .now) (a .links .now) (a .counts .now)) (a .layout) (a .coverage) (after-linked-class-def .linked-class-def .ensures) (c .before .before .before .linked-class-def2 .ensures) (c .before .before .before .before .before .first .given .1) (c .before .second .given .1) (start .pre .1)
+    both-there (lent (a .«data» .now) (a .objects .now) (a .links .now) (a .counts .now)) (a .layout) (a .coverage)
+    (after-linked-class-def .linked-class-def .ensures) (c .before .before .before .linked-class-def2 .ensures)
+    (c .before .before .before .before .before .first .given .1) (c .before .second .given .1) (start .pre .1)
 
 pub check-rows-spec : {M : Type 1} → statement M
 check-rows-spec =

@@ -30,20 +30,30 @@ returns-3 : tie.Need-returns-3
 returns-3 c =
     let after-is-sound = c .before .before .before .before .before .before .before in
     let start = after-is-sound .before .before .before .before in
-    let a = start .args in by-opened (lent (a .«data» .now) (a .objects .now) (a .links .now) (a .counts .now)) (a .table) (after-is-sound .is-sound .ensures) (c .before .before .before .before .before .before .if1 .left) (c .before .before .before .before .if2 .left) (c .before .before .before .bytes-of .ensures (a .links .now) (a .counts .now)) (c .before .before .«open» .ensures) (c .enum-told .given .1) refl
+    let a = start .args in
+    by-opened (lent (a .«data» .now) (a .objects .now) (a .links .now) (a .counts .now)) (a .table) (after-is-sound .is-sound .ensures)
+    (c .before .before .before .before .before .before .if1 .left) (c .before .before .before .before .if2 .left)
+    (c .before .before .before .bytes-of .ensures (a .links .now) (a .counts .now)) (c .before .before .«open» .ensures) (c .enum-told .given .1) refl
 
 returns-4 : tie.Need-returns-4
 returns-4 c =
     let after-is-sound = c .before .before .before .before .before .before .before in
     let start = after-is-sound .before .before .before .before in
-    let a = start .args in by-opened (lent (a .«data» .now) (a .objects .now) (a .links .now) (a .counts .now)) (a .table) (after-is-sound .is-sound .ensures) (c .before .before .before .before .before .before .if1 .left) (c .before .before .before .before .if2 .left) (c .before .before .before .bytes-of .ensures (a .links .now) (a .counts .now)) (c .before .before .«open» .ensures) (c .enum-told2 .given .1) refl
+    let a = start .args in
+    by-opened (lent (a .«data» .now) (a .objects .now) (a .links .now) (a .counts .now)) (a .table) (after-is-sound .is-sound .ensures)
+    (c .before .before .before .before .before .before .if1 .left) (c .before .before .before .before .if2 .left)
+    (c .before .before .before .bytes-of .ensures (a .links .now) (a .counts .now)) (c .before .before .«open» .ensures) (c .enum-told2 .given .1) refl
 
 returns-5 : tie.Need-returns-5
 returns-5 c =
     let after-if1 = c .before .before .before .before .before .before .before .before in
     let after-is-sound = after-if1 .before in
     let start = after-is-sound .before .before .before .before in
-    let a = start .args in by-opened (lent (a .«data» .now) (a .objects .now) (a .links .now) (a .counts .now)) (a .table) (after-is-sound .is-sound .ensures) (after-if1 .if1 .left) (c .before .before .before .before .before .before .if2 .left) (c .before .before .before .before .before .bytes-of .ensures (a .links .now) (a .counts .now)) (c .before .before .before .before .«open» .ensures) (c .before .before .opened .given .1) (c .check-parts .ensures)
+    let a = start .args in
+    by-opened (lent (a .«data» .now) (a .objects .now) (a .links .now) (a .counts .now)) (a .table) (after-is-sound .is-sound .ensures)
+    (after-if1 .if1 .left) (c .before .before .before .before .before .before .if2 .left)
+    (c .before .before .before .before .before .bytes-of .ensures (a .links .now) (a .counts .now))
+    (c .before .before .before .before .«open» .ensures) (c .before .before .opened .given .1) (c .check-parts .ensures)
 
 pub check-table-spec : {M : Type 1} → statement M
 check-table-spec =

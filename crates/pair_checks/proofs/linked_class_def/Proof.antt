@@ -29,14 +29,19 @@ returns-2 c =
     let after-child-at = c .before .before .before .before .before .before .before .before in
     let start = after-child-at .before .before .before .before in
     let a = start .args in
-    child-read classDefOf (lent (a .«data» .now) (a .objects .now) (a .links .now) (a .counts .now)) (a .table) (a .position) (after-child-at .child-at .ensures (a .«data» .now) (a .objects .now)) (c .before .before .before .before .before .before .child .given .1) (c .before .before .before .before .bytes-of .ensures (a .links .now) (a .counts .now)) (c .before .before .before .read-class-def .ensures) (c .before .reading .given .1)
+    child-read classDefOf (lent (a .«data» .now) (a .objects .now) (a .links .now) (a .counts .now)) (a .table) (a .position)
+    (after-child-at .child-at .ensures (a .«data» .now) (a .objects .now)) (c .before .before .before .before .before .before .child .given .1)
+    (c .before .before .before .before .bytes-of .ensures (a .links .now) (a .counts .now)) (c .before .before .before .read-class-def .ensures)
+    (c .before .reading .given .1)
 
 returns-3 : tie.Need-returns-3
 returns-3 c =
     let after-child-at = c .before .before .before .before .before .before .before in
     let start = after-child-at .before .before .before .before in
     let a = start .args in
-    child-unread classDefOf (lent (a .«data» .now) (a .objects .now) (a .links .now) (a .counts .now)) (a .table) (a .position) (after-child-at .child-at .ensures (a .«data» .now) (a .objects .now)) (c .before .before .before .before .before .child .given .1) (c .before .before .before .bytes-of .ensures (a .links .now) (a .counts .now)) (c .before .before .read-class-def .ensures) (c .enum-told2 .given .1)
+    child-unread classDefOf (lent (a .«data» .now) (a .objects .now) (a .links .now) (a .counts .now)) (a .table) (a .position)
+    (after-child-at .child-at .ensures (a .«data» .now) (a .objects .now)) (c .before .before .before .before .before .child .given .1)
+    (c .before .before .before .bytes-of .ensures (a .links .now) (a .counts .now)) (c .before .before .read-class-def .ensures) (c .enum-told2 .given .1)
 
 pub linked-class-def-spec : {M : Type 1} → statement M
 linked-class-def-spec =

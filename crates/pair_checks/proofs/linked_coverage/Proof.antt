@@ -29,14 +29,19 @@ returns-2 c =
     let after-child-at = c .before .before .before .before .before .before .before .before in
     let start = after-child-at .before .before .before .before in
     let a = start .args in
-    child-read coverageOf (lent (a .«data» .now) (a .objects .now) (a .links .now) (a .counts .now)) (a .table) 2 (after-child-at .child-at .ensures (a .«data» .now) (a .objects .now)) (c .before .before .before .before .before .before .child .given .1) (c .before .before .before .before .bytes-of .ensures (a .links .now) (a .counts .now)) (c .before .before .before .read-coverage .ensures) (c .before .reading .given .1)
+    child-read coverageOf (lent (a .«data» .now) (a .objects .now) (a .links .now) (a .counts .now)) (a .table) 2
+    (after-child-at .child-at .ensures (a .«data» .now) (a .objects .now)) (c .before .before .before .before .before .before .child .given .1)
+    (c .before .before .before .before .bytes-of .ensures (a .links .now) (a .counts .now)) (c .before .before .before .read-coverage .ensures)
+    (c .before .reading .given .1)
 
 returns-3 : tie.Need-returns-3
 returns-3 c =
     let after-child-at = c .before .before .before .before .before .before .before in
     let start = after-child-at .before .before .before .before in
     let a = start .args in
-    child-unread coverageOf (lent (a .«data» .now) (a .objects .now) (a .links .now) (a .counts .now)) (a .table) 2 (after-child-at .child-at .ensures (a .«data» .now) (a .objects .now)) (c .before .before .before .before .before .child .given .1) (c .before .before .before .bytes-of .ensures (a .links .now) (a .counts .now)) (c .before .before .read-coverage .ensures) (c .enum-told2 .given .1)
+    child-unread coverageOf (lent (a .«data» .now) (a .objects .now) (a .links .now) (a .counts .now)) (a .table) 2
+    (after-child-at .child-at .ensures (a .«data» .now) (a .objects .now)) (c .before .before .before .before .before .child .given .1)
+    (c .before .before .before .bytes-of .ensures (a .links .now) (a .counts .now)) (c .before .before .read-coverage .ensures) (c .enum-told2 .given .1)
 
 pub linked-coverage-spec : {M : Type 1} → statement M
 linked-coverage-spec =

@@ -6,8 +6,12 @@ use Rattle.pair_new_objects.proofs.order_part.Tie as tie
 
 returns : tie.Need-returns
 returns c =
-    let start = c .before .before .before .before .before .before .before .before .before in
-    (put-back _ _ _ _ _ (start .pre .0) (c .before .before .before .before .sort-pairs .ensures .0) (glyph-order-long _ _ _ _ (start .pre .0) (start .pre .1)), put-back _ _ _ _ _ (start .pre .0) (c .before .before .before .before .sort-pairs .ensures .1) (item-order-long _ _ _ _ (start .pre .0) (start .pre .1)))
+    let start = c .before .before .before .before .before .before .before .before .before in (
+      put-back _ _ _ _ _ (start .pre .0) (c .before .before .before .before .sort-pairs .ensures .0)
+          (glyph-order-long _ _ _ _ (start .pre .0) (start .pre .1)),
+      put-back _ _ _ _ _ (start .pre .0)
+          (c .before .before .before .before .sort-pairs .ensures .1) (item-order-long _ _ _ _ (start .pre .0) (start .pre .1)),
+    )
 
 pub order-part-spec : {M : Type 1} → statement M
 order-part-spec =

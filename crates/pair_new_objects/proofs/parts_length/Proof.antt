@@ -12,7 +12,12 @@ class-def-length-requires : tie.Need-class-def-length-requires
 class-def-length-requires c κs = (c .before .before .before .before .pre .0, glyphs-ascend _ _ _ _ (c .before .before .before .before .pre .0) (c .before .before .before .before .pre .1))
 
 add-result : tie.Need-add-result
-add-result c = omega (arith, both-small _ _ _ _ (c .before .before .before .before .before .pre .0) (c .before .before .before .before .before .pre .1) (λ i. c .before .before .before .before .shared-slice-known .given i .fits) _ _ (c .before .before .coverage-length .ensures) (c .class-def-length .ensures))
+add-result c = omega (
+  arith,
+  both-small _ _ _ _ (c .before .before .before .before .before .pre .0)
+      (c .before .before .before .before .before .pre .1) (λ i. c .before .before .before .before .shared-slice-known .given i .fits) _ _
+      (c .before .before .coverage-length .ensures) (c .class-def-length .ensures),
+)
 
 returns-2 : tie.Need-returns-2
 returns-2 c = two-length _ _ _ _ (c .before .before .before .before .before .pre .0) _ _ (c .before .if1 .left) (c .before .before .coverage-length .ensures) (c .class-def-length .ensures)

@@ -41,7 +41,12 @@ cast-put-object-4 c =
     let after-put-object = c .before .before .before .before .before .before .before .before in
     let after-write-coverage = after-put-object .before .before .before .before in
     let start = after-write-coverage .before .before .before .before .before .before in
-    omega (arith, end-small _ _ _ _ (start .pre .0) (start .pre .1 .0) _ _ _ _ (start .pre .1 .1) _ _ _ (after-write-coverage .write-coverage .ensures) (after-put-object .put-object .ensures) (c .before .before .before .before .before .if1 .left) _ (c .before .before .before .write-class-def .ensures .1))
+    omega (
+      arith,
+      end-small _ _ _ _ (start .pre .0) (start .pre .1 .0) _ _ _ _ (start .pre .1 .1) _ _ _
+          (after-write-coverage .write-coverage .ensures) (after-put-object .put-object .ensures) (c .before .before .before .before .before .if1 .left)
+          _ (c .before .before .before .write-class-def .ensures .1),
+    )
 
 put-object-requires-2 : tie.Need-put-object-requires-2
 put-object-requires-2 c κs =
@@ -56,7 +61,9 @@ returns-2 c =
     let after-put-object = after-if1 .before .before .before in
     let after-write-coverage = after-put-object .before .before .before .before in
     let start = after-write-coverage .before .before .before .before .before .before in
-    two-done _ _ _ _ (start .pre .0) (start .pre .1 .0) _ _ _ _ (start .pre .1 .1) _ _ _ (after-write-coverage .write-coverage .ensures) (after-put-object .put-object .ensures) (after-if1 .if1 .left) _ _ _ (c .before .before .before .before .before .before .write-class-def .ensures) (c .before .before .put-object2 .ensures)
+    two-done _ _ _ _ (start .pre .0) (start .pre .1 .0) _ _ _ _ (start .pre .1 .1) _ _ _ (after-write-coverage .write-coverage .ensures)
+    (after-put-object .put-object .ensures) (after-if1 .if1 .left) _ _ _
+    (c .before .before .before .before .before .before .write-class-def .ensures) (c .before .before .put-object2 .ensures)
 
 pub write-parts-spec : {M : Type 1} → statement M
 write-parts-spec =

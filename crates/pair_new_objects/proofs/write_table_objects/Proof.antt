@@ -6,7 +6,15 @@ use Rattle.pair_new_objects.proofs.write_table_objects.Statement.{state
 use Rattle.pair_new_objects.proofs.write_table_objects.Tie as tie
 
 write-table-requires : tie.Need-write-table-requires
-write-table-requires c κs = (c .before .before .before .before .before .pre .1 .1 .0, (c .before .before .before .before .before .pre .1 .1 .1 .0, table-fits _ _ (c .before .before .before .before .before .args .head) (c .before .before .before .before .before .args .layout) (c .before .before .before .before .before .args .lo) (c .before .before .before .before .before .args .hi) _ _ _ (c .before .before .before .before .before .pre .1 .1 .1 .1)))
+write-table-requires c κs = (
+  c .before .before .before .before .before .pre .1 .1 .0,
+  (
+    c .before .before .before .before .before .pre .1 .1 .1 .0,
+    table-fits _ _ (c .before .before .before .before .before .args .head)
+        (c .before .before .before .before .before .args .layout) (c .before .before .before .before .before .args .lo)
+        (c .before .before .before .before .before .args .hi) _ _ _ (c .before .before .before .before .before .pre .1 .1 .1 .1),
+  ),
+)
 
 cast-put-object-2 : tie.Need-cast-put-object-2
 cast-put-object-2 c =

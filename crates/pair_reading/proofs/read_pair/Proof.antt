@@ -14,7 +14,9 @@ returns c =
     let after-check-table = c .before .before .before .before .before .before .before .before in
     let start = after-check-table .before .before .before .before in
     let a = start .args in
-    settled-call (lent (a .«data» .now) (a .objects .now) (a .links .now) (a .counts .now)) (a .table) (a .first) (a .second) (after-check-table .check-table .ensures) (c .before .before .before .before .before .before .checked .given .1) (c .before .before .before .before .number-of .ensures) (c .before .before .before .no-pair .ensures) (c .report .ensures)
+    settled-call (lent (a .«data» .now) (a .objects .now) (a .links .now) (a .counts .now)) (a .table) (a .first) (a .second)
+    (after-check-table .check-table .ensures) (c .before .before .before .before .before .before .checked .given .1)
+    (c .before .before .before .before .number-of .ensures) (c .before .before .before .no-pair .ensures) (c .report .ensures)
 
 returns-2 : tie.Need-returns-2
 returns-2 c =

@@ -33,16 +33,24 @@ module _ (part : List ℕ) (count g : ℕ) {r : Found} (e : r ≡ found (rangeOf
   unnamed q = rw (found-none (rangeOf part count g) (sym q ∙ e))
 
 mul-u16-at : tie.Need-mul-u16-at
-mul-u16-at c = let h = inside (c .before .before .before .before .before .args .part .now) (c .before .before .before .before .before .args .count) (c .before .before .before .before .before .args .glyph) (c .before .before .before .range-of .ensures) (c .before .place .given .1) (c .before .before .before .before .before .pre) in omega arith
+mul-u16-at c = let h = inside (c .before .before .before .before .before .args .part .now) (c .before .before .before .before .before .args .count)
+    (c .before .before .before .before .before .args .glyph) (c .before .before .before .range-of .ensures) (c .before .place .given .1)
+    (c .before .before .before .before .before .pre) in omega arith
 
 add-u16-at : tie.Need-add-u16-at
-add-u16-at c = let h = inside (c .before .before .before .before .before .args .part .now) (c .before .before .before .before .before .args .count) (c .before .before .before .before .before .args .glyph) (c .before .before .before .range-of .ensures) (c .before .place .given .1) (c .before .before .before .before .before .pre) in omega arith
+add-u16-at c = let h = inside (c .before .before .before .before .before .args .part .now) (c .before .before .before .before .before .args .count)
+    (c .before .before .before .before .before .args .glyph) (c .before .before .before .range-of .ensures) (c .before .place .given .1)
+    (c .before .before .before .before .before .pre) in omega arith
 
 u16-at-requires : tie.Need-u16-at-requires
-u16-at-requires c κs = inside (c .before .before .before .before .before .args .part .now) (c .before .before .before .before .before .args .count) (c .before .before .before .before .before .args .glyph) (c .before .before .before .range-of .ensures) (c .before .place .given .1) (c .before .before .before .before .before .pre)
+u16-at-requires c κs = inside (c .before .before .before .before .before .args .part .now) (c .before .before .before .before .before .args .count)
+    (c .before .before .before .before .before .args .glyph) (c .before .before .before .range-of .ensures) (c .before .place .given .1)
+    (c .before .before .before .before .before .pre)
 
 returns : tie.Need-returns
-returns c = c .u16-at .ensures ∙ beside (c .before .before .before .before .before .before .args .part .now) (c .before .before .before .before .before .before .args .count) (c .before .before .before .before .before .before .args .glyph) (c .before .before .before .before .range-of .ensures) (c .before .before .place .given .1)
+returns c = c .u16-at .ensures ∙ beside (c .before .before .before .before .before .before .args .part .now)
+    (c .before .before .before .before .before .before .args .count) (c .before .before .before .before .before .before .args .glyph)
+    (c .before .before .before .before .range-of .ensures) (c .before .before .place .given .1)
 
 returns-2 : tie.Need-returns-2
 returns-2 c = unnamed (c .before .before .before .before .args .part .now) (c .before .before .before .before .args .count) (c .before .before .before .before .args .glyph) (c .before .before .range-of .ensures) (c .enum-told .given .1)

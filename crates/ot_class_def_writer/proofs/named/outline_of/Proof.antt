@@ -40,7 +40,10 @@ module _ (gs cs : List ℕ) (first : ℕ) (same : length cs ≡ length gs) (a : 
       }
 
 sub-last : tie.Need-sub-last
-sub-last c = let h = some-named (c .before .before .before .before .before .before .args .glyphs .now) (c .before .before .before .before .before .before .args .classes .now) (c .before .before .before .before .before .before .args .first) (c .before .before .before .before .before .before .pre .0) _ (c .before .before .first-named .ensures) (c .before .if1 .taken) _ (c .last-named .ensures) in omega arith
+sub-last c = let h = some-named (c .before .before .before .before .before .before .args .glyphs .now)
+    (c .before .before .before .before .before .before .args .classes .now) (c .before .before .before .before .before .before .args .first)
+    (c .before .before .before .before .before .before .pre .0) _ (c .before .before .first-named .ensures) (c .before .if1 .taken) _
+    (c .last-named .ensures) in omega arith
 
 cast-start : tie.Need-cast-start
 cast-start c = omega (arith, c .shared-slice-known3 .given (c .before .before .before .first-named .result))
@@ -59,10 +62,14 @@ sub-t12 c =
 returns : tie.Need-returns
 returns c =
     let start = c .before .before .before .before .before .before .before .before in
-    with-some _ _ _ (start .pre .0) (start .pre .1) (λ i. omega (arith, c .shared-slice-known4 .given i)) (c .before .before .before .before .before .count-runs .ensures) (c .before .before .before .before .first-named .ensures) (c .before .before .before .if1 .taken) (c .before .before .last-named .ensures)
+    with-some _ _ _ (start .pre .0) (start .pre .1) (λ i. omega (arith, c .shared-slice-known4 .given i))
+    (c .before .before .before .before .before .count-runs .ensures) (c .before .before .before .before .first-named .ensures)
+    (c .before .before .before .if1 .taken) (c .before .before .last-named .ensures)
 
 returns-2 : tie.Need-returns-2
-returns-2 c = with-none _ _ _ (c .before .before .before .before .before .pre .0) (c .before .before .before .before .before .pre .1) (λ i. omega (arith, c .before .before .before .before .shared-slice-known .given i)) (c .before .before .count-runs .ensures) (c .before .first-named .ensures) (c .if1 .left)
+returns-2 c = with-none _ _ _ (c .before .before .before .before .before .pre .0) (c .before .before .before .before .before .pre .1)
+    (λ i. omega (arith, c .before .before .before .before .shared-slice-known .given i)) (c .before .before .count-runs .ensures)
+    (c .before .first-named .ensures) (c .if1 .left)
 
 pub outline-of-spec : {M : Type 1} → statement M
 outline-of-spec =

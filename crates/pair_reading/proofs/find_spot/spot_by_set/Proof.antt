@@ -26,14 +26,21 @@ returns-2 c =
 spot-in-set-requires : tie.Need-spot-in-set-requires
 spot-in-set-requires c κs =
     let start = c .before .before .before .before .before .before .before .before .before .before in
-    let a = start .args in
-    (set-inside (lent (a .«data» .now) (a .objects .now) (a .links .now) (a .counts .now)) (a .table) (a .layout) (a .second) (a .k) (c .before .before .before .before .before .if1 .left) (c .before .before .before .before .child-at .ensures (a .«data» .now) (a .objects .now)) (c .before .before .child .given .1) (start .pre), c .record-size .ensures .1)
+    let a = start .args in (
+      set-inside (lent (a .«data» .now) (a .objects .now) (a .links .now) (a .counts .now)) (a .table) (a .layout) (a .second) (a .k)
+          (c .before .before .before .before .before .if1 .left)
+          (c .before .before .before .before .child-at .ensures (a .«data» .now) (a .objects .now)) (c .before .before .child .given .1) (start .pre),
+      c .record-size .ensures .1,
+    )
 
 returns-3 : tie.Need-returns-3
 returns-3 c =
     let start = c .before .before .before .before .before .before .before .before .before .before .before in
     let a = start .args in
-    in-linked-set (lent (a .«data» .now) (a .objects .now) (a .links .now) (a .counts .now)) (a .table) (a .layout) (a .second) (a .k) (c .before .before .before .before .before .before .if1 .left) (c .before .before .before .before .before .child-at .ensures (a .«data» .now) (a .objects .now)) (c .before .before .before .child .given .1) (c .before .record-size .ensures .0) (c .spot-in-set .ensures (a .links .now) (a .counts .now))
+    in-linked-set (lent (a .«data» .now) (a .objects .now) (a .links .now) (a .counts .now)) (a .table) (a .layout) (a .second) (a .k)
+    (c .before .before .before .before .before .before .if1 .left)
+    (c .before .before .before .before .before .child-at .ensures (a .«data» .now) (a .objects .now)) (c .before .before .before .child .given .1)
+    (c .before .record-size .ensures .0) (c .spot-in-set .ensures (a .links .now) (a .counts .now))
 
 pub spot-by-set-spec : {M : Type 1} → statement M
 spot-by-set-spec =

@@ -29,7 +29,9 @@ returns-2 c =
     let after-place-in = c .before .before .before .before .before .before .before in
     let start = after-place-in .before .before .before .before .before in
     let a = start .args in
-    by-its-set (opens (lent (a .«data» .now) (a .objects .now) (a .links .now) (a .counts .now)) (a .table) (a .opened) (start .pre)) (a .first) (a .second) (after-place-in .place-in .ensures (a .links .now) (a .counts .now)) (c .before .before .before .before .before .place .given .1) (c .before .if1 .taken) (c .spot-by-set .ensures)
+    by-its-set (opens (lent (a .«data» .now) (a .objects .now) (a .links .now) (a .counts .now)) (a .table) (a .opened) (start .pre)) (a .first)
+    (a .second) (after-place-in .place-in .ensures (a .links .now) (a .counts .now)) (c .before .before .before .before .before .place .given .1)
+    (c .before .if1 .taken) (c .spot-by-set .ensures)
 
 spot-by-classes-requires : tie.Need-spot-by-classes-requires
 spot-by-classes-requires c κs =
@@ -43,7 +45,9 @@ returns-3 c =
     let after-place-in = c .before .before .before .before .before .before .before in
     let start = after-place-in .before .before .before .before .before in
     let a = start .args in
-    by-its-classes (opens (lent (a .«data» .now) (a .objects .now) (a .links .now) (a .counts .now)) (a .table) (a .opened) (start .pre)) (a .first) (a .second) (after-place-in .place-in .ensures (a .links .now) (a .counts .now)) (c .before .before .before .before .before .place .given .1) (c .before .if1 .left) (c .spot-by-classes .ensures (a .links .now) (a .counts .now))
+    by-its-classes (opens (lent (a .«data» .now) (a .objects .now) (a .links .now) (a .counts .now)) (a .table) (a .opened) (start .pre)) (a .first)
+    (a .second) (after-place-in .place-in .ensures (a .links .now) (a .counts .now)) (c .before .before .before .before .before .place .given .1)
+    (c .before .if1 .left) (c .spot-by-classes .ensures (a .links .now) (a .counts .now))
 
 pub spot-of-spec : {M : Type 1} → statement M
 spot-of-spec =

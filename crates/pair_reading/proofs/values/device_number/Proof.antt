@@ -24,7 +24,10 @@ returns : tie.Need-returns
 returns c b o =
     let start = c .before .before .before .before .before in
     let a = start .args in
-    device-linked (lent b o (a .links .now) (a .counts .now)) (a .object) (a .position) _ (sym (c .before .child .given .1) ∙ c .before .before .before .child-at .ensures b o) (child-small (lent [] [] (a .links .now) (a .counts .now)) (a .object) (a .position) _ (start .pre .1) (sym (c .before .child .given .1) ∙ c .before .before .before .child-at .ensures [] []))
+    device-linked (lent b o (a .links .now) (a .counts .now)) (a .object) (a .position) _
+    (sym (c .before .child .given .1) ∙ c .before .before .before .child-at .ensures b o)
+    (child-small (lent [] [] (a .links .now) (a .counts .now)) (a .object) (a .position) _ (start .pre .1)
+    (sym (c .before .child .given .1) ∙ c .before .before .before .child-at .ensures [] []))
 
 returns-2 : tie.Need-returns-2
 returns-2 c b o = let a = c .before .before .before .before .args in device-none (lent b o (a .links .now) (a .counts .now)) (a .object) (a .position) (sym (c .enum-told .given .1) ∙ c .before .before .child-at .ensures b o)

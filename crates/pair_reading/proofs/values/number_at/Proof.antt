@@ -45,7 +45,9 @@ returns-2 c =
     let start = c .before .before .before .before .before .before .before .before .before in
     let a = start .args in
     toZ-ofZ w32 (c .device-number .result) (search needs)
-    ∙ device (start .pre .0) (a .j) (start .pre .1) (c .before .before .before .before .before .has-field .ensures) (c .before .before .before .before .if1 .left) (c .before .before .before .position .ensures) (c .before .before .field-at .ensures) (c .before .if2 .taken) (c .device-number .ensures (a .«data» .now) (a .objects .now))
+    ∙ device (start .pre .0) (a .j) (start .pre .1) (c .before .before .before .before .before .has-field .ensures)
+    (c .before .before .before .before .if1 .left) (c .before .before .before .position .ensures) (c .before .before .field-at .ensures)
+    (c .before .if2 .taken) (c .device-number .ensures (a .«data» .now) (a .objects .now))
 
 bytes-of-requires : tie.Need-bytes-of-requires
 bytes-of-requires c κs =
@@ -56,7 +58,13 @@ u16-at-requires : tie.Need-u16-at-requires
 u16-at-requires c κs =
     let start = c .before .before .before .before .before .before .before .before .before in
     let a = start .args in
-    omega (arith, ap (λ (b : List ℕ). length b) (c .bytes-of .ensures (a .links .now) (a .counts .now)), field-within (start .pre .0) (a .j) (start .pre .1) (c .before .before .before .before .before .has-field .ensures) (c .before .before .before .before .if1 .left), c .before .before .before .position .ensures)
+    omega (
+      arith,
+      ap (λ (b : List ℕ). length b) (c .bytes-of .ensures (a .links .now) (a .counts .now)),
+      field-within (start .pre .0) (a .j)
+          (start .pre .1) (c .before .before .before .before .before .has-field .ensures) (c .before .before .before .before .if1 .left),
+      c .before .before .before .position .ensures,
+    )
 
 returns-3 : tie.Need-returns-3
 returns-3 c =
@@ -64,7 +72,10 @@ returns-3 c =
     let start = after-has-field .before .before .before .before in
     let a = start .args in
     toZ-ofZ w32 (c .signed .result) (search needs)
-    ∙ plain (start .pre .0) (a .j) (start .pre .1) (after-has-field .has-field .ensures) (c .before .before .before .before .before .before .if1 .left) (c .before .before .before .before .before .position .ensures) (c .before .before .before .before .field-at .ensures) (c .before .before .before .if2 .left) (c .before .before .bytes-of .ensures (a .links .now) (a .counts .now)) (c .before .u16-at .ensures) (c .signed .ensures)
+    ∙ plain (start .pre .0) (a .j) (start .pre .1) (after-has-field .has-field .ensures)
+    (c .before .before .before .before .before .before .if1 .left) (c .before .before .before .before .before .position .ensures)
+    (c .before .before .before .before .field-at .ensures) (c .before .before .before .if2 .left)
+    (c .before .before .bytes-of .ensures (a .links .now) (a .counts .now)) (c .before .u16-at .ensures) (c .signed .ensures)
 
 pub number-at-spec : {M : Type 1} → statement M
 number-at-spec =
