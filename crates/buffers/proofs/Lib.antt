@@ -1,2 +1,2 @@
-pub mod Clearing
+pub mod Filling
 pub mod Copying

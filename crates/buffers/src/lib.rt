@@ -1,7 +1,8 @@
-// Lent buffers: numbers zeroed, bytes copied further up, and lengths compared.
+// Lent buffers: numbers zeroed or counted up, bytes copied further up, and lengths compared.
 ghost use mathlib.Core.Path.{_≡_};
 ghost use Prim.Native.Nat.{_+_, _≤_, min};
 ghost use lib.ListN.{length, replicate};
+ghost use Rattle.folds.specs.Folds.{upto};
 ghost use Rattle.folds.specs.Lists.{put, part};
 ghost use Rattle.folds.specs.Moments.{came, left};
 
@@ -66,6 +67,18 @@ pub fn clear_u32(s: &mut [u32])
     let mut k: usize = 0;
     while k < s.len() {
         s[k] = 0;
+        k += 1;
+    }
+}
+
+// Writes each number's index.
+pub fn number_u16(s: &mut [u16])
+    requires { ⌜ length (now s) ≤ 65536 ⌝ }
+    ensures { λ _. ⌜ left s ≡ upto (λ k. k) (length (came s)) ⌝ }
+{
+    let mut k: usize = 0;
+    while k < s.len() {
+        s[k] = k as u16;
         k += 1;
     }
 }

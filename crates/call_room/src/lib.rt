@@ -8,9 +8,9 @@ ghost use Rattle.folds.specs.Moments.{came};
 ghost use Rattle.call_rules.specs.Needs.{InUse, shortBy};
 
 // Whether what is lent is too little for what is in use and what is needed.
-pub fn is_short(lent: Lent, counts: &[u32; 3], needs: Needs) -> bool
-    requires { ⌜ InUse lent (now counts) ⌝ }
-    ensures { λ r. ⌜ r ≡ shortBy lent (came counts) needs ⌝ }
+pub fn is_short(lent: Lent, counts: [u32; 3], needs: Needs) -> bool
+    requires { ⌜ InUse lent counts ⌝ }
+    ensures { λ r. ⌜ r ≡ shortBy lent counts needs ⌝ }
 {
     if lesser(lent.objects / 2, 65536) - (counts[1] as usize) < needs.objects {
         return true;

@@ -28,7 +28,7 @@ impl Filling {
     // Item `i`, which costs `cost`, with `beside` bytes of coverage and class definitions; a table starts at `start` bytes.
     pub fn weigh(mut self, i: u16, cost: u64, beside: u64, start: u64, cuts: &mut [u16]) -> Self
         requires { ⌜
-            (self .sum < 4294967296) × (cost < 4294967296) × (beside < 4294967296) × (start ≤ 16) × (self .cuts < length (now cuts))
+            (self .sum < 4294967296) × (cost < 4294967296) × (beside < 4294967296) × (start < 4294967296) × (self .cuts < length (now cuts))
             ⌝ }
         ensures { λ f. ⌜ Weighed self i cost beside start (came cuts) f (left cuts) ⌝ }
     {

@@ -37,8 +37,10 @@ pins =
     -- `cutHere`: the sum is the start and the item's cost as it was measured, objects count as seen from the next item on, the table starts with the item
     ∷ same (cuts (40000 ∷ 40000 ∷ 25317 ∷ [])) (1 ∷ []) ∷ same (cuts (40000 ∷ 40000 ∷ 25318 ∷ [])) (1 ∷ 2 ∷ [])
     ∷ same (cuts (65525 ∷ 40000 ∷ 25217 ∷ [])) (0 ∷ 1 ∷ []) ∷ same (cuts (65525 ∷ 40000 ∷ 25218 ∷ [])) (0 ∷ 1 ∷ 2 ∷ [])
+    -- `goOn`: after a cut too the table's first item and what counts as seen stay
+    ∷ same (cuts (40000 ∷ 40000 ∷ 100 ∷ 25013 ∷ [])) (1 ∷ []) ∷ same (cuts (40000 ∷ 40000 ∷ 100 ∷ 25014 ∷ [])) (1 ∷ 3 ∷ [])
     -- `from`, `to`: a range ends where the next one starts, the last one with the items
-    ∷ eqb (from (3 ∷ 5 ∷ []) 1) 5 ∷ eqb (to 9 (3 ∷ 5 ∷ []) 0) 5 ∷ eqb (to 9 (3 ∷ 5 ∷ []) 1) 9
+    ∷ eqb (from [] 0) 0 ∷ eqb (from (3 ∷ 5 ∷ []) 1) 5 ∷ eqb (to 9 (3 ∷ 5 ∷ []) 0) 5 ∷ eqb (to 9 (3 ∷ 5 ∷ []) 1) 9
     ∷ []
 
 pub pinned : every pins ≡ true

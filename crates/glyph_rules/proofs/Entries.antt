@@ -1,17 +1,18 @@
 -- Covered glyphs of a range of items, and with their items counted from its first. Assumes nothing.
 use Prim.Native.Nat.{ℕ, zero, suc, _+_, _-_, _<_, _≤_, min}
 use mathlib.Core.Path.{_≡_, refl, sym, ap, ap₂, _∙_}
-use mathlib.Core.Bool.{Bool, true, false, cond, _&&_}
+use mathlib.Core.Bool.{Bool, cond, _&&_}
 use mathlib.Core.List.{List, [], _∷_, _++_, map, append-nil}
 use mathlib.Core.Logic.{_⊎_, inl, inr}
 use native.Mathlib.Omega.{arith}
 use lib.Dec.{leb, ltb}
-use borrow.Author.Tests.{lt-leb, le-leb, lt-ltb, le-ltb, leb-true}
+use borrow.Author.Tests.{lt-leb, le-leb, lt-ltb, le-ltb}
 use Rattle.folds.specs.Folds.{upto, flat}
 use Rattle.folds.specs.Lists.{sift}
-use Rattle.folds.proofs.Tests.{either, and-both}
+use Rattle.folds.proofs.Tests.{either}
 use Rattle.folds.proofs.Picked.{sift-append}
-use Rattle.folds.proofs.Each.{each-sift, Each}
+use Rattle.folds.proofs.Each.{each-sift, each-then, Each}
+use Rattle.folds.proofs.InRange.{ranged-each, ranged-inside}
 use Rattle.ot_layouts.specs.Coverage.{Entry, Ascends, Under}
 use Rattle.ot_layouts.proofs.Runs.{ascends-sift, under-sift}
 use Rattle.ot_layouts.proofs.RunStarts.{entry}
@@ -53,21 +54,8 @@ unfolding within
 within-upto h lo hi n = within-places h lo hi n
 
 pub within-within : (hi n : ℕ) (es : List Entry) → hi ≤ n → within 0 hi (within 0 n es) ≡ within 0 hi es
-unfolding within sift
-within-within hi n [] h = refl
-within-within hi n (e ∷ es) h = go (either (e .class) hi) (within-within hi n es h)
-  where
-    go : (e .class < hi) ⊎ (hi ≤ e .class) → sift (inRange 0 hi) (sift (inRange 0 n) es) ≡ sift (inRange 0 hi) es
-        → sift (inRange 0 hi) (cond (inRange 0 n e) (e ∷ sift (inRange 0 n) es) (sift (inRange 0 n) es)) ≡ cond (inRange 0 hi e) (e ∷ sift (inRange 0 hi) es) (sift (inRange 0 hi) es)
-    go (inl a) i = rw (le-leb 0 (e .class) (omega arith), lt-ltb (e .class) hi a, lt-ltb (e .class) n (omega arith)) (rw (le-leb 0 (e .class) (omega arith), lt-ltb (e .class) hi a) (ap (λ (x : List Entry). e ∷ x) i))
-    go (inr a) i = drop-it (inRange 0 n e)
-      where
-        out : inRange 0 hi e ≡ false
-        out = rw (le-leb 0 (e .class) (omega arith), le-ltb (e .class) hi a)
-
-        drop-it : (b : Bool) → sift (inRange 0 hi) (cond b (e ∷ sift (inRange 0 n) es) (sift (inRange 0 n) es)) ≡ cond (inRange 0 hi e) (e ∷ sift (inRange 0 hi) es) (sift (inRange 0 hi) es)
-        drop-it true = rw out i
-        drop-it false = rw out i
+unfolding within
+within-within hi n es h = ranged-inside (λ (e : Entry). e .class) 0 hi n es h
 
 pub within-ascends : (lo hi : ℕ) (es : List Entry) (n : ℕ) → Ascends n es → Ascends n (within lo hi es)
 unfolding within
@@ -84,11 +72,8 @@ within-agrees f lo hi es a = each-sift (λ (e : Entry). f (e .glyph) ≡ e .clas
 -- no item of a range lies before it
 pub within-low : (lo hi : ℕ) (es : List Entry) → Each (λ e. lo ≤ e .class) (within lo hi es)
 unfolding within
-within-low lo hi es = each-sift (λ e. Unit {0}) (λ e. lo ≤ e .class) (inRange lo hi) (λ e u t. leb-true lo (e .class) (and-both (leb lo (e .class)) (ltb (e .class) hi) t .0)) es (any es)
-  where
-    any : (es : List Entry) → Each (λ e. Unit {0}) es
-    any [] = tt
-    any (e ∷ es) = (tt, any es)
+within-low lo hi es =
+    each-then (λ (e : Entry). (lo ≤ e .class) × (e .class < hi)) (λ e. lo ≤ e .class) (λ e (a, b). a) (within lo hi es) (ranged-each (λ (e : Entry). e .class) lo hi es)
 
 -- ---- reduced by its first
 

@@ -43,7 +43,8 @@ pins =
     -- `coverSize`, `classSize`: the smaller of a list and of ranges
     ∷ eqb (coverSize (estimate (entry 5 0 ∷ []))) 6 ∷ eqb (coverSize (estimate (entry 5 0 ∷ entry 6 0 ∷ entry 7 0 ∷ entry 8 0 ∷ []))) 10
     ∷ eqb (classSize (estimate (entry 5 1 ∷ []))) 8 ∷ eqb (classSize (estimate (entry 5 1 ∷ entry 90 0 ∷ []))) 10
-    -- `besideRows`: of coverage 12, class definition 1 of 16 and class definition 2 the largest is taken off
+    -- `besideRows`: of coverage, class definition 1 and class definition 2 the largest is taken off, each in its turn
+    ∷ eqb (besideRows 6 (estimate (entry 5 0 ∷ entry 9 0 ∷ entry 20 0 ∷ []))) 10
     ∷ eqb (besideRows 410 (estimate some)) 28 ∷ eqb (besideRows 14 (estimate some)) 26 ∷ eqb (besideRows 4 (estimate some)) 16
     ∷ []
 

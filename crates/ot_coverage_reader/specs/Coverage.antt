@@ -9,10 +9,10 @@ use Rattle.ot_layouts.specs.declared.Reading.the-variants.{Readable}
 use Rattle.ot_coverage_reader.specs.declared.Place.{Place}
 use Rattle.ot_coverage_reader.specs.declared.Place.the-variants.{At, Nowhere}
 
--- a place that was found, or none
-abbrev pub placeOf : Option ℕ → Place
-placeOf (some i) = At i
-placeOf none = Nowhere
+-- the place that was found, if any
+abbrev pub placeFound : Place → Option ℕ
+placeFound (At i) = some i
+placeFound Nowhere = none
 
 -- a readable Coverage, a list of n glyphs
 abbrev pub AsList : List ℕ → ℕ → Type 0

@@ -11,7 +11,7 @@ ghost use Rattle.folds.specs.Folds.{run};
 ghost use Rattle.folds.specs.Lists.{put};
 ghost use Rattle.ot_layouts.specs.Coverage.{rangesFit, indexed, coverGlyphs, coverPlace};
 ghost use Rattle.folds.specs.Moments.{came, left};
-ghost use Rattle.ot_coverage_reader.specs.Coverage.{AsRanges, placeOf};
+ghost use Rattle.ot_coverage_reader.specs.Coverage.{AsRanges, placeFound};
 
 // Whether each range is numbered by the glyphs before it.
 pub fn indices_fit(part: &[u8], count: usize) -> bool
@@ -51,7 +51,7 @@ pub fn count_in_ranges(part: &[u8], count: usize) -> usize
 // The glyph's place: that of the range's start, and on from there.
 pub fn place_in_ranges(part: &[u8], count: usize, glyph: u16) -> Place
     requires { ⌜ AsRanges (now part) count ⌝ }
-    ensures { λ r. ⌜ r ≡ placeOf (coverPlace (came part) glyph) ⌝ }
+    ensures { λ r. ⌜ placeFound r ≡ coverPlace (came part) glyph ⌝ }
 {
     let found = range_of(part, count, glyph);
     match found {

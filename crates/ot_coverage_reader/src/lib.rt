@@ -20,7 +20,7 @@ ghost use lib.ListN.{length};
 ghost use Rattle.folds.specs.Lists.{put};
 ghost use Rattle.ot_layouts.specs.Coverage.{coverageOf, coverGlyphs, coverPlace};
 ghost use Rattle.folds.specs.Moments.{came, left};
-ghost use Rattle.ot_coverage_reader.specs.Coverage.{placeOf};
+ghost use Rattle.ot_coverage_reader.specs.Coverage.{placeFound};
 
 // A glyph's place in the coverage.
 pub enum Place {
@@ -80,7 +80,7 @@ pub fn glyph_count(part: &[u8], header: Header) -> usize
 // The glyph's place among the covered ones.
 pub fn place_of(part: &[u8], header: Header, glyph: u16) -> Place
     requires { ⌜ coverageOf (now part) ≡ Reading.Readable header ⌝ }
-    ensures { λ r. ⌜ r ≡ placeOf (coverPlace (came part) glyph) ⌝ }
+    ensures { λ r. ⌜ placeFound r ≡ coverPlace (came part) glyph ⌝ }
 {
     let kind = header.kind;
     let count = header.count;

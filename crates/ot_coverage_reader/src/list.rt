@@ -7,7 +7,7 @@ ghost use lib.ListN.{length};
 ghost use Rattle.folds.specs.Lists.{put};
 ghost use Rattle.ot_layouts.specs.Coverage.{listFits, coverGlyphs, coverPlace};
 ghost use Rattle.folds.specs.Moments.{came, left};
-ghost use Rattle.ot_coverage_reader.specs.Coverage.{AsList, placeOf};
+ghost use Rattle.ot_coverage_reader.specs.Coverage.{AsList, placeFound};
 
 // Whether nothing stands behind `count` glyphs, and each is above the one before it.
 pub fn list_fits(part: &[u8], count: usize) -> bool
@@ -33,7 +33,7 @@ pub fn list_fits(part: &[u8], count: usize) -> bool
 // The glyph's place, by halving: the glyphs before `lo` are below it, and those from `hi` on above it.
 pub fn place_in_list(part: &[u8], count: usize, glyph: u16) -> Place
     requires { ⌜ AsList (now part) count ⌝ }
-    ensures { λ r. ⌜ r ≡ placeOf (coverPlace (came part) glyph) ⌝ }
+    ensures { λ r. ⌜ placeFound r ≡ coverPlace (came part) glyph ⌝ }
 {
     let mut lo: usize = 0;
     let mut hi: usize = count;

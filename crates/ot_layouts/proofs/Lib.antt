@@ -18,6 +18,7 @@ pub mod RunStarts
 pub mod ByGlyph
 pub mod Shapes
 pub mod Slots
+pub mod MarkSlots
 pub mod Octets
 pub mod Entries
 pub mod RangesCounted

@@ -3,3 +3,4 @@ pub mod Values
 pub mod Coverage
 pub mod ClassDef
 pub mod PairPos
+pub mod MarkBasePos

@@ -1,4 +1,4 @@
-// What OpenType says of value formats, Coverage, ClassDef and PairPos: in specs/ as definitions, and here the forms that these share with code.
+// What OpenType says of value formats, Coverage, ClassDef, PairPos and MarkBasePos: in specs/ as definitions, and here the forms that these share with code.
 ghost use mathlib.Core.Path.{_≡_};
 ghost use Prim.Native.Nat.{_<_};
 ghost use Rattle.ot_layouts.specs.Values.{fieldAt};

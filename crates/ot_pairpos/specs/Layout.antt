@@ -3,6 +3,7 @@ use Prim.Native.Nat.{ℕ, _+_, _*_}
 use mathlib.Core.Bool.{cond, _||_}
 use mathlib.Core.Path.{_≡_}
 use mathlib.Core.List.{List, [], _∷_, _++_, map}
+use mathlib.Core.Logic.{_⊎_, inl, inr}
 use lib.ListN.{length}
 use lib.Dec.{ltb, eqb}
 use Rattle.ot_layouts.specs.Values.{fieldCount, devices}
@@ -28,11 +29,17 @@ layoutOf b =
       columns = cond (eqb (formatOf b) 1) 0 (columns b);
     }
 
--- `Bad` is answer 3, `Other` "A format other than 1 or 2 answers 0 .. straight after check 3's first clause"
-unfoldable pub openedOf : List ℕ → Opened
+-- what opening a table says: document 01's number where that is the call's answer, or else the table's layout
+abbrev pub openedAs : Opened → ℕ ⊎ Layout
+openedAs Bad = inl 3
+openedAs Other = inl 0
+openedAs (Pair l) = inr l
+
+-- 3 and its two clauses; "A format other than 1 or 2 answers 0 .. straight after check 3's first clause"
+unfoldable pub openedOf : List ℕ → ℕ ⊎ Layout
 openedOf b =
-    cond (ltb (length b) 2) Bad
-    (cond (eqb (formatOf b) 1 || eqb (formatOf b) 2) (cond (exact b) (Pair (layoutOf b)) Bad) Other)
+    cond (ltb (length b) 2) (inl 3)
+    (cond (eqb (formatOf b) 1 || eqb (formatOf b) 2) (cond (exact b) (inr (layoutOf b)) (inl 3)) (inl 0))
 
 -- the device slots of a pair's two value records, by their formats
 abbrev pub slotsOf : ℕ → ℕ → List ℕ

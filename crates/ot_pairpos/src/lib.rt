@@ -11,7 +11,7 @@ ghost use Rattle.ot_layouts.specs.Numbers.{u16At};
 ghost use Rattle.ot_layouts.specs.Values.{fieldCount};
 ghost use Rattle.ot_layouts.specs.PairPos.{ownIn, sharedIn, formatOf, recordSize, shapeOf, shape1, shape2, isSlot};
 ghost use Rattle.folds.specs.Moments.{came};
-ghost use Rattle.ot_pairpos.specs.Layout.{layoutOf, openedOf, slotsOf};
+ghost use Rattle.ot_pairpos.specs.Layout.{layoutOf, openedAs, openedOf, slotsOf};
 
 // What stands where in a table: both formats are a header and a count of items, each of some units (a slot, or a pair's two value records). The header has
 // `heads` links, of which `own` lead to parts that are the table's own, and the count at `count_at`.
@@ -38,7 +38,7 @@ pub enum Opened {
 
 // Opens a table.
 pub fn open(table: &[u8]) -> Opened
-    ensures { λ r. ⌜ r ≡ openedOf (came table) ⌝ }
+    ensures { λ r. ⌜ openedAs r ≡ openedOf (came table) ⌝ }
 {
     if table.len() < 2 {
         return Opened::Bad;
@@ -55,7 +55,7 @@ pub fn open(table: &[u8]) -> Opened
 
 fn open_format1(table: &[u8]) -> Opened
     requires { ⌜ (2 ≤ length (now table)) × (formatOf (now table) ≡ 1) ⌝ }
-    ensures { λ r. ⌜ r ≡ openedOf (came table) ⌝ }
+    ensures { λ r. ⌜ openedAs r ≡ openedOf (came table) ⌝ }
 {
     if table.len() < 10 {
         return Opened::Bad;
@@ -88,7 +88,7 @@ pub fn record_size(value1: u16, value2: u16) -> usize
 
 fn open_format2(table: &[u8]) -> Opened
     requires { ⌜ (2 ≤ length (now table)) × (formatOf (now table) ≡ 2) ⌝ }
-    ensures { λ r. ⌜ r ≡ openedOf (came table) ⌝ }
+    ensures { λ r. ⌜ openedAs r ≡ openedOf (came table) ⌝ }
 {
     if table.len() < 16 {
         return Opened::Bad;
@@ -115,13 +115,6 @@ fn open_format2(table: &[u8]) -> Opened
         value2,
         columns,
     })
-}
-
-// Objects that a split makes for a new table: its own parts and itself.
-pub fn objects_per_table(format: u16) -> usize
-    ensures { λ r. ⌜ r ≡ length (ownIn format) + 1 ⌝ }
-{
-    if format == 1 { 2 } else { 3 }
 }
 
 // Whether a link may stand at `position` of a table.

@@ -1,18 +1,16 @@
--- Where a glyph is among ranges, by the ranges on either side of it, and what an answer says. Assumes nothing.
+-- Where a glyph is among ranges, by the ranges on either side of it. Assumes nothing.
 use Prim.Native.Nat.{ℕ, _≤_, _<_}
-use mathlib.Core.Path.{_≡_, refl}
+use mathlib.Core.Path.{_≡_}
 use mathlib.Core.Bool.{false}
 use mathlib.Core.List.{List}
 use mathlib.Core.Logic.{_⊎_, ⊎-elim}
-use mathlib.Core.Option.{Option, some, none}
-use native.Mathlib.Omega.{arith}
+use mathlib.Core.Option.{some, none}
 use lib.Dec.{leb}
 use borrow.Author.Tests.{le-leb, lt-leb}
 use Rattle.folds.proofs.Tests.{and-first, and-second}
 use Rattle.folds.proofs.First.{first-at, first-none}
 use Rattle.ot_layouts.specs.Coverage.{startAt, endAt}
-use Rattle.ot_ranges.specs.Ranges.{found, inRange, rangeOf}
-use Rattle.ot_ranges.specs.declared.Found.the-variants.{At, Nowhere}
+use Rattle.ot_ranges.specs.Ranges.{inRange, rangeOf}
 
 module _ (b : List ℕ) (n g : ℕ) where
   ends-below : (k : ℕ) → endAt b k < g → inRange b g k ≡ false
@@ -30,11 +28,3 @@ module _ (b : List ℕ) (n g : ℕ) where
   -- each range is on one side of it
   pub range-none : ((j : ℕ) → j < n → (endAt b j < g) ⊎ (g < startAt b j)) → rangeOf b n g ≡ none
   range-none apart = first-none (inRange b g) n (λ j l. ⊎-elim (ends-below j) (starts-above j) (apart j l))
-
-pub found-some : (o : Option ℕ) (k : ℕ) → At k ≡ found o → o ≡ some k
-found-some (some i) k e = cc
-found-some none k e = let z : _≡_ {A = ℕ} 0 1 = cc in absurd (omega arith)
-
-pub found-none : (o : Option ℕ) → Nowhere ≡ found o → o ≡ none
-found-none (some i) e = let z : _≡_ {A = ℕ} 0 1 = cc in absurd (omega arith)
-found-none none e = refl

@@ -10,10 +10,10 @@ use Rattle.ot_layouts.specs.Coverage.{startAt, endAt}
 use Rattle.ot_ranges.specs.declared.Found.{Found}
 use Rattle.ot_ranges.specs.declared.Found.the-variants.{At, Nowhere}
 
--- an index as `range_of` answers it
-abbrev pub found : Option ℕ → Found
-found (some k) = At k
-found none = Nowhere
+-- which range was found, if any
+abbrev pub rangeFound : Found → Option ℕ
+rangeFound (At k) = some k
+rangeFound Nowhere = none
 
 -- range k has glyph g
 abbrev pub inRange : List ℕ → ℕ → ℕ → Bool

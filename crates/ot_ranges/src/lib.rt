@@ -8,7 +8,7 @@ ghost use lib.ListN.{length};
 ghost use Rattle.folds.specs.Lists.{put};
 ghost use Rattle.ot_layouts.specs.Coverage.{rangesFit};
 ghost use Rattle.folds.specs.Moments.{came, left};
-ghost use Rattle.ot_ranges.specs.Ranges.{found, rangeOf, rangeBytes};
+ghost use Rattle.ot_ranges.specs.Ranges.{rangeFound, rangeOf, rangeBytes};
 
 // Where among the ranges a glyph is.
 pub enum Found {
@@ -44,7 +44,7 @@ pub fn ranges_fit(part: &[u8], count: usize) -> bool
 // The range that has the glyph, by halving: the ranges before `lo` end below it and those from `hi` on start above it.
 pub fn range_of(part: &[u8], count: usize, glyph: u16) -> Found
     requires { ⌜ rangesFit (now part) count ≡ true ⌝ }
-    ensures { λ r. ⌜ r ≡ found (rangeOf (came part) count glyph) ⌝ }
+    ensures { λ r. ⌜ rangeFound r ≡ rangeOf (came part) count glyph ⌝ }
 {
     let mut lo: usize = 0;
     let mut hi: usize = count;

@@ -3,6 +3,7 @@ use Prim.Native.Nat.{ℕ, _<_}
 use mathlib.Core.Path.{_≡_, refl, sym, ap, ap₂, _∙_}
 use mathlib.Core.Bool.{Bool, true, false, cond, not, _||_}
 use mathlib.Core.List.{List, [], _∷_}
+use mathlib.Core.Logic.{_⊎_, inl, inr}
 use mathlib.Core.Option.{Option, some, none}
 use native.Mathlib.Omega.{arith}
 use lib.ListN.{getD}
@@ -25,7 +26,7 @@ use Rattle.call_rules.proofs.Cases.{first-skip, first-stands}
 use Rattle.pair_checks.specs.declared.PairTable.{PairTable}
 use Rattle.pair_checks.specs.declared.Checked.{Checked}
 use Rattle.pair_checks.specs.declared.Checked.the-variants.{Open, Settled}
-use Rattle.pair_checks.specs.Checked.{checkedOf, settledAs}
+use Rattle.pair_checks.specs.Checked.{checkedAs, checkedOf, settledAs}
 use Rattle.pair_checks.specs.Opens.{Opens}
 use Rattle.pair_checks.proofs.Refusals.{opens, refusals}
 use Rattle.call_rules.specs.declared.Lengths.{Lengths}
@@ -40,40 +41,40 @@ can-ask-slots b o l c x =
     (in-order (lent b o l c) f, omega (arith, x .reads .used, f .objectsMost))
 
 module _ (s : Store) (t : ℕ) (n : Lengths) (p : PairTable) {short : Bool} (e : short ≡ lengthsShort n (s .objectCount) (p .glyphs) (p .layout .count)) where
-  pub lent-short : short ≡ true → Settled ShortScratch ≡ lentBy s t n p
+  pub lent-short : short ≡ true → checkedAs (Settled ShortScratch) ≡ lentBy s t n p
   unfolding lentBy
   lent-short h = rw (sym e ∙ h)
 
   module _ (h : short ≡ false) {slots : Bool} (f : slots ≡ allAtSlots s t) where
-    pub lent-unslotted : not slots ≡ true → Settled BadLinks ≡ lentBy s t n p
+    pub lent-unslotted : not slots ≡ true → checkedAs (Settled BadLinks) ≡ lentBy s t n p
     unfolding lentBy
     lent-unslotted g = rw (sym e ∙ h, sym f ∙ not-true slots g)
 
-    pub lent-open : not slots ≡ false → Open p ≡ lentBy s t n p
+    pub lent-open : not slots ≡ false → checkedAs (Open p) ≡ lentBy s t n p
     unfolding lentBy
     lent-open g = rw (sym e ∙ h, sym f ∙ not-false slots g)
 
 -- ---- by what 1 to 5 decide
 
-module _ (s : Store) (t : ℕ) {x : Checked} (e : x ≡ checkedOf s t) where
-  pub is-open : {p : PairTable} → x ≡ Open p → checkedOf s t ≡ Open p
-  is-open y = sym e ∙ y
+module _ (s : Store) (t : ℕ) {x : Checked} (e : checkedAs x ≡ checkedOf s t) where
+  pub is-open : {p : PairTable} → x ≡ Open p → checkedOf s t ≡ checkedAs (Open p)
+  is-open y = sym e ∙ ap checkedAs y
 
   module _ (n : Lengths) where
-    pub call-settled : {a : Answer} → x ≡ Settled a → Settled a ≡ calledOf s t n
+    pub call-settled : {a : Answer} → x ≡ Settled a → checkedAs (Settled a) ≡ calledOf s t n
     unfolding calledOf
-    call-settled y = ap (calledBy s t n) (sym y ∙ e)
+    call-settled y = ap (calledBy s t n) (sym (ap checkedAs y) ∙ e)
 
-    pub call-open : {p : PairTable} {r : Checked} → x ≡ Open p → (checkedOf s t ≡ Open p → r ≡ lentBy s t n p) → r ≡ calledOf s t n
+    pub call-open : {p : PairTable} {r : ℕ ⊎ PairTable} → x ≡ Open p → (checkedOf s t ≡ checkedAs (Open p) → r ≡ lentBy s t n p) → r ≡ calledOf s t n
     unfolding calledOf
-    call-open y h = h (is-open y) ∙ ap (calledBy s t n) (sym y ∙ e)
+    call-open y h = h (is-open y) ∙ ap (calledBy s t n) (sym (ap checkedAs y) ∙ e)
 
 -- ---- the cases 1 to 7
 
 -- the number of the answer, if there is one, where the look for a cycle comes last
-abbrev pub lookedLast : Checked → Bool → Option ℕ
-lookedLast (Open p) cycle = cond cycle (some (number BadLinks)) none
-lookedLast (Settled a) cycle = some (number a)
+abbrev pub lookedLast : ℕ ⊎ PairTable → Bool → Option ℕ
+lookedLast (inl n) cycle = some n
+lookedLast (inr p) cycle = cond cycle (some (number BadLinks)) none
 
 module _ (s : Store) (t : ℕ) (w : Scratch) where
   -- 6, by the table's own numbers
@@ -88,7 +89,7 @@ module _ (s : Store) (t : ℕ) (w : Scratch) where
   lent-cases p o = rw (same-short o) (go (scratchShort s t w) (allAtSlots s t) (onCycle s t))
     where
       go : (short slots cycle : Bool) → cond short (some (number ShortScratch)) (cond (not slots || cycle) (some (number BadLinks)) none)
-          ≡ lookedLast (cond short (Settled ShortScratch) (cond (not slots) (Settled BadLinks) (Open p))) cycle
+          ≡ lookedLast (cond short (inl (number ShortScratch)) (cond (not slots) (inl (number BadLinks)) (inr p))) cycle
       go true slots cycle = refl
       go false true cycle = refl
       go false false cycle = refl
@@ -97,9 +98,9 @@ module _ (s : Store) (t : ℕ) (w : Scratch) where
   unfolding cutCases calledOf
   called = go (checkedOf s t) refl
     where
-      go : (x : Checked) → checkedOf s t ≡ x → firstCase (cutCases s t w) ≡ lookedLast (calledBy s t (lengthsOf w) x) (onCycle s t)
-      go (Open p) e = first-skip (readCases s t) _ (refusals s t ∙ ap settledAs e) ∙ lent-cases p (opens s t p e)
-      go (Settled a) e = first-stands (readCases s t) _ (number a) (refusals s t ∙ ap settledAs e)
+      go : (x : ℕ ⊎ PairTable) → checkedOf s t ≡ x → firstCase (cutCases s t w) ≡ lookedLast (calledBy s t (lengthsOf w) x) (onCycle s t)
+      go (inr p) e = first-skip (readCases s t) _ (refusals s t ∙ ap settledAs e) ∙ lent-cases p (opens s t p e)
+      go (inl n) e = first-stands (readCases s t) _ n (refusals s t ∙ ap settledAs e)
 
 -- ---- a table to which neither 1 to 6 nor the slots of 7 apply
 
@@ -109,26 +110,26 @@ pub record Passed (s : Store) (t : ℕ) (n : Lengths) (p : PairTable) : Type 0 w
   pub long : LongEnough n (s .objectCount) (p .glyphs) (p .layout .count)
 
 module _ (s : Store) (t : ℕ) (n : Lengths) (p : PairTable) where
-  by-lent : (q : PairTable) → lentBy s t n q ≡ Open p → (q ≡ p) × (lengthsShort n (s .objectCount) (q .glyphs) (q .layout .count) ≡ false) × (allAtSlots s t ≡ true)
+  by-lent : (q : PairTable) → lentBy s t n q ≡ inr p → (q ≡ p) × (lengthsShort n (s .objectCount) (q .glyphs) (q .layout .count) ≡ false) × (allAtSlots s t ≡ true)
   unfolding lentBy
   by-lent q h = go (lengthsShort n (s .objectCount) (q .glyphs) (q .layout .count)) (allAtSlots s t) h
     where
-      go : (short slots : Bool) → cond short (Settled ShortScratch) (cond (not slots) (Settled BadLinks) (Open q)) ≡ Open p
+      go : (short slots : Bool) → cond short (inl (number ShortScratch)) (cond (not slots) (inl (number BadLinks)) (inr q)) ≡ inr p
           → (q ≡ p) × (short ≡ false) × (slots ≡ true)
       go true slots e = let z : _≡_ {A = ℕ} 0 1 = cc in absurd (omega arith)
       go false false e = let z : _≡_ {A = ℕ} 0 1 = cc in absurd (omega arith)
       go false true e = (cc, refl, refl)
 
-  pub passed : calledOf s t n ≡ Open p → Passed s t n p
+  pub passed : calledOf s t n ≡ checkedAs (Open p) → Passed s t n p
   unfolding calledOf
   passed h = go (checkedOf s t) refl h
     where
-      go : (x : Checked) → checkedOf s t ≡ x → calledBy s t n x ≡ Open p → Passed s t n p
-      go (Settled a) e f = let z : _≡_ {A = ℕ} 0 1 = cc in absurd (omega arith)
-      go (Open q) e f =
+      go : (x : ℕ ⊎ PairTable) → checkedOf s t ≡ x → calledBy s t n x ≡ inr p → Passed s t n p
+      go (inl a) e f = let z : _≡_ {A = ℕ} 0 1 = cc in absurd (omega arith)
+      go (inr q) e f =
           let (same, short, slots) = by-lent q f in
           record {
-            opens = opens s t p (e ∙ ap Open same);
+            opens = opens s t p (e ∙ ap inr same);
             slots = slots;
             long = long-enough n (s .objectCount) (p .glyphs) (p .layout .count) (rw same at short);
           }

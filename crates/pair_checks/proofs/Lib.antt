@@ -1,4 +1,3 @@
-pub mod Linking
 pub mod Deciding
 pub mod AtSlots
 pub mod Refusals

@@ -2,76 +2,34 @@
 use Prim.Native.Nat.{ℕ}
 use mathlib.Core.Path.{_≡_, refl, sym, ap, ap₂, _∙_}
 use mathlib.Core.Bool.{Bool, true, false, cond, not, _&&_, _||_}
-use mathlib.Core.List.{List}
-use mathlib.Core.Option.{Option, some, none, Option·getD}
+use mathlib.Core.Logic.{_⊎_, inl, inr}
+use mathlib.Core.Option.{Option, some, none}
 use lib.ListN.{length}
 use lib.Dec.{leb, ltb, eqb}
 use borrow.Author.Tests.{eq-eqb, ne-eqb, lt-leb, le-ltb, ltb-false}
 use Rattle.folds.specs.Lists.{isSome}
 use Rattle.folds.proofs.Tests.{and-both, and-intro}
-use Rattle.ot_layouts.specs.Numbers.{u16At}
-use Rattle.ot_layouts.specs.Coverage.{coverReadable, coverageOf, kindOf}
+use Rattle.ot_layouts.specs.Coverage.{coverReadable, coverageOf}
 use Rattle.ot_layouts.specs.ClassDef.{classReadable, classDefOf}
 use Rattle.ot_layouts.specs.PairPos.{formatOf, itemAt, exact}
-use Rattle.ot_layouts.specs.declared.Header.{Header}
-use Rattle.ot_layouts.specs.declared.Reading.{Reading}
-use Rattle.ot_layouts.specs.declared.Reading.the-variants.{Readable, Unreadable}
 use Rattle.ot_layouts.proofs.Shapes.{format-test}
 use Rattle.ot_pairpos.specs.declared.Layout.{Layout}
-use Rattle.ot_pairpos.specs.declared.Opened.the-variants as Opened
 use Rattle.ot_pairpos.specs.Layout.{layoutOf, openedOf}
 use Rattle.store_rules.specs.Store.{Store, sound, bytesOf, childAt, linkedAt, linkedBytes}
-use Rattle.call_rules.specs.declared.Answer.{Answer}
 use Rattle.call_rules.specs.declared.Answer.the-variants.{Done, Unsound, NoTable, BadTable, BadParts, FewGlyphs}
 use Rattle.call_rules.specs.Answers.{number, firstCase}
 use Rattle.pair_rules.specs.Table.{shape, partsReadable, glyphsOf}
 use Rattle.pair_rules.specs.Calls.{readCases}
 use Rattle.pair_rules.specs.Reads.{Reads}
 use Rattle.pair_rules.proofs.Checks.{no-case-reads, class-read}
-use Rattle.pair_checks.proofs.Deciding.{part-linked, part-read}
-use Rattle.pair_checks.specs.Checked.{readBy, linkedBy, linkedOf, setsBy, rowsBy, partsBy, openBy, checkedOf, settledAs}
-use Rattle.pair_checks.specs.declared.Part.{Part}
-use Rattle.pair_checks.specs.declared.Linked.{Linked}
-use Rattle.pair_checks.specs.declared.Linked.the-variants.{To, Nothing}
+use Rattle.glyph_parts.specs.declared.Part.{Part}
+use Rattle.glyph_parts.specs.declared.Linked.the-variants.{To}
+use Rattle.glyph_parts.specs.Parts.{linkedOf, LinkedPart}
+use Rattle.glyph_parts.proofs.Parts.{linked-part}
+use Rattle.glyph_parts.proofs.Choices.{coverHeader, classHeader, partOf, linkedTest, coverage-choice, class-choice}
+use Rattle.pair_checks.specs.Checked.{setsBy, rowsBy, partsBy, openBy, checkedOf, settledAs}
 use Rattle.pair_checks.specs.declared.PairTable.{PairTable}
-use Rattle.pair_checks.specs.declared.Checked.{Checked}
-use Rattle.pair_checks.specs.declared.Checked.the-variants.{Open, Settled}
-use Rattle.pair_checks.specs.Opens.{Opens, LinkedPart}
-
--- ---- a linked part
-
--- what a readable coverage is read into
-abbrev coverHeader : List ℕ → Header
-coverHeader b = record { kind = kindOf (u16At b 0); count = u16At b 2 }
-
--- and a readable class definition
-abbrev classHeader : List ℕ → Header
-classHeader b = record { kind = kindOf (u16At b 0); count = cond (eqb (u16At b 0) 1) (u16At b 4) (u16At b 2) }
-
--- an object with what it is read into
-abbrev partOf : (List ℕ → Header) → Store → ℕ → Part
-partOf header s c = record { object = c; header = header (bytesOf s c) }
-
--- it is linked, and readable
-abbrev linkedTest : (List ℕ → Bool) → Store → Option ℕ → Bool
-linkedTest ok s o = isSome o && ok (bytesOf s (Option·getD o 0))
-
-module _ (read : List ℕ → Reading) (ok : List ℕ → Bool) (header : List ℕ → Header) (law : (b : List ℕ) → read b ≡ cond (ok b) (Readable (header b)) Unreadable) (s : Store) where
-  linked-choice : (o : Option ℕ) → linkedBy read s o ≡ cond (linkedTest ok s o) (To (partOf header s (Option·getD o 0))) Nothing
-  linked-choice none = refl
-  linked-choice (some c) = ap (readBy c) (law (bytesOf s c)) ∙ go (ok (bytesOf s c))
-    where
-      go : (x : Bool) → readBy c (cond x (Readable (header (bytesOf s c))) Unreadable) ≡ cond x (To (partOf header s c)) Nothing
-      go true = refl
-      go false = refl
-
-coverage-choice : (s : Store) (t q : ℕ) → linkedOf coverageOf s t q ≡ cond (linkedTest coverReadable s (childAt s t q)) (To (partOf coverHeader s (linkedAt s t q))) Nothing
-unfolding linkedOf coverageOf
-coverage-choice s t q = linked-choice coverageOf coverReadable coverHeader (λ b. refl) s (childAt s t q)
-
-class-choice : (s : Store) (t q : ℕ) → linkedOf classDefOf s t q ≡ cond (linkedTest classReadable s (childAt s t q)) (To (partOf classHeader s (linkedAt s t q))) Nothing
-unfolding linkedOf classDefOf
-class-choice s t q = linked-choice classDefOf classReadable classHeader (λ b. refl) s (childAt s t q)
+use Rattle.pair_checks.specs.Opens.{Opens}
 
 -- ---- the cases in a row
 
@@ -96,13 +54,13 @@ module _ (s : Store) (t : ℕ) where
   abbrev class : ℕ → Part
   class q = cond isOne coverage (partOf classHeader s (linkedAt s t q))
 
-  by-coverage : (p : Bool) → partsBy s t (layoutOf (bytesOf s t)) (cond p (To coverage) Nothing)
-      ≡ cond p (cond isOne (cond few (Settled FewGlyphs) (Open (table coverage coverage))) (rowsBy s (layoutOf (bytesOf s t)) coverage (linkedOf classDefOf s t 8) (linkedOf classDefOf s t 10))) (Settled BadParts)
+  by-coverage : (p : Bool) → partsBy s t (layoutOf (bytesOf s t)) (cond p (some coverage) none)
+      ≡ cond p (cond isOne (cond few (inl (number FewGlyphs)) (inr (table coverage coverage))) (rowsBy s (layoutOf (bytesOf s t)) coverage (linkedOf classDefOf s t 8) (linkedOf classDefOf s t 10))) (inl (number BadParts))
   unfolding setsBy layoutOf
   by-coverage true = refl
   by-coverage false = refl
 
-  by-classes : (d e : Part) (q r : Bool) → rowsBy s (layoutOf (bytesOf s t)) coverage (cond q (To d) Nothing) (cond r (To e) Nothing) ≡ cond (q && r) (Open (table d e)) (Settled BadParts)
+  by-classes : (d e : Part) (q r : Bool) → rowsBy s (layoutOf (bytesOf s t)) coverage (cond q (some d) none) (cond r (some e) none) ≡ cond (q && r) (inr (table d e)) (inl (number BadParts))
   by-classes d e true true = refl
   by-classes d e true false = refl
   by-classes d e false true = refl
@@ -110,8 +68,8 @@ module _ (s : Store) (t : ℕ) where
 
   -- the tests of the coverage, of the format, of both class definitions and of the count of glyphs, in document 01's order
   in-order : (d e : Part) (p f q i r w : Bool)
-      → cond p (cond f (cond w (Settled FewGlyphs) (Open (table coverage coverage))) (cond (q && (i && r)) (Open (table d e)) (Settled BadParts))) (Settled BadParts)
-      ≡ cond (not (p && cond f true (q && i && r))) (Settled BadParts) (cond (f && w) (Settled FewGlyphs) (Open (table (cond f coverage d) (cond f coverage e))))
+      → cond p (cond f (cond w (inl (number FewGlyphs)) (inr (table coverage coverage))) (cond (q && (i && r)) (inr (table d e)) (inl (number BadParts)))) (inl (number BadParts))
+      ≡ cond (not (p && cond f true (q && i && r))) (inl (number BadParts)) (cond (f && w) (inl (number FewGlyphs)) (inr (table (cond f coverage d) (cond f coverage e))))
   in-order d e false f q i r w = refl
   in-order d e true true q i r w = refl
   in-order d e true false false i r w = refl
@@ -120,32 +78,32 @@ module _ (s : Store) (t : ℕ) where
   in-order d e true false true true false w = refl
 
   -- 4 and 5
-  parts-choice : partsBy s t (layoutOf (bytesOf s t)) (linkedOf coverageOf s t 2) ≡ cond (not (partsReadable s t)) (Settled BadParts) (cond (isOne && few) (Settled FewGlyphs) (Open (table (class 8) (class 10))))
+  parts-choice : partsBy s t (layoutOf (bytesOf s t)) (linkedOf coverageOf s t 2) ≡ cond (not (partsReadable s t)) (inl (number BadParts)) (cond (isOne && few) (inl (number FewGlyphs)) (inr (table (class 8) (class 10))))
   unfolding partsReadable
   parts-choice =
       ap (partsBy s t (layoutOf (bytesOf s t))) (coverage-choice s t 2)
       ∙ by-coverage (linkedTest coverReadable s (childAt s t 2))
-      ∙ ap (λ (x : Checked). cond (linkedTest coverReadable s (childAt s t 2)) (cond isOne (cond few (Settled FewGlyphs) (Open (table coverage coverage))) x) (Settled BadParts))
-      (ap₂ (λ (x y : Linked). rowsBy s (layoutOf (bytesOf s t)) coverage x y) (class-choice s t 8) (class-choice s t 10)
+      ∙ ap (λ (x : ℕ ⊎ PairTable). cond (linkedTest coverReadable s (childAt s t 2)) (cond isOne (cond few (inl (number FewGlyphs)) (inr (table coverage coverage))) x) (inl (number BadParts)))
+      (ap₂ (λ (x y : Option Part). rowsBy s (layoutOf (bytesOf s t)) coverage x y) (class-choice s t 8) (class-choice s t 10)
       ∙ by-classes (partOf classHeader s (linkedAt s t 8)) (partOf classHeader s (linkedAt s t 10)) (linkedTest classReadable s (childAt s t 8)) (linkedTest classReadable s (childAt s t 10)))
       ∙ in-order (partOf classHeader s (linkedAt s t 8)) (partOf classHeader s (linkedAt s t 10))
       (linkedTest coverReadable s (childAt s t 2)) isOne (linkedTest classReadable s (childAt s t 8)) (isSome (childAt s t 10)) (classReadable (linkedBytes s t 10)) few
 
   -- 3 to 5
   opened-choice : openBy s t (openedOf (bytesOf s t))
-      ≡ cond (ltb (length (bytesOf s t)) 2) (Settled BadTable)
-      (cond (not (eqb (formatOf (bytesOf s t)) 1 || eqb (formatOf (bytesOf s t)) 2)) (Settled Done)
-      (cond (not (exact (bytesOf s t))) (Settled BadTable)
-      (cond (not (partsReadable s t)) (Settled BadParts)
-      (cond (eqb (formatOf (bytesOf s t)) 1 && few) (Settled FewGlyphs) (Open (table (class 8) (class 10)))))))
+      ≡ cond (ltb (length (bytesOf s t)) 2) (inl (number BadTable))
+      (cond (not (eqb (formatOf (bytesOf s t)) 1 || eqb (formatOf (bytesOf s t)) 2)) (inl (number Done))
+      (cond (not (exact (bytesOf s t))) (inl (number BadTable))
+      (cond (not (partsReadable s t)) (inl (number BadParts))
+      (cond (eqb (formatOf (bytesOf s t)) 1 && few) (inl (number FewGlyphs)) (inr (table (class 8) (class 10)))))))
   unfolding openedOf
   opened-choice =
       go (ltb (length (bytesOf s t)) 2) (eqb (formatOf (bytesOf s t)) 1 || eqb (formatOf (bytesOf s t)) 2) (exact (bytesOf s t))
-      (parts-choice ∙ ap (λ (f : Bool). cond (not (partsReadable s t)) (Settled BadParts) (cond (f && few) (Settled FewGlyphs) (Open (table (class 8) (class 10))))) (format-test (bytesOf s t)))
+      (parts-choice ∙ ap (λ (f : Bool). cond (not (partsReadable s t)) (inl (number BadParts)) (cond (f && few) (inl (number FewGlyphs)) (inr (table (class 8) (class 10))))) (format-test (bytesOf s t)))
     where
-      go : {v : Checked} (x y z : Bool) → partsBy s t (layoutOf (bytesOf s t)) (linkedOf coverageOf s t 2) ≡ v
-          → openBy s t (cond x Opened.Bad (cond y (cond z (Opened.Pair (layoutOf (bytesOf s t))) Opened.Bad) Opened.Other))
-          ≡ cond x (Settled BadTable) (cond (not y) (Settled Done) (cond (not z) (Settled BadTable) v))
+      go : {v : ℕ ⊎ PairTable} (x y z : Bool) → partsBy s t (layoutOf (bytesOf s t)) (linkedOf coverageOf s t 2) ≡ v
+          → openBy s t (cond x (inl 3) (cond y (cond z (inr (layoutOf (bytesOf s t))) (inl 3)) (inl 0)))
+          ≡ cond x (inl (number BadTable)) (cond (not y) (inl (number Done)) (cond (not z) (inl (number BadTable)) v))
       go true y z e = refl
       go false false z e = refl
       go false true false e = refl
@@ -153,20 +111,20 @@ module _ (s : Store) (t : ℕ) where
 
   -- 1 to 5
   decision : checkedOf s t
-      ≡ cond (not (sound s)) (Settled Unsound)
-      (cond (leb (s .objectCount) t) (Settled NoTable)
-      (cond (ltb (length (bytesOf s t)) 2) (Settled BadTable)
-      (cond (not (eqb (formatOf (bytesOf s t)) 1 || eqb (formatOf (bytesOf s t)) 2)) (Settled Done)
-      (cond (not (exact (bytesOf s t))) (Settled BadTable)
-      (cond (not (partsReadable s t)) (Settled BadParts)
-      (cond (eqb (formatOf (bytesOf s t)) 1 && few) (Settled FewGlyphs) (Open (table (class 8) (class 10)))))))))
+      ≡ cond (not (sound s)) (inl (number Unsound))
+      (cond (leb (s .objectCount) t) (inl (number NoTable))
+      (cond (ltb (length (bytesOf s t)) 2) (inl (number BadTable))
+      (cond (not (eqb (formatOf (bytesOf s t)) 1 || eqb (formatOf (bytesOf s t)) 2)) (inl (number Done))
+      (cond (not (exact (bytesOf s t))) (inl (number BadTable))
+      (cond (not (partsReadable s t)) (inl (number BadParts))
+      (cond (eqb (formatOf (bytesOf s t)) 1 && few) (inl (number FewGlyphs)) (inr (table (class 8) (class 10)))))))))
   unfolding checkedOf
-  decision = ap (λ (x : Checked). cond (not (sound s)) (Settled Unsound) (cond (leb (s .objectCount) t) (Settled NoTable) x)) opened-choice
+  decision = ap (λ (x : ℕ ⊎ PairTable). cond (not (sound s)) (inl (number Unsound)) (cond (leb (s .objectCount) t) (inl (number NoTable)) x)) opened-choice
 
 -- a refusal behind a test
-refused : (b : Bool) (a : Answer) (v : Checked) → settledAs (cond b (Settled a) v) ≡ cond b (some (number a)) (settledAs v)
-refused true a v = refl
-refused false a v = refl
+refused : (b : Bool) (n : ℕ) (v : ℕ ⊎ PairTable) → settledAs (cond b (inl n) v) ≡ cond b (some n) (settledAs v)
+refused true n v = refl
+refused false n v = refl
 
 -- the decision has document 01's number, and document 01's cases go by the same tests
 pub refusals : (s : Store) (t : ℕ) → firstCase (readCases s t) ≡ settledAs (checkedOf s t)
@@ -175,16 +133,11 @@ refusals s t = sym (ap settledAs (decision s t) ∙ simp refused)
 
 -- ---- an open table
 
-linked-part : (read : List ℕ → Reading) (s : Store) (t q : ℕ) (p : Part) → linkedOf read s t q ≡ To p → LinkedPart read s t q p
-linked-part read s t q p e =
-    let c : childAt s t q ≡ some (p .object) = part-linked read s t q refl e in
-    record { child = c; linked = sym (ap (λ (o : Option ℕ). Option·getD o 0) c); header = part-read read s t q refl e }
-
-module _ (s : Store) (t : ℕ) (p : PairTable) (e : checkedOf s t ≡ Open p) where
+module _ (s : Store) (t : ℕ) (p : PairTable) (e : checkedOf s t ≡ inr p) where
   reads : Reads s t
   reads = no-case-reads s t (refusals s t ∙ ap settledAs e)
 
-  settled : checkedOf s t ≡ Open (table s t (class s t 8) (class s t 10))
+  settled : checkedOf s t ≡ inr (table s t (class s t 8) (class s t 10))
   unfolding exact
   settled =
       decision s t
@@ -199,21 +152,21 @@ module _ (s : Store) (t : ℕ) (p : PairTable) (e : checkedOf s t ≡ Open p) wh
       )
 
   is-table : p ≡ table s t (class s t 8) (class s t 10)
-  is-table = let z : Open p ≡ Open (table s t (class s t 8) (class s t 10)) = sym e ∙ settled in cc
+  is-table = let z : _≡_ {A = ℕ ⊎ PairTable} (inr p) (inr (table s t (class s t 8) (class s t 10))) = sym e ∙ settled in cc
 
   cover-test : linkedTest coverReadable s (childAt s t 2) ≡ true
   unfolding partsReadable
   cover-test = and-both (linkedTest coverReadable s (childAt s t 2)) _ (reads .parts) .0
 
   class-part : (q : ℕ) (d : Part) → d ≡ class s t q → eqb (shape s t .format) 1 ≡ false → linkedTest classReadable s (childAt s t q) ≡ true → LinkedPart classDefOf s t q d
-  class-part q d i f h = linked-part classDefOf s t q d (class-choice s t q ∙ rw h (ap To (sym (i ∙ rw f))))
+  class-part q d i f h = linked-part {r = To d} (sym (class-choice s t q ∙ rw h (ap some (sym (i ∙ rw f))))) refl
 
   pub opens : Opens s t p
   opens =
       record {
         reads = reads;
         layout = ap (λ (x : PairTable). x .layout) is-table;
-        coverage = linked-part coverageOf s t 2 (p .coverage) (coverage-choice s t 2 ∙ rw cover-test (ap To (sym (ap (λ (x : PairTable). x .coverage) is-table))));
+        coverage = linked-part {r = To (p .coverage)} (sym (coverage-choice s t 2 ∙ rw cover-test (ap some (sym (ap (λ (x : PairTable). x .coverage) is-table))))) refl;
         glyphs = ap (λ (x : PairTable). x .glyphs) is-table;
         class1 = λ f. let (a, b, c, d) = class-read s t (reads .parts) f in class-part 8 (p .class1) (ap (λ (x : PairTable). x .class1) is-table) f (and-intro _ _ a b);
         class2 = λ f. let (a, b, c, d) = class-read s t (reads .parts) f in class-part 10 (p .class2) (ap (λ (x : PairTable). x .class2) is-table) f (and-intro _ _ c d);

@@ -2,26 +2,16 @@
 use Prim.Native.Nat.{ℕ, _≤_}
 use mathlib.Core.Path.{_≡_}
 use mathlib.Core.Bool.{true, false}
-use mathlib.Core.List.{List}
-use mathlib.Core.Option.{some}
 use lib.ListN.{length}
 use lib.Dec.{eqb}
 use Rattle.ot_layouts.specs.Coverage.{coverageOf}
 use Rattle.ot_layouts.specs.ClassDef.{classDefOf}
-use Rattle.ot_layouts.specs.declared.Reading.{Reading}
-use Rattle.ot_layouts.specs.declared.Reading.the-variants.{Readable}
 use Rattle.ot_pairpos.specs.Layout.{layoutOf}
-use Rattle.store_rules.specs.Store.{Store, bytesOf, childAt, linkedAt}
+use Rattle.store_rules.specs.Store.{Store, bytesOf}
 use Rattle.pair_rules.specs.Table.{shape, glyphsOf}
 use Rattle.pair_rules.specs.Reads.{Reads}
 use Rattle.pair_checks.specs.declared.PairTable.{PairTable}
-use Rattle.pair_checks.specs.declared.Part.{Part}
-
--- the part is the object that is linked at q, and what that was read into
-pub record LinkedPart (read : List ℕ → Reading) (s : Store) (t q : ℕ) (p : Part) : Type 0 where
-  pub child : childAt s t q ≡ some (p .object)
-  pub linked : p .object ≡ linkedAt s t q
-  pub header : read (bytesOf s (p .object)) ≡ Readable (p .header)
+use Rattle.glyph_parts.specs.Parts.{LinkedPart}
 
 -- the checks of a reading are passed, and the parts that were read are the table's own
 pub record Opens (s : Store) (t : ℕ) (p : PairTable) : Type 0 where

@@ -11,8 +11,8 @@ ghost use mathlib.Core.List.{List};
 ghost use Prim.Native.Nat.{ℕ};
 ghost use Rattle.folds.specs.Moments.{came};
 ghost use Rattle.store_rules.specs.Store.{lent};
-ghost use Rattle.store_rules.specs.Moments.{storeCame};
-ghost use Rattle.pair_checks.specs.Checked.{checkedOf};
+ghost use Rattle.store_rules.specs.Moments.{storeCameWith};
+ghost use Rattle.pair_checks.specs.Checked.{checkedAs, checkedOf};
 ghost use Rattle.pair_checks.specs.Called.{lentBy, calledOf};
 
 // The checks 1 to 6, and the slots of check 7: all that needs no scratch.
@@ -20,11 +20,11 @@ pub fn check_call(
     data: &[u8],
     objects: &[u32],
     links: &[u32],
-    counts: &[u32; 3],
+    counts: [u32; 3],
     table: u32,
     lengths: Lengths,
 ) -> Checked
-    ensures { λ r. ⌜ r ≡ calledOf (storeCame «data» objects links counts) table lengths ⌝ }
+    ensures { λ r. ⌜ checkedAs r ≡ calledOf (storeCameWith «data» objects links counts) table lengths ⌝ }
 {
     let checked = check_table(data, objects, links, counts, table);
     match checked {
@@ -36,18 +36,18 @@ pub fn check_call(
 // Check 6 of a table that is open, and then the slots of check 7.
 fn check_lent(
     links: &[u32],
-    counts: &[u32; 3],
+    counts: [u32; 3],
     table: u32,
     opened: PairTable,
     lengths: Lengths,
 ) -> Checked
-    requires { ⌜ ((b o : List ℕ) × (checkedOf (lent b o (now links) (now counts)) table ≡ Checked.Open opened)) ⌝ }
+    requires { ⌜ ((b o : List ℕ) × (checkedOf (lent b o (now links) counts) table ≡ checkedAs (Checked.Open opened))) ⌝ }
     ensures { λ r. ⌜
         ((b o : List ℕ)
-        → checkedOf (lent b o (came links) (came counts)) table
-        ≡ Checked.Open opened
-        → r
-        ≡ lentBy (lent b o (came links) (came counts)) table lengths opened)
+        → checkedOf (lent b o (came links) counts) table
+        ≡ checkedAs (Checked.Open opened)
+        → checkedAs r
+        ≡ lentBy (lent b o (came links) counts) table lengths opened)
         ⌝ }
 {
     let layout = opened.layout;

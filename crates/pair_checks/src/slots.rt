@@ -1,9 +1,10 @@
 // Check 7's first half: every link of the table stands at a slot.
 use ot_pairpos::Layout;
 use ot_pairpos::is_slot;
+use store_reader::LinkRows;
 use store_reader::PER_LINK;
 use store_reader::POSITION;
-use store_reader::first_row;
+use store_reader::rows_of;
 ghost use mathlib.Core.Path.{_≡_};
 ghost use mathlib.Core.List.{List};
 ghost use Prim.Native.Nat.{ℕ, _+_, _-_, _*_, _≤_, _<_};
@@ -17,33 +18,33 @@ ghost use Rattle.pair_rules.specs.Table.{allAtSlots};
 ghost use Rattle.folds.specs.Moments.{came};
 
 // Whether each link of `table`, whose layout is known, stands at a slot.
-pub fn links_at_slots(links: &[u32], counts: &[u32; 3], table: u32, layout: Layout) -> bool
-    requires { ⌜ (InOrder (now links) (getD (now counts) 2 0)) × (table < 65536) ⌝ }
+pub fn links_at_slots(links: &[u32], counts: [u32; 3], table: u32, layout: Layout) -> bool
+    requires { ⌜ (InOrder (now links) (getD counts 2 0)) × (table < 65536) ⌝ }
     ensures { λ r. ⌜
         ((b o : List ℕ)
         → layout
-        ≡ layoutOf (bytesOf (lent b o (came links) (came counts)) table)
+        ≡ layoutOf (bytesOf (lent b o (came links) counts) table)
         → r
-        ≡ allAtSlots (lent b o (came links) (came counts)) table)
+        ≡ allAtSlots (lent b o (came links) counts) table)
         ⌝ }
 {
     let count = counts[2] as usize;
-    let first = first_row(links, count, table, 0);
-    let after = first_row(links, count, table + 1, 0);
-    rows_at_slots(links, first, after, layout)
+    let rows = rows_of(links, count, table);
+    rows_at_slots(links, rows, layout)
 }
 
-// Whether the rows `first` up to `after` stand at slots.
-fn rows_at_slots(links: &[u32], first: usize, after: usize, layout: Layout) -> bool
-    requires { ⌜ (first ≤ after) × (perLink * after ≤ length (now links)) ⌝ }
+// Whether these rows stand at slots.
+fn rows_at_slots(links: &[u32], rows: LinkRows, layout: Layout) -> bool
+    requires { ⌜ (rows .first ≤ rows .after) × (perLink * rows .after ≤ length (now links)) ⌝ }
     ensures { λ r. ⌜
-        ((b : List ℕ) → layout ≡ layoutOf b → r ≡ all (λ i. isSlot (shapeOf b) (getD (came links) (perLink * (first + i) + 1) 0))
-        (after - first))
+        ((b : List ℕ) → layout ≡ layoutOf b → r ≡ all (λ i. isSlot (shapeOf b) (getD (came links) (perLink * (rows .first + i) + 1) 0))
+        (rows .after - rows .first))
         ⌝ }
 {
-    let rows = after - first;
+    let first = rows.first;
+    let count = rows.after - first;
     let mut i: usize = 0;
-    while i < rows {
+    while i < count {
         let position = links[PER_LINK * (first + i) + POSITION] as usize;
         if !is_slot(layout, position) {
             return false;

@@ -9,25 +9,25 @@ use Rattle.folds.proofs.Put.{put-put, put-before, put-over, length-put}
 use Rattle.ot_layouts.specs.PairPos.{Shape, ownIn}
 use Rattle.ot_pairpos.specs.declared.Layout.{Layout}
 use Rattle.ot_pairpos.specs.Layout.{shapeWith}
-use Rattle.store_rules.specs.Store.{Store, Link, lent, linksOf, childAt}
+use Rattle.store_rules.specs.Store.{Store, Link, lent, linksOf, childAt, perLink}
 use Rattle.pair_rules.specs.Written.{needLinks, tableLinks, newLinks}
 use Rattle.store_rules.specs.Appended.{rowNumbers}
 use Rattle.store_rules.proofs.LinkRows.{rows-numbers}
-use Rattle.store_link_rows.specs.Rows.{seg, span, row, rows}
-use Rattle.pair_links.specs.Blocks.{Plan, plan, tableId, newRows, parted, grown, keptRow, PartedRows}
+use Rattle.store_link_rows.specs.Rows.{seg, span, row, rows, keptRow}
+use Rattle.pair_links.specs.Blocks.{Plan, plan, tableId, newRows, parted, grown, PartedRows}
 use Rattle.pair_links.specs.Parting.{Between, Parted}
 use Rattle.store_link_rows.proofs.Spans.{seg-ext, span-join, span-ext}
 use Rattle.store_link_rows.proofs.RowLaws.{rows-long, row-below, row-of-rows, own-rows}
-use Rattle.pair_links.proofs.Keeping.{kept-is, kept-long}
+use Rattle.store_link_rows.proofs.Keeping.{kept-is, kept-long}
 use Rattle.pair_links.proofs.Parting.{planOf}
 use Rattle.pair_links.proofs.Written.{link-numbers}
 
-module _ (ls : List ℕ) (a b m : ℕ) (p : Plan) (ab : a ≤ b) (bm : b ≤ m) (room : 4 * grown m p ≤ length ls) (out : List ℕ) (done : PartedRows ls out a b m p) where
-  ahead : 4 * b + length (rows ls b m) ≡ 4 * m
+module _ (ls : List ℕ) (a b m : ℕ) (p : Plan) (ab : a ≤ b) (bm : b ≤ m) (room : perLink * grown m p ≤ length ls) (out : List ℕ) (done : PartedRows ls out a b m p) where
+  ahead : perLink * b + length (rows ls b m) ≡ perLink * m
   ahead = rows-long ls b m bm
 
   before-a : (k : ℕ) → k < a → row out k ≡ row ls k
-  before-a k l = ap (λ (o : List ℕ). row o k) (done .is) ∙ row-below ls (4 * a) (parted ls a b m p) (omega arith) k (omega arith)
+  before-a k l = ap (λ (o : List ℕ). row o k) (done .is) ∙ row-below ls (perLink * a) (parted ls a b m p) (omega arith) k (omega arith)
 
   -- those behind the rows that moved have come up
   from-b : (i : ℕ) → i < m - b → row out (a + i) ≡ row ls (b + i)
@@ -35,11 +35,11 @@ module _ (ls : List ℕ) (a b m : ℕ) (p : Plan) (ab : a ≤ b) (bm : b ≤ m) 
       let q = a + (m - b) in
       let R = rows ls b m in
       let N = newRows ls a b p in
-      let e : 4 * q ≡ 4 * a + length R = omega (arith, ahead) in
-      let d = put ls (4 * a) R in
-      let nd : length d ≡ length ls = length-put ls (4 * a) R (omega (arith, ahead)) in
-      ap (λ (o : List ℕ). row o (a + i)) (done .is ∙ sym (put-put ls (4 * a) R (4 * q) N (omega arith) e))
-      ∙ row-below d (4 * q) N (omega arith) (a + i) (omega arith)
+      let e : perLink * q ≡ perLink * a + length R = omega (arith, ahead) in
+      let d = put ls (perLink * a) R in
+      let nd : length d ≡ length ls = length-put ls (perLink * a) R (omega (arith, ahead)) in
+      ap (λ (o : List ℕ). row o (a + i)) (done .is ∙ sym (put-put ls (perLink * a) R (perLink * q) N (omega arith) e))
+      ∙ row-below d (perLink * q) N (omega arith) (a + i) (omega arith)
       ∙ row-of-rows ls ls a b (m - b) i (omega arith) l
 
   stay : (own : List ℕ) (t v : ℕ) → span (keptRow out own t v) 0 (m - (b - a)) ≡ span (keptRow ls own t v) 0 a ++ span (keptRow ls own t v) b m
@@ -52,19 +52,19 @@ module _ (ls : List ℕ) (a b m : ℕ) (p : Plan) (ab : a ≤ b) (bm : b ≤ m) 
       (ap (seg (keptRow out own t v) a) n ∙ seg-ext (keptRow out own t v) (keptRow ls own t v) a b (m - b) (λ i l. kept-is ls out own t v (b + i) (a + i) (from-b i l)))
 
   -- written once, from the first row on
-  whole : out ≡ put (put ls 0 (rows ls 0 a ++ rows ls b m)) (4 * (m - (b - a))) (newRows ls a b p)
+  whole : out ≡ put (put ls 0 (rows ls 0 a ++ rows ls b m)) (perLink * (m - (b - a))) (newRows ls a b p)
   whole =
       let A = rows ls 0 a in
       let R = rows ls b m in
       let N = newRows ls a b p in
       let front = rows-long ls 0 a (omega arith) in
-      let e : 4 * a ≡ 0 + length A = omega arith in
-      let f : 4 * (m - (b - a)) ≡ 0 + length (A ++ R) = omega (arith, ahead, length-append A R) in
+      let e : perLink * a ≡ 0 + length A = omega arith in
+      let f : perLink * (m - (b - a)) ≡ 0 + length (A ++ R) = omega (arith, ahead, length-append A R) in
       done .is
-      ∙ ap (λ (o : List ℕ). put o (4 * a) (R ++ N)) (sym (own-rows ls 0 a (omega arith) (omega arith)))
-      ∙ put-put ls 0 A (4 * a) (R ++ N) (omega arith) e
+      ∙ ap (λ (o : List ℕ). put o (perLink * a) (R ++ N)) (sym (own-rows ls 0 a (omega arith) (omega arith)))
+      ∙ put-put ls 0 A (perLink * a) (R ++ N) (omega arith) e
       ∙ ap (put ls 0) (sym (append-assoc A R N))
-      ∙ sym (put-put ls 0 (A ++ R) (4 * (m - (b - a))) N (omega arith) f)
+      ∙ sym (put-put ls 0 (A ++ R) (perLink * (m - (b - a))) N (omega arith) f)
 
   pub finished : (own : List ℕ) (t v : ℕ) (out′ : List ℕ) → out′ ≡ put out 0 (span (keptRow out own t v) 0 (m - (b - a)))
       → out′ ≡ put ls 0 ((span (keptRow ls own t v) 0 a ++ span (keptRow ls own t v) b m) ++ newRows ls a b p)
@@ -76,7 +76,7 @@ module _ (ls : List ℕ) (a b m : ℕ) (p : Plan) (ab : a ≤ b) (bm : b ≤ m) 
       let S = span (keptRow ls own t v) 0 a ++ span (keptRow ls own t v) b m in
       let front = rows-long ls 0 a (omega arith) in
       let nr = length-append A R in
-      let ns : length S ≡ 4 * q = ap length (sym (stay own t v)) ∙ (let l = kept-long out own t v 0 q (omega arith) in omega arith) in
+      let ns : length S ≡ perLink * q = ap length (sym (stay own t v)) ∙ (let l = kept-long out own t v 0 q (omega arith) in omega arith) in
       let nn = length-append R N in
       let nw = length-append S N in
       let long = done .long in
@@ -84,10 +84,10 @@ module _ (ls : List ℕ) (a b m : ℕ) (p : Plan) (ab : a ≤ b) (bm : b ≤ m) 
       let nd : length d ≡ length ls = length-put ls 0 (A ++ R) (omega (arith, ahead)) in
       h
       ∙ ap₂ (λ (o x : List ℕ). put o 0 x) whole (stay own t v)
-      ∙ put-before d 0 S (4 * q) N (omega arith) (omega (arith, ahead))
+      ∙ put-before d 0 S (perLink * q) N (omega arith) (omega (arith, ahead))
       ∙ put-over ls 0 (A ++ R) (S ++ N) (omega (arith, ahead)) (omega (arith, ahead))
 
-  pub finished-long : (own : List ℕ) (t v : ℕ) → length ((span (keptRow ls own t v) 0 a ++ span (keptRow ls own t v) b m) ++ newRows ls a b p) ≡ 4 * grown m p
+  pub finished-long : (own : List ℕ) (t v : ℕ) → length ((span (keptRow ls own t v) 0 a ++ span (keptRow ls own t v) b m) ++ newRows ls a b p) ≡ perLink * grown m p
   finished-long own t v =
       let x = kept-long ls own t v 0 a (omega arith) in
       let y = kept-long ls own t v b m bm in

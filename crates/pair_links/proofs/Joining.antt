@@ -7,6 +7,7 @@ use lib.ListN.{length, getD, length-append}
 use Rattle.folds.specs.Lists.{put}
 use Rattle.folds.proofs.Put.{put-put, length-put, put-over}
 use Rattle.store_link_rows.specs.Rows.{seg, positionIn, widthIn, childIn, row, rows, Ordered}
+use Rattle.store_rules.specs.Store.{perLink}
 use Rattle.pair_links.specs.Blocks.{Plan, tables, tableId, movedRow, share, headRows, tableRows, newRows, grown, Spread, PartedRows}
 use Rattle.store_link_rows.proofs.Spans.{seg-ext, span-ext}
 use Rattle.store_link_rows.proofs.RowLaws.{rows-long, row-of-rows}
@@ -24,20 +25,20 @@ module _ (ls out : List ℕ) (i k : ℕ) (e : row out k ≡ row ls i) where
       let c : childIn out k ≡ childIn ls i = ap (λ (l : List ℕ). getD l 3 0) e in
       rw (x, w, c)
 
-module _ (ls : List ℕ) (a b m : ℕ) (ab : a ≤ b) (bm : b ≤ m) (room : 4 * m ≤ length ls) (out : List ℕ) (is : out ≡ put ls (4 * a) (rows ls b m ++ rows ls a b)) where
-  ahead : 4 * b + length (rows ls b m) ≡ 4 * m
+module _ (ls : List ℕ) (a b m : ℕ) (ab : a ≤ b) (bm : b ≤ m) (room : perLink * m ≤ length ls) (out : List ℕ) (is : out ≡ put ls (perLink * a) (rows ls b m ++ rows ls a b)) where
+  ahead : perLink * b + length (rows ls b m) ≡ perLink * m
   ahead = rows-long ls b m bm
 
-  behind : 4 * a + length (rows ls a b) ≡ 4 * b
+  behind : perLink * a + length (rows ls a b) ≡ perLink * b
   behind = rows-long ls a b ab
 
   pub there : (i : ℕ) → i < b - a → row out (a + (m - b) + i) ≡ row ls (a + i)
   there i l =
       let q = a + (m - b) in
-      let e : 4 * q ≡ 4 * a + length (rows ls b m) = omega (arith, ahead) in
-      let d = put ls (4 * a) (rows ls b m) in
-      let nd : length d ≡ length ls = length-put ls (4 * a) (rows ls b m) (omega (arith, ahead)) in
-      ap (λ (o : List ℕ). row o (q + i)) (is ∙ sym (put-put ls (4 * a) (rows ls b m) (4 * q) (rows ls a b) (omega arith) e))
+      let e : perLink * q ≡ perLink * a + length (rows ls b m) = omega (arith, ahead) in
+      let d = put ls (perLink * a) (rows ls b m) in
+      let nd : length d ≡ length ls = length-put ls (perLink * a) (rows ls b m) (omega (arith, ahead)) in
+      ap (λ (o : List ℕ). row o (q + i)) (is ∙ sym (put-put ls (perLink * a) (rows ls b m) (perLink * q) (rows ls a b) (omega arith) e))
       ∙ row-of-rows ls d q a (b - a) i (omega arith) l
 
   -- at a row's own number
@@ -72,25 +73,25 @@ module _ (ls : List ℕ) (a b m : ℕ) (ab : a ≤ b) (bm : b ≤ m) (room : 4 *
       ap (λ (x : List ℕ). headRows (p .layout .format) (p .class2) (tableId p j) ++ x)
       (ap (seg (share out p j) q) n ∙ seg-ext (share out p j) (share ls p j) q a (b - a) (λ i u. share-is ls out (a + i) (q + i) (there i u) p j)))
 
-  pub parted-done : (p : Plan) (out′ : List ℕ) → 4 * grown m p ≤ length ls → Spread out out′ (a + (m - b)) m p → PartedRows ls out′ a b m p
+  pub parted-done : (p : Plan) (out′ : List ℕ) → perLink * grown m p ≤ length ls → Spread out out′ (a + (m - b)) m p → PartedRows ls out′ a b m p
   parted-done p out′ enough s =
       let q = a + (m - b) in
       let Y = rows ls b m in
       let X = rows ls a b in
       let Z = newRows ls a b p in
       let same = tables-there p in
-      let nz : 4 * q + length Z ≡ 4 * grown m p = rw same at (s .long) in
+      let nz : perLink * q + length Z ≡ perLink * grown m p = rw same at (s .long) in
       let ny = ahead in
       let nx = behind in
       let nyz = length-append Y Z in
-      let e : 4 * q ≡ 4 * a + length Y = omega arith in
-      let d = put ls (4 * a) Y in
-      let nd : length d ≡ length ls = length-put ls (4 * a) Y (omega arith) in
+      let e : perLink * q ≡ perLink * a + length Y = omega arith in
+      let d = put ls (perLink * a) Y in
+      let nd : length d ≡ length ls = length-put ls (perLink * a) Y (omega arith) in
       record {
         long = omega arith;
         is =
             s .is
-            ∙ ap₂ (λ (o v : List ℕ). put o (4 * q) v) (is ∙ sym (put-put ls (4 * a) Y (4 * q) X (omega arith) e)) same
-            ∙ put-over d (4 * q) X Z (omega arith) (omega arith)
-            ∙ put-put ls (4 * a) Y (4 * q) Z (omega arith) e;
+            ∙ ap₂ (λ (o v : List ℕ). put o (perLink * q) v) (is ∙ sym (put-put ls (perLink * a) Y (perLink * q) X (omega arith) e)) same
+            ∙ put-over d (perLink * q) X Z (omega arith) (omega arith)
+            ∙ put-put ls (perLink * a) Y (perLink * q) Z (omega arith) e;
       }

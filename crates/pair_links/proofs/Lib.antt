@@ -1,8 +1,6 @@
 pub mod Moving
 pub mod Spreading
 pub mod Joining
-pub mod Keeping
-pub mod Links
 pub mod Parting
 pub mod Written
 pub mod Finishing

@@ -1,44 +1,41 @@
 -- The new tables' rows, from the last table on. Assumes nothing.
 use mathlib.Core.Path.{_≡_, refl, sym, ap, ap₂, _∙_}
 use mathlib.Core.Logic.{⊎-elim}
-use mathlib.Core.List.{List, [], _++_, append-assoc, append-nil}
+use mathlib.Core.List.{List, [], _∷_, _++_, append-assoc, append-nil}
 use Prim.Native.Nat.{ℕ, _+_, _-_, _*_, _≤_, _<_}
 use native.Mathlib.Nat.{mul-le-mul-left, mul-add, mul-one, mul-zero}
 use native.Mathlib.Omega.{arith}
 use lib.ListN.{length, getD, length-append}
 use lib.Dec.{leb, ltb, eqb}
-use borrow.Author.Tests.{lt-ltb, le-ltb, le-leb, lt-leb, eq-eqb, ne-eqb}
-use Rattle.folds.specs.Lists.{put}
+use borrow.Author.Tests.{lt-ltb, le-ltb, le-leb, lt-leb}
+use Rattle.folds.specs.Lists.{put, part}
 use Rattle.folds.proofs.Tests.{by-test, either, and-second}
 use Rattle.folds.proofs.Put.{put-nil, put-below, put-before}
-use Rattle.store_link_rows.specs.Rows.{span, positionIn, four, Ordered}
+use Rattle.store_link_rows.specs.Rows.{span, positionIn, Ordered}
 use Rattle.pair_links.specs.Blocks.{Plan, tables, shift, edge, inside, tableId, movedRow, share, per, headRows, headCount, tableRows, grown, Fit, Moved, Spread}
 use Rattle.store_link_rows.proofs.Spans.{span-empty, span-join, span-front, span-none, span-ext}
 use Rattle.pair_links.proofs.Moving.{moved-long}
 use Rattle.ot_layouts.specs.PairPos.{coverAt, class1At, class2At, ownIn, sharedIn}
+use Rattle.ot_pairpos.specs.declared.Layout.{Layout}
 use Rattle.ot_pairpos.specs.Layout.{Numbered}
 use Rattle.ot_pairpos.proofs.Layouts.{few-heads}
 use Rattle.store_rules.specs.Store.{perLink}
-use Rattle.store_rules.specs.Appended.{rowNumbers}
-use Rattle.store_rules.specs.Header.{ownChild, headerLinks}
+use Rattle.store_rules.specs.Header.{headerLinks}
 use Rattle.store_rules.proofs.LinkRows.{rows-numbers}
 use Rattle.store_rules.proofs.Header.{header-many}
 
 -- ---- the heads
-pub one-head : (f class2 t : ℕ) → f ≡ 1 → four t coverAt 2 (t + 1) ≡ headRows f class2 t
-unfolding headRows headerLinks ownChild rowNumbers
-one-head f class2 t e = rw (eq-eqb f 1 e)
+-- the positions of a header's links, in either format
+pub own-positions : (l : Layout) → Numbered l → part (coverAt ∷ class1At ∷ []) 0 (l .own) ≡ ownIn (l .format)
+own-positions l n =
+    ap (λ (k : ℕ). part (coverAt ∷ class1At ∷ []) 0 k) (n .own-is) ∙ by-test (eqb (l .format) 1) (λ e. rw e) (λ e. rw e)
 
-pub three-heads : (f class2 t : ℕ) → (f ≡ 1 → ⊥)
-    → four t coverAt 2 (t + 1) ++ four t class1At 2 (t + 2) ++ four t class2At 2 class2 ≡ headRows f class2 t
-unfolding headRows headerLinks ownChild rowNumbers
-three-heads f class2 t e = let z : t + 1 + 1 ≡ t + 2 = omega arith in rw (ne-eqb f 1 e, z)
+pub head-positions : (l : Layout) → Numbered l → part (coverAt ∷ class1At ∷ class2At ∷ []) 0 (l .heads) ≡ ownIn (l .format) ++ sharedIn (l .format)
+head-positions l n =
+    ap (λ (k : ℕ). part (coverAt ∷ class1At ∷ class2At ∷ []) 0 k) (n .heads-is) ∙ by-test (eqb (l .format) 1) (λ e. rw e) (λ e. rw e)
 
-pub some-heads : (f : ℕ) → (1 ≤ length (ownIn f)) × (1 ≤ length (ownIn f ++ sharedIn f))
-some-heads f = by-test (eqb f 1) (λ e. rw e (omega arith, omega arith)) (λ e. rw e (omega arith, omega arith))
-
-pub more-heads : (f : ℕ) → (f ≡ 1 → ⊥) → (2 ≤ length (ownIn f)) × (3 ≤ length (ownIn f ++ sharedIn f))
-more-heads f e = rw (ne-eqb f 1 e) (omega arith, omega arith)
+pub some-own : (l : Layout) → Numbered l → 0 < length (ownIn (l .format))
+some-own l n = by-test (eqb (l .format) 1) (λ e. rw e (omega arith)) (λ e. rw e (omega arith))
 
 pub length-heads : (p : Plan) (t : ℕ) → Fit p → length (headRows (p .layout .format) (p .class2) t) ≡ perLink * headCount p
 unfolding headRows
@@ -103,7 +100,7 @@ more n i = mul-add n i 1 ∙ ap (λ (x : ℕ). n * i + x) (mul-one n)
 pub record Given (ls : List ℕ) (q m : ℕ) (p : Plan) : Type 0 where
   pub fit : Fit p
   pub some : q ≤ m
-  pub room : 4 * grown m p ≤ length ls
+  pub room : perLink * grown m p ≤ length ls
   pub ordered : Ordered ls q m
   pub floor : (k : ℕ) → q ≤ k → k < m → edge p 0 ≤ positionIn ls k
 
@@ -116,8 +113,8 @@ pub record At (ls : List ℕ) (q m : ℕ) (p : Plan) (out : List ℕ) (j left at
   pub same : length out ≡ length ls
   pub low : (k : ℕ) → q ≤ k → k < q + left → positionIn ls k < edge p j
   pub high : (k : ℕ) → q + left ≤ k → k < m → edge p j ≤ positionIn ls k
-  pub long : 4 * at + length (span (tableRows ls q m p) j (tables p)) ≡ 4 * grown m p
-  pub is : out ≡ put ls (4 * at) (span (tableRows ls q m p) j (tables p))
+  pub long : perLink * at + length (span (tableRows ls q m p) j (tables p)) ≡ perLink * grown m p
+  pub is : out ≡ put ls (perLink * at) (span (tableRows ls q m p) j (tables p))
 
 pub at-start : (ls : List ℕ) (q m : ℕ) (p : Plan) → Given ls q m p → ((i : ℕ) → getD ls i 0 < 4294967296) → At ls q m p ls (tables p) (m - q) (m + headCount p * tables p) (tableId p (tables p))
 at-start ls q m p g w =
@@ -130,20 +127,20 @@ at-start ls q m p g w =
       place = omega (arith, g .some);
       name = refl;
       same = refl;
-      low = λ k l h. omega (arith, w (4 * k + 1), edge-end p);
+      low = λ k l h. omega (arith, w (perLink * k + 1), edge-end p);
       high = λ k l h. absurd (omega (arith, g .some));
       long = omega (arith, z);
-      is = put-nil ls (4 * (m + headCount p * tables p)) ∙ ap (put ls (4 * (m + headCount p * tables p))) (sym e);
+      is = put-nil ls (perLink * (m + headCount p * tables p)) ∙ ap (put ls (perLink * (m + headCount p * tables p))) (sym e);
     }
 
 module _ (ls : List ℕ) (q m : ℕ) (p : Plan) (out : List ℕ) (j left at table : ℕ) (s : At ls q m p out j left at table) where
   pub reach : at ≤ grown m p
   reach = omega (arith, s .long)
 
-  pub at-read : (i : ℕ) → i < 4 * at → getD out i 0 ≡ getD ls i 0
+  pub at-read : (i : ℕ) → i < perLink * at → getD out i 0 ≡ getD ls i 0
   at-read i l =
       ap (λ (o : List ℕ). getD o i 0) (s .is)
-      ∙ put-below ls (4 * at) (span (tableRows ls q m p) j (tables p)) (omega (arith, reach, s .given .room)) i l
+      ∙ put-below ls (perLink * at) (span (tableRows ls q m p) j (tables p)) (omega (arith, reach, s .given .room)) i l
 
   pub at-done : j ≡ 0 → Spread ls out q m p
   at-done e =
@@ -177,9 +174,9 @@ module _ (ls : List ℕ) (q m : ℕ) (p : Plan) (out : List ℕ) (j left at tabl
   unfolding movedRow
   moved-same k u t =
       let rl = room-left in
-      let a = at-read ls q m p out j left at table s (4 * k + 1) (omega arith) in
-      let b = at-read ls q m p out j left at table s (4 * k + 2) (omega arith) in
-      let c = at-read ls q m p out j left at table s (4 * k + 3) (omega arith) in
+      let a = at-read ls q m p out j left at table s (perLink * k + 1) (omega arith) in
+      let b = at-read ls q m p out j left at table s (perLink * k + 2) (omega arith) in
+      let c = at-read ls q m p out j left at table s (perLink * k + 3) (omega arith) in
       cc
 
   -- the heads, the rows that moved, and the tables after them
@@ -196,7 +193,7 @@ module _ (ls : List ℕ) (q m : ℕ) (p : Plan) (out : List ℕ) (j left at tabl
       ∙ sym (span-front T i (tables p) ik)
 
   pub at-turn : (mid out′ : List ℕ) (rest : ℕ) → Moved out mid q left at (p .layout .header + shift p i) (shift p i) (table - per p) rest
-      → length out′ ≡ length out → out′ ≡ put mid (4 * (at - (left - rest) - headCount p)) (headRows (p .layout .format) (p .class2) (table - per p))
+      → length out′ ≡ length out → out′ ≡ put mid (perLink * (at - (left - rest) - headCount p)) (headRows (p .layout .format) (p .class2) (table - per p))
       → At ls q m p out′ i rest (at - (left - rest) - headCount p) (table - per p)
   at-turn mid out′ rest mv n h =
       let K = tables p in
@@ -206,7 +203,7 @@ module _ (ls : List ℕ) (q m : ℕ) (p : Plan) (out : List ℕ) (j left at tabl
       let ej : edge p j ≡ edge p (i + 1) = ap (edge p) e in
       let fw : rest ≤ left = mv .few in
       let rl = room-left in
-      let pos : (k : ℕ) → k < q + left → positionIn out k ≡ positionIn ls k = λ k l. at-read ls q m p out j left at table s (4 * k + 1) (omega arith) in
+      let pos : (k : ℕ) → k < q + left → positionIn out k ≡ positionIn ls k = λ k l. at-read ls q m p out j left at table s (perLink * k + 1) (omega arith) in
       let own : (k : ℕ) → q + rest ≤ k → k < q + left → edge p i ≤ positionIn ls k = λ k l u. omega (arith, mv .above k l u, pos k u) in
       let low : (k : ℕ) → q ≤ k → k < q + rest → positionIn ls k < edge p i =
       λ k l u. omega (arith, mv .below (omega arith), pos (q + rest - 1) (omega arith), s .given .ordered k (q + rest - 1) l (omega arith) (omega (arith, s .few))) in
@@ -219,18 +216,18 @@ module _ (ls : List ℕ) (q m : ℕ) (p : Plan) (out : List ℕ) (j left at tabl
       let part : span (share ls p i) q m ≡ S = share-part ls p q (q + rest) (q + left) m i (omega arith) (omega arith) (s .few) low own under over in
       let moved : span (movedRow out (table - per p) (shift p i)) (q + rest) (q + left) ≡ S =
       span-ext (movedRow out (table - per p) (shift p i)) f (q + rest) (q + left) (λ k l u. moved-same k u t) in
-      let ns : 4 * (q + rest) + length S ≡ 4 * (q + left) = moved-long ls (tableId p i) (shift p i) (q + rest) (q + left) (omega arith) in
-      let nh : length H ≡ 4 * headCount p = length-heads p (tableId p i) (s .given .fit) in
+      let ns : perLink * (q + rest) + length S ≡ perLink * (q + left) = moved-long ls (tableId p i) (shift p i) (q + rest) (q + left) (omega arith) in
+      let nh : length H ≡ perLink * headCount p = length-heads p (tableId p i) (s .given .fit) in
       let nt = s .long in
       let room = s .given .room in
       let at1 = at - (left - rest) in
-      let e1 : 4 * at ≡ 4 * at1 + length S = omega arith in
-      let e2 : 4 * at1 ≡ 4 * (at1 - headCount p) + length H = omega arith in
+      let e1 : perLink * at ≡ perLink * at1 + length S = omega arith in
+      let e2 : perLink * at1 ≡ perLink * (at1 - headCount p) + length H = omega arith in
       let nst = length-append S T in
       let nhst = length-append H (S ++ T) in
       let whole : H ++ (S ++ T) ≡ span (tableRows ls q m p) i K = joined rest ik part in
-      let mid-is : mid ≡ put ls (4 * at1) (S ++ T) =
-      mv .is ∙ ap₂ (λ (o v : List ℕ). put o (4 * at1) v) (s .is) moved ∙ put-before ls (4 * at1) S (4 * at) T e1 (omega arith) in
+      let mid-is : mid ≡ put ls (perLink * at1) (S ++ T) =
+      mv .is ∙ ap₂ (λ (o v : List ℕ). put o (perLink * at1) v) (s .is) moved ∙ put-before ls (perLink * at1) S (perLink * at) T e1 (omega arith) in
       record {
         given = s .given;
         turns = omega arith;
@@ -243,9 +240,9 @@ module _ (ls : List ℕ) (q m : ℕ) (p : Plan) (out : List ℕ) (j left at tabl
         long = omega (arith, ap length whole);
         is =
             h
-            ∙ ap₂ (λ (o : List ℕ) (x : ℕ). put o (4 * (at1 - headCount p)) (headRows (p .layout .format) (p .class2) x)) mid-is t
-            ∙ put-before ls (4 * (at1 - headCount p)) H (4 * at1) (S ++ T) e2 (omega arith)
-            ∙ ap (put ls (4 * (at1 - headCount p))) whole;
+            ∙ ap₂ (λ (o : List ℕ) (x : ℕ). put o (perLink * (at1 - headCount p)) (headRows (p .layout .format) (p .class2) x)) mid-is t
+            ∙ put-before ls (perLink * (at1 - headCount p)) H (perLink * at1) (S ++ T) e2 (omega arith)
+            ∙ ap (put ls (perLink * (at1 - headCount p))) whole;
       }
 
 -- the numbers of a turn
@@ -255,7 +252,7 @@ pub record Numbers (ls : List ℕ) (p : Plan) (q left at table i : ℕ) : Type 0
   pub named : per p ≤ table
   pub fits : table ≤ 4294967296
   pub roomy : q + left + headCount p ≤ at
-  pub within : 4 * at ≤ length ls
+  pub within : perLink * at ≤ length ls
   pub placed : p .layout .header + shift p i < 4294967296
 
 pub numbers : (ls : List ℕ) (q m : ℕ) (p : Plan) (out : List ℕ) (j left at table : ℕ) → At ls q m p out j left at table → (i : ℕ) → j ≡ i + 1 → Numbers ls p q left at table i

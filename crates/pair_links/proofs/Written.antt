@@ -17,7 +17,7 @@ use Rattle.folds.proofs.Parts.{getD-default}
 use Rattle.folds.proofs.FromTheFront.{flat-same}
 use Rattle.ot_layouts.specs.PairPos.{Shape, ownIn, sharedIn, itemAt}
 use Rattle.ot_layouts.proofs.Shapes.{items-rise}
-use Rattle.store_rules.specs.Store.{Store, Link, linkAt, linksOf, parentOf, positionOf, linkedAt}
+use Rattle.store_rules.specs.Store.{Store, Link, linkAt, linksOf, parentOf, positionOf, linkedAt, perLink}
 use Rattle.pair_rules.specs.Table.{ofItems}
 use Rattle.cut_rules.specs.Ranges.{from, to}
 use Rattle.pair_rules.specs.Written.{perTable, headLinks, moved, tableLinks, newLinks}
@@ -26,11 +26,12 @@ use Rattle.store_rules.proofs.Header.{header-same}
 use Rattle.ot_pairpos.specs.declared.Layout.{Layout}
 use Rattle.ot_pairpos.specs.Layout.{shapeWith}
 use Rattle.store_rules.specs.Appended.{rowNumbers, newNumber}
-use Rattle.store_link_rows.specs.Rows.{span, positionIn}
-use Rattle.pair_links.specs.Blocks.{Plan, edge, inside, tableId, movedRow, share, headRows, tableRows, newRows, keptRow}
+use Rattle.store_link_rows.specs.Rows.{span, positionIn, keptRow}
+use Rattle.pair_links.specs.Blocks.{Plan, edge, inside, tableId, movedRow, share, headRows, tableRows, newRows}
 use Rattle.pair_links.specs.Parting.{Between}
+use Rattle.store_link_rows.proofs.Keeping.{numbers-kept}
 use Rattle.store_link_rows.proofs.Spans.{flat-span, span-join, span-none, span-ext}
-use Rattle.pair_links.proofs.Links.{numbers, numbers-append, numbers-flat, numbers-sifted}
+use Rattle.store_link_rows.proofs.Links.{numbers, numbers-append, numbers-flat, numbers-sifted}
 use Rattle.pair_links.proofs.Spreading.{edge-at, edge-end}
 use Rattle.pair_links.proofs.Parting.{planOf, moves, stays-before, stays-after}
 
@@ -53,10 +54,6 @@ module _ (f g : ℕ → List ℕ) (a b m : ℕ) (ab : a ≤ b) (bm : b ≤ m) wh
       (span-join f a b m ab bm ∙ ap₂ (λ (x y : List ℕ). x ++ y) (span-none f a b own) (span-ext f g b m high))
 
 -- ---- one row
-
-numbers-kept : (s : Store) (own : List ℕ) (t v k : ℕ) → numbers (kept own t v (linkAt s k)) ≡ keptRow (s .links) own t v k
-unfolding kept keptRow
-numbers-kept s own t v k = let e : 4 * k + 0 ≡ 4 * k = omega arith in rw e
 
 numbers-moved : (s : Store) (sh : Shape) (u lo k : ℕ) → numbers (moved sh u lo (linkAt s k)) ≡ movedRow (s .links) u (sh .item * lo) k
 unfolding moved movedRow

@@ -4,15 +4,15 @@ use mathlib.Core.Path.{_≡_}
 use mathlib.Core.Bool.{Bool, cond, _&&_}
 use mathlib.Core.List.{List, [], _++_}
 use lib.ListN.{length, getD}
-use lib.Dec.{eqb, leb, ltb}
+use lib.Dec.{leb, ltb}
 use Rattle.folds.specs.Lists.{put}
 use Rattle.store_rules.specs.Store.{perLink}
 use Rattle.ot_layouts.specs.PairPos.{ownIn, sharedIn}
 use Rattle.ot_pairpos.specs.declared.Layout.{Layout}
 use Rattle.ot_pairpos.specs.Layout.{Numbered}
 use Rattle.store_rules.specs.Appended.{rowNumbers}
-use Rattle.store_rules.specs.Header.{ownChild, headerLinks}
-use Rattle.store_link_rows.specs.Rows.{span, parentIn, positionIn, widthIn, childIn, four, rows}
+use Rattle.store_rules.specs.Header.{headerLinks}
+use Rattle.store_link_rows.specs.Rows.{span, positionIn, widthIn, childIn, four, rows}
 
 -- The items of a table of this layout are parted: new table j gets those from cuts[j] on. `first` is the number of the first new table, class2 the object
 -- that new tables share.
@@ -105,9 +105,3 @@ pub record Spread (ls out : List ℕ) (q m : ℕ) (p : Plan) : Type 0 where
 pub record PartedRows (ls out : List ℕ) (a b m : ℕ) (p : Plan) : Type 0 where
   pub long : perLink * a + length (parted ls a b m p) ≡ perLink * grown m p
   pub is : out ≡ put ls (perLink * a) (parted ls a b m p)
-
--- row k where it stays: the kept table t's own parts are new objects, of which v is the first
-unfoldable pub keptRow : List ℕ → List ℕ → ℕ → ℕ → ℕ → List ℕ
-keptRow ls own t v k =
-    four (parentIn ls k) (positionIn ls k) (widthIn ls k)
-    (cond (eqb (parentIn ls k) t) (ownChild own v (positionIn ls k) (childIn ls k)) (childIn ls k))

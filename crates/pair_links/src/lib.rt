@@ -1,18 +1,19 @@
 // Link rows, four numbers each, rewritten in place when a table is split: the rows of the items that are cut off become rows of the new tables.
 ghost use mathlib.Core.Path.{_≡_};
-ghost use mathlib.Core.List.{List, [], _++_};
+ghost use mathlib.Core.List.{List, []};
 ghost use Prim.Native.Nat.{ℕ, _+_, _-_, _*_, _≤_, _<_};
 ghost use lib.ListN.{length};
 ghost use Rattle.folds.specs.Lists.{put};
 ghost use Rattle.store_rules.specs.Store.{lent, perLink};
-ghost use Rattle.store_rules.specs.Header.{ownChild};
-ghost use Rattle.ot_layouts.specs.PairPos.{ownIn, sharedIn};
-ghost use Rattle.ot_pairpos.specs.Layout.{shapeWith};
-ghost use Rattle.store_link_rows.specs.Rows.{span, positionIn, Ordered};
+ghost use Rattle.ot_layouts.specs.PairPos.{ownIn};
+ghost use Rattle.ot_pairpos.specs.Layout.{shapeWith, Numbered};
+ghost use Rattle.store_link_rows.specs.Rows.{span, positionIn, Ordered, keptRow};
 ghost use Rattle.folds.specs.Moments.{came, left};
-ghost use Rattle.pair_links.specs.Blocks.{plan, edge, headRows, grown, keptRow, Fit, Moved, Spread, PartedRows};
+ghost use Rattle.pair_links.specs.Blocks.{plan, edge, headRows, grown, Fit, Moved, Spread, PartedRows};
 ghost use Rattle.pair_links.specs.Parting.{Parting, Between, Parted};
 use ot_pairpos::Layout;
+use store_link_rows::keep_rows;
+use store_link_rows::put_header;
 use store_link_rows::put_row;
 use store_link_rows::rotate_rows;
 use store_reader::PER_LINK;
@@ -50,16 +51,22 @@ fn move_up(
 }
 
 // Writes the header's rows of the new table: to its coverage, and in format 2 to its class definition 1 and the shared class definition 2.
-fn put_heads(links: &mut [u32], k: usize, format: u16, table: u32, class2: u32)
-    requires { ⌜ perLink * (k + length (ownIn format ++ sharedIn format)) ≤ length (now links) ⌝ }
-    requires { ⌜ table + length (ownIn format) < 4294967296 ⌝ }
-    ensures { λ _. ⌜ left links ≡ put (came links) (perLink * k) (headRows format class2 table) ⌝ }
+fn put_heads(links: &mut [u32], k: usize, layout: Layout, table: u32, class2: u32)
+    requires { ⌜ Numbered layout × (perLink * (k + layout .heads) ≤ length (now links)) × (table + layout .own < 4294967296) ⌝ }
+    ensures { λ _. ⌜ left links ≡ put (came links) (perLink * k) (headRows (layout .format) class2 table) ⌝ }
 {
-    put_row(links, k, table, 2, 2, table + 1);
-    if format != 1 {
-        put_row(links, k + 1, table, 8, 2, table + 2);
-        put_row(links, k + 2, table, 10, 2, class2);
-    }
+    let own = [2u32, 8];
+    let heads = [2u32, 8, 10];
+    let own_count = layout.own;
+    let head_count = layout.heads;
+    put_header(
+        links,
+        k,
+        &own[0..own_count],
+        &heads[0..head_count],
+        table,
+        class2,
+    );
 }
 
 // The last of m rows, those from row q on, become the rows of new tables, from the last table to the first.
@@ -89,7 +96,7 @@ fn spread(
         let rest = move_up(links, q, left, at, layout.header + down, down, table as u32);
         at = at - (left - rest) - layout.heads;
         left = rest;
-        put_heads(links, at, layout.format, table as u32, class2);
+        put_heads(links, at, layout, table as u32, class2);
     }
 }
 
@@ -114,51 +121,22 @@ fn part_rows(
     spread(links, a + (m - b), m, cuts, layout, first, class2);
 }
 
-// The child of a link of the kept table: its own parts, coverage and in format 2 class definition 1, are new objects, of which `first` is the first.
-fn kept_child(format: u16, position: u32, child: u32, first: u32) -> u32
-    requires { ⌜ first + 1 < 4294967296 ⌝ }
-    ensures { λ r. ⌜ r ≡ ownChild (ownIn format) first position child ⌝ }
+// The kept table's own parts, coverage and in format 2 class definition 1, are new objects, of which `first` is the first: of the first `count` rows, the
+// table's lead there.
+fn keep_table(links: &mut [u32], count: usize, layout: Layout, table: u32, first: u32)
+    requires { ⌜ Numbered layout × (perLink * count ≤ length (now links)) × (first + 1 < 4294967296) ⌝ }
+    ensures { λ _. ⌜ left links ≡ put (came links) 0 (span (keptRow (came links) (ownIn (layout .format)) table first) 0 count) ⌝ }
 {
-    if position == 2 {
-        return first;
-    }
-    if format == 1 {
-        return child;
-    }
-    if position == 8 {
-        return first + 1;
-    }
-    child
-}
-
-// Row k, where it is the kept table's, leads to the kept table's new objects.
-fn keep_row(links: &mut [u32], k: usize, format: u16, table: u32, first: u32)
-    requires { ⌜ (perLink * k + 3 < length (now links)) × (first + 1 < 4294967296) ⌝ }
-    ensures { λ _. ⌜ left links ≡ put (came links) (perLink * k) (keptRow (came links) (ownIn format) table first k) ⌝ }
-{
-    let at = PER_LINK * k;
-    if links[at] == table {
-        links[at + 3] = kept_child(format, links[at + 1], links[at + 3], first);
-    }
-}
-
-// The same of the first `count` rows.
-fn keep_rows(links: &mut [u32], count: usize, format: u16, table: u32, first: u32)
-    requires { ⌜ (perLink * count ≤ length (now links)) × (first + 1 < 4294967296) ⌝ }
-    ensures { λ _. ⌜ left links ≡ put (came links) 0 (span (keptRow (came links) (ownIn format) table first) 0 count) ⌝ }
-{
-    let mut k = 0;
-    while k < count {
-        keep_row(links, k, format, table, first);
-        k += 1;
-    }
+    let own = [2u32, 8];
+    let own_count = layout.own;
+    keep_rows(links, count, &own[0..own_count], table, first);
 }
 
 // Rewrites the link rows for a split of `table` at `cuts`, where the rows from `first` up to `after` are those of the items that are cut off. Returns how
 // many rows are in use then.
 fn part_between(
     links: &mut [u32],
-    counts: &[u32; 3],
+    counts: [u32; 3],
     table: u32,
     layout: Layout,
     cuts: &[u16],
@@ -166,17 +144,17 @@ fn part_between(
     after: usize,
     class2: u32,
 ) -> usize
-    requires { ⌜ Between (lent [] [] (now links) (now counts)) table layout (now cuts) first after class2 ⌝ }
-    ensures { λ r. ⌜ ((b o : List ℕ) → Parted (lent b o (came links) (came counts)) table (shapeWith layout) (came cuts) (left links) r) ⌝ }
+    requires { ⌜ Between (lent [] [] (now links) counts) table layout (now cuts) first after class2 ⌝ }
+    ensures { λ r. ⌜ ((b o : List ℕ) → Parted (lent b o (came links) counts) table (shapeWith layout) (came cuts) (left links) r) ⌝ }
 {
     let objects = counts[1] as usize;
     let count = counts[2] as usize;
     let first_kept = objects + (layout.own + 1) * cuts.len();
     part_rows(links, count, first, after, cuts, layout, objects, class2);
-    keep_rows(
+    keep_table(
         links,
         count - (after - first),
-        layout.format,
+        layout,
         table,
         first_kept as u32,
     );
@@ -186,14 +164,14 @@ fn part_between(
 // Rewrites the link rows for a split of `table` at `cuts`; `class2` is the object that new tables of format 2 share. Returns how many rows are in use then.
 pub fn part_links(
     links: &mut [u32],
-    counts: &[u32; 3],
+    counts: [u32; 3],
     table: u32,
     layout: Layout,
     cuts: &[u16],
     class2: u32,
 ) -> usize
-    requires { ⌜ Parting (lent [] [] (now links) (now counts)) table layout (now cuts) class2 ⌝ }
-    ensures { λ r. ⌜ ((b o : List ℕ) → Parted (lent b o (came links) (came counts)) table (shapeWith layout) (came cuts) (left links) r) ⌝ }
+    requires { ⌜ Parting (lent [] [] (now links) counts) table layout (now cuts) class2 ⌝ }
+    ensures { λ r. ⌜ ((b o : List ℕ) → Parted (lent b o (came links) counts) table (shapeWith layout) (came cuts) (left links) r) ⌝ }
 {
     let count = counts[2] as usize;
     let start = layout.header + layout.item * (cuts[0] as usize);

@@ -24,7 +24,8 @@ use Rattle.ot_layouts.proofs.RangeBytes.{ranged-length}
 use Rattle.glyph_rules.specs.Entries.{within, reduced}
 use Rattle.pair_rules.specs.Written.{partOf, newParts}
 use Rattle.ot_class_def_writer.specs.Entries.{reducedEntries}
-use Rattle.pair_new_objects.specs.Tables.{paired}
+use Rattle.cut_parts.specs.Tables.{paired}
+use Rattle.store_object_rows.proofs.Joining.{join-one, join-two}
 use Rattle.pair_new_objects.specs.Objects.{partsOf}
 
 pub parts-same : (b : List ℕ) (es : List Entry) (lo hi : ℕ) → newParts (shapeOf b) es lo hi ≡ partsOf (shapeOf b .format) (within lo hi es) lo
@@ -51,14 +52,6 @@ module _ (f : ℕ) (es : List Entry) (lo : ℕ) where
   pub parts-two : eqb f 1 ≡ false → partsOf f es lo ≡ coverageBytes (map (λ e. e .glyph) es) ∷ classDefBytes (reduced lo es) ∷ []
   unfolding partsOf partOf
   parts-two e = rw e
-
-pub join-one : (x : List ℕ) → length (join (x ∷ [])) ≡ length x
-unfolding join
-join-one x = omega (arith, length-append x [])
-
-pub join-two : (x y : List ℕ) → length (join (x ∷ y ∷ [])) ≡ length x + length y
-unfolding join
-join-two x y = omega (arith, length-append x (y ++ []), length-append y [])
 
 -- ---- how long
 

@@ -1,9 +1,9 @@
 -- The summed lengths of new objects, table by table. Assumes nothing.
-use Prim.Native.Nat.{ℕ, zero, suc, _+_, _-_, _*_, _<_, _≤_}
-use mathlib.Core.Path.{_≡_, refl, sym, subst, ap, ap₂, _∙_}
+use Prim.Native.Nat.{ℕ, _+_, _-_, _*_, _<_, _≤_}
+use mathlib.Core.Path.{_≡_, sym, subst, ap, ap₂, _∙_}
 use mathlib.Core.List.{List, _∷_}
 use native.Mathlib.Omega.{arith}
-use lib.ListN.{length, getD, length-append}
+use lib.ListN.{length, getD}
 use Rattle.folds.specs.Folds.{sum, flat}
 use Rattle.folds.specs.Lists.{join, part}
 use Rattle.folds.proofs.Folds.{sum-none, sum-more}
@@ -17,12 +17,14 @@ use Rattle.pair_rules.specs.Written.{newTable, newParts, newObjects}
 use Rattle.cut_rules.proofs.CutPlaces.{range-high}
 use Rattle.ot_pairpos.specs.declared.Layout.{Layout}
 use Rattle.ot_pairpos.specs.Layout.{layoutOf}
-use Rattle.pair_new_objects.specs.Tables.{paired, highAt, PartEnd, Halved, Beside, Planned}
+use Rattle.cut_parts.specs.Tables.{paired, highAt, PartEnd, Halved}
+use Rattle.cut_parts.proofs.Parting.{length-paired}
+use Rattle.cut_parts.proofs.TableParts.{same-part, kept-half, kept-entries, new-rises, new-inside, new-half, new-entries, new-same}
+use Rattle.store_object_rows.proofs.Joining.{join-long, join-cons, join-flat}
+use Rattle.pair_new_objects.specs.Planned.{Beside, Planned}
 use Rattle.pair_new_objects.specs.Objects.{partsOf, Length}
-use Rattle.pair_new_objects.proofs.Parting.{length-paired}
 use Rattle.pair_new_objects.proofs.Beside.{parts-same, parts-short}
-use Rattle.pair_new_objects.proofs.Planning.{cuts-of, cuts-few, kept-half, kept-entries, new-rises, new-inside, new-half, new-entries, new-same, new-beside, new-small, same-part}
-use Rattle.pair_new_objects.proofs.Writing.{join-long}
+use Rattle.pair_new_objects.proofs.Planning.{cuts-few, new-beside, new-small}
 use Rattle.pair_new_objects.proofs.Tables.{shaped, new-size}
 
 -- what stands beside the table of items lo up to hi
@@ -32,15 +34,6 @@ besideLength f es lo hi = length (join (partsOf f (within lo hi es) lo))
 -- the objects of new table j
 abbrev pub tableLength : Layout → List Entry → List ℕ → ℕ → ℕ
 tableLength l es cs j = l .header + l .item * (getD cs (j + 1) (l .count) - from cs j) + besideLength (l .format) es (from cs j) (getD cs (j + 1) (l .count))
-
-join-flat : (f : ℕ → List (List ℕ)) (n : ℕ) → length (join (flat f n)) ≡ sum (λ j. length (join (f j))) n
-unfolding flat sum join
-join-flat f zero = refl
-join-flat f (suc n) = join-long (flat f n) (f n) ∙ ap (λ (x : ℕ). x + length (join (f n))) (join-flat f n)
-
-join-cons : (x : List ℕ) (xs : List (List ℕ)) → length (join (x ∷ xs)) ≡ length x + length (join xs)
-unfolding join
-join-cons x xs = length-append x (join xs)
 
 -- a part of at most 65,536 glyphs
 pub most-beside : (f : ℕ) (gs ks : List ℕ) (lo : ℕ) → length ks ≡ length gs → length gs ≤ 65536 → length (join (partsOf f (paired gs ks) lo)) ≤ 524296
@@ -56,18 +49,18 @@ pub record Total (gs ks cs : List ℕ) (l : Layout) (at total j : ℕ) : Type 0 
 
 module _ (gs ks cs : List ℕ) (l : Layout) (p : Planned gs ks cs l) where
   part-few : (a b : ℕ) → a ≤ b → b ≤ length ks → length (part gs a b) ≤ 65536
-  part-few a b h m = let e = p .same in let f = p .few in omega (arith, length-part gs a b h (omega arith))
+  part-few a b h m = let e = p .parts .same in let f = p .few in omega (arith, length-part gs a b h (omega arith))
 
   pub total-start : (a r : ℕ) → PartEnd ks 0 (from cs 0) a → r ≡ length (join (partsOf (l .format) (paired (part gs 0 a) (part ks 0 a)) 0)) → Total gs ks cs l a r 0
   total-start a r e q =
       record {
         known = p;
         some = omega arith;
-        halved = kept-half gs ks cs l p a e;
+        halved = kept-half gs ks cs (l .count) (p .parts) a e;
         is =
-            q ∙ ap (λ (es : List Entry). length (join (partsOf (l .format) es 0))) (sym (kept-entries gs ks cs l p a e))
+            q ∙ ap (λ (es : List Entry). length (join (partsOf (l .format) es 0))) (sym (kept-entries gs ks cs (l .count) (p .parts) a e))
             ∙ omega (arith, sum-none (tableLength l (paired gs ks) cs));
-        most = omega (arith, most-beside (l .format) (part gs 0 a) (part ks 0 a) 0 (same-part gs ks cs l p 0 a (omega arith) (e .inside)) (part-few 0 a (omega arith) (e .inside)));
+        most = omega (arith, most-beside (l .format) (part gs 0 a) (part ks 0 a) 0 (same-part gs ks cs (l .count) (p .parts) 0 a (omega arith) (e .inside)) (part-few 0 a (omega arith) (e .inside)));
       }
 
 module _ (gs ks cs : List ℕ) (l : Layout) (at total j : ℕ) (t : Total gs ks cs l at total j) where
@@ -79,7 +72,7 @@ module _ (gs ks cs : List ℕ) (l : Layout) (at total j : ℕ) (t : Total gs ks 
       → (length (part ks at r) ≡ length (part gs at r)) × Beside (l .format) lo (paired (part gs at r) (part ks at r))
   turn-ready h lo hi r a b e =
       let e′ : PartEnd ks at (getD cs (j + 1) (l .count)) r = subst (λ (n : ℕ). PartEnd ks at n r) b e in (
-        new-same gs ks cs l (t .known) j at r h (t .halved) e′,
+        new-same gs ks cs (l .count) (t .known .parts) j at r h (t .halved) e′,
         subst (λ (n : ℕ). Beside (l .format) n (paired (part gs at r) (part ks at r))) (sym a) (new-beside gs ks cs l (t .known) j at r h (t .halved) e′),
       )
 
@@ -89,10 +82,10 @@ module _ (gs ks cs : List ℕ) (l : Layout) (at total j : ℕ) (t : Total gs ks 
     e′ = subst (λ (n : ℕ). PartEnd ks at n r) b e
 
     pub turn-items : (lo ≤ hi) × (hi ≤ l .count)
-    turn-items = (omega (arith, new-rises gs ks cs l (t .known) j at r h (t .halved) e′), omega (arith, new-inside gs ks cs l (t .known) j at r h (t .halved) e′))
+    turn-items = (omega (arith, new-rises gs ks cs (l .count) (t .known .parts) j at r h (t .halved) e′), omega (arith, new-inside gs ks cs (l .count) (t .known .parts) j at r h (t .halved) e′))
 
     few-more : x ≤ 524296
-    few-more = omega (arith, most-beside (l .format) (part gs at r) (part ks at r) lo (new-same gs ks cs l (t .known) j at r h (t .halved) e′) (part-few gs ks cs l (t .known) at r (e .after) (e .inside)))
+    few-more = omega (arith, most-beside (l .format) (part gs at r) (part ks at r) lo (new-same gs ks cs (l .count) (t .known .parts) j at r h (t .halved) e′) (part-few gs ks cs l (t .known) at r (e .after) (e .inside)))
 
     -- the table's bytes
     pub rows-small : l .item * (hi - lo) ≤ 16777216
@@ -112,11 +105,11 @@ module _ (gs ks cs : List ℕ) (l : Layout) (at total j : ℕ) (t : Total gs ks 
         ap₂ (λ (m n : ℕ). l .header + l .item * (m - n) + x) b a
         ∙ ap (λ (n : ℕ). l .header + l .item * (getD cs (j + 1) (l .count) - from cs j) + n)
         (q ∙ ap (λ (n : ℕ). length (join (partsOf (l .format) (paired (part gs at r) (part ks at r)) n))) a
-        ∙ ap (λ (y : List Entry). length (join (partsOf (l .format) y (from cs j)))) (sym (new-entries gs ks cs l (t .known) j at r h (t .halved) e′))) in
+        ∙ ap (λ (y : List Entry). length (join (partsOf (l .format) y (from cs j)))) (sym (new-entries gs ks cs (l .count) (t .known .parts) j at r h (t .halved) e′))) in
         record {
           known = t .known;
           some = omega arith;
-          halved = new-half gs ks cs l (t .known) j at r h (t .halved) e′;
+          halved = new-half gs ks cs (l .count) (t .known .parts) j at r h (t .halved) e′;
           is = omega (arith, t .is, sum-more (tableLength l es cs) j);
           most = omega (arith, turn-small, t .most);
         }
@@ -153,4 +146,4 @@ module _ (gs ks cs : List ℕ) (l : Layout) (at total j : ℕ) (t : Total gs ks 
           ∙ sym (join-cons (newTable sh b (from cs i) (to (sh .count) cs i)) (newParts sh es (from cs i) (to (sh .count) cs i)))
         where
           range : (i : ℕ) → i < length cs → (from cs i < getD cs (i + 1) (l .count)) × (getD cs (i + 1) (l .count) ≤ l .count)
-          range i m = range-high (l .count) cs (cuts-of gs ks cs l (t .known)) i m
+          range i m = range-high (l .count) cs (t .known .parts .places) i m

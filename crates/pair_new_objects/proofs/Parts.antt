@@ -1,8 +1,8 @@
--- Writing what stands beside a table, and a table with it: what each step may do, and what they leave together. Assumes nothing.
+-- Writing what stands beside a table: what each step may do, and what they leave together. Assumes nothing.
 use Prim.Native.Nat.{ℕ, _+_, _*_, _<_, _≤_}
 use mathlib.Core.Path.{_≡_, sym, subst, ap, ap₂, _∙_}
 use mathlib.Core.Bool.{cond}
-use mathlib.Core.List.{List, [], _∷_, _++_}
+use mathlib.Core.List.{List, [], _∷_}
 use native.Mathlib.Omega.{arith}
 use lib.ListN.{length, getD}
 use lib.Dec.{eqb}
@@ -12,26 +12,26 @@ use Rattle.folds.proofs.Tests.{by-test}
 use Rattle.folds.proofs.Moved.{length-map}
 use Rattle.ot_layouts.specs.Coverage.{Entry, coverageBytes, runs}
 use Rattle.ot_layouts.specs.ClassDef.{named, classDefBytes}
-use Rattle.ot_layouts.specs.PairPos.{shapeOf}
 use Rattle.ot_layouts.proofs.CoverageLength.{cover-length}
 use Rattle.ot_coverage_writer.proofs.Counts.{at-most}
 use Rattle.ot_ranges.specs.Ascending.{Ascending}
 use Rattle.glyph_rules.specs.Entries.{reduced}
 use Rattle.ot_class_def_writer.specs.Entries.{reducedEntries}
-use Rattle.pair_new_table.specs.Cloned.{Cloned}
-use Rattle.ot_pairpos.specs.declared.Layout.{Layout}
-use Rattle.pair_new_objects.specs.Tables.{paired, Beside}
-use Rattle.pair_new_objects.specs.Objects.{partsOf, Room, Written, oldTable, tableOf}
-use Rattle.pair_new_objects.proofs.Parting.{paired-glyphs, length-paired}
-use Rattle.pair_new_objects.proofs.Beside.{parts-one, parts-two, paired-reduced, join-one, join-two, class-def-short}
-use Rattle.pair_new_objects.proofs.Writing.{written-one, room-first, room-rest, written-more}
+use Rattle.cut_parts.specs.Tables.{paired}
+use Rattle.cut_parts.proofs.Parting.{paired-glyphs, length-paired}
+use Rattle.store_object_rows.specs.Objects.{Room, Written}
+use Rattle.store_object_rows.proofs.Joining.{join-one, join-two}
+use Rattle.store_object_rows.proofs.Writing.{written-one, one-fits, one-row, one-small, rest-room, rest-done}
+use Rattle.pair_new_objects.specs.Planned.{Beside}
+use Rattle.pair_new_objects.specs.Objects.{partsOf}
+use Rattle.pair_new_objects.proofs.Beside.{parts-one, parts-two, paired-reduced, class-def-short}
 
 module _ (gs ks : List ℕ) (f lo : ℕ) (same : length ks ≡ length gs) where
   -- the class definition in format 2
   abbrev rest : List (List ℕ)
   rest = cond (eqb f 1) [] (classDefBytes (reducedEntries gs ks lo) ∷ [])
 
-  pub parts-are : partsOf f (paired gs ks) lo ≡ (coverageBytes gs ∷ []) ++ rest
+  pub parts-are : partsOf f (paired gs ks) lo ≡ coverageBytes gs ∷ rest
   parts-are =
       by-test (eqb f 1)
       (λ e. parts-one f (paired gs ks) lo e ∙ rw e (ap (λ (x : List ℕ). coverageBytes x ∷ []) (paired-glyphs gs ks same)))
@@ -46,12 +46,12 @@ module _ (gs ks : List ℕ) (f lo : ℕ) (same : length ks ≡ length gs) where
   rest-class e = rw (ne-eqb f 1 e)
 
   pub one-length : (r : ℕ) → f ≡ 1 → r ≡ length (coverageBytes gs) → r ≡ length (join (partsOf f (paired gs ks) lo))
-  one-length r e q = q ∙ sym (ap (λ (x : List (List ℕ)). length (join x)) (parts-are ∙ ap (λ (x : List (List ℕ)). (coverageBytes gs ∷ []) ++ x) (rest-none e)) ∙ join-one (coverageBytes gs))
+  one-length r e q = q ∙ sym (ap (λ (x : List (List ℕ)). length (join x)) (parts-are ∙ ap (λ (x : List (List ℕ)). coverageBytes gs ∷ x) (rest-none e)) ∙ join-one (coverageBytes gs))
 
   pub two-length : (m n : ℕ) → (f ≡ 1 → ⊥) → m ≡ length (coverageBytes gs) → n ≡ length (classDefBytes (reducedEntries gs ks lo)) → m + n ≡ length (join (partsOf f (paired gs ks) lo))
   two-length m n e q r =
       ap₂ (λ (x y : ℕ). x + y) q r
-      ∙ sym (ap (λ (x : List (List ℕ)). length (join x)) (parts-are ∙ ap (λ (x : List (List ℕ)). (coverageBytes gs ∷ []) ++ x) (rest-class e)) ∙ join-two (coverageBytes gs) (classDefBytes (reducedEntries gs ks lo)))
+      ∙ sym (ap (λ (x : List (List ℕ)). length (join x)) (parts-are ∙ ap (λ (x : List (List ℕ)). coverageBytes gs ∷ x) (rest-class e)) ∙ join-two (coverageBytes gs) (classDefBytes (reducedEntries gs ks lo)))
 
   module _ (k : Beside f lo (paired gs ks)) where
     pub glyphs-ascend : Ascending gs
@@ -74,70 +74,43 @@ module _ (gs ks : List ℕ) (f lo : ℕ) (same : length ks ≡ length gs) where
     runs-few e = subst (λ (es : List Entry). length (runs (named es)) < 65536) (sym (paired-reduced gs ks lo)) (k .countable (ne-eqb f 1 e))
 
     module _ (d o : List ℕ) (at row : ℕ) (room : Room d o at row (partsOf f (paired gs ks) lo)) where
-      whole : Room d o at row ((coverageBytes gs ∷ []) ++ rest)
+      whole : Room d o at row (coverageBytes gs ∷ rest)
       whole = subst (λ (new : List (List ℕ)). Room d o at row new) parts-are room
 
-      first-room : Room d o at row (coverageBytes gs ∷ [])
-      first-room = room-first (coverageBytes gs ∷ []) rest whole
-
       pub cover-ready : Ascending gs × (at + length (coverageBytes gs) ≤ length d)
-      cover-ready = (glyphs-ascend, omega (arith, first-room .bytes, join-one (coverageBytes gs)))
+      cover-ready = (glyphs-ascend, one-fits (coverageBytes gs) rest whole)
 
       pub middle-small : (middle : ℕ) → middle ≡ at + length (coverageBytes gs) → middle < 4294967296
-      middle-small middle q = omega (arith, first-room .small, join-one (coverageBytes gs))
+      middle-small middle q = one-small (coverageBytes gs) rest whole q
 
       pub row-inside : 2 * row + 1 < length o
-      row-inside = omega (arith, first-room .rows)
+      row-inside = one-row (coverageBytes gs) rest whole
 
       module _ (d′ o′ : List ℕ) (middle : ℕ) (e : (d′ ≡ put d at (coverageBytes gs)) × (middle ≡ at + length (coverageBytes gs))) (g : o′ ≡ put o (2 * row) (at ∷ middle ∷ [])) where
-        covered : Written d o at row (coverageBytes gs ∷ []) d′ o′ middle
-        covered = written-one (coverageBytes gs) (e .0) g (e .1)
-
         pub one-done : f ≡ 1 → Written d o at row (partsOf f (paired gs ks) lo) d′ o′ middle
-        one-done q = subst (λ (new : List (List ℕ)). Written d o at row new d′ o′ middle) (sym (parts-are ∙ ap (λ (x : List (List ℕ)). (coverageBytes gs ∷ []) ++ x) (rest-none q))) covered
+        one-done q =
+            subst (λ (new : List (List ℕ)). Written d o at row new d′ o′ middle) (sym (parts-are ∙ ap (λ (x : List (List ℕ)). coverageBytes gs ∷ x) (rest-none q)))
+            (written-one (coverageBytes gs) (e .0) g (e .1))
 
         module _ (two : f ≡ 1 → ⊥) where
-          class-room : Room d′ o′ middle (row + 1) (classDefBytes (reducedEntries gs ks lo) ∷ [])
-          class-room = subst (λ (new : List (List ℕ)). Room d′ o′ middle (row + 1) new) (rest-class two) (room-rest (coverageBytes gs ∷ []) rest whole covered)
+          abbrev definition : List ℕ
+          definition = classDefBytes (reducedEntries gs ks lo)
 
-          pub class-ready : (length ks ≡ length gs) × (Ascending gs × ((length (runs (named (reducedEntries gs ks lo))) < 65536) × (middle + length (classDefBytes (reducedEntries gs ks lo)) ≤ length d′)))
-          class-ready = (same, (glyphs-ascend, (runs-few two, omega (arith, class-room .bytes, join-one (classDefBytes (reducedEntries gs ks lo))))))
+          class-room : Room d′ o′ middle (row + 1) (definition ∷ [])
+          class-room = subst (λ (new : List (List ℕ)). Room d′ o′ middle (row + 1) new) (rest-class two) (rest-room (coverageBytes gs) rest whole (e .0) g (e .1))
 
-          pub end-small : (end : ℕ) → end ≡ middle + length (classDefBytes (reducedEntries gs ks lo)) → end < 4294967296
-          end-small end q = omega (arith, class-room .small, join-one (classDefBytes (reducedEntries gs ks lo)))
+          pub class-ready : (length ks ≡ length gs) × (Ascending gs × ((length (runs (named (reducedEntries gs ks lo))) < 65536) × (middle + length definition ≤ length d′)))
+          class-ready = (same, (glyphs-ascend, (runs-few two, one-fits definition [] class-room)))
+
+          pub end-small : (end : ℕ) → end ≡ middle + length definition → end < 4294967296
+          end-small end q = one-small definition [] class-room q
 
           pub next-inside : 2 * (row + 1) + 1 < length o′
-          next-inside = omega (arith, class-room .rows)
+          next-inside = one-row definition [] class-room
 
-          pub two-done : (d″ o″ : List ℕ) (end : ℕ) → (d″ ≡ put d′ middle (classDefBytes (reducedEntries gs ks lo))) × (end ≡ middle + length (classDefBytes (reducedEntries gs ks lo))) → o″ ≡ put o′ (2 * (row + 1)) (middle ∷ end ∷ [])
+          pub two-done : (d″ o″ : List ℕ) (end : ℕ) → (d″ ≡ put d′ middle definition) × (end ≡ middle + length definition) → o″ ≡ put o′ (2 * (row + 1)) (middle ∷ end ∷ [])
               → Written d o at row (partsOf f (paired gs ks) lo) d″ o″ end
           two-done d″ o″ end q h =
               subst (λ (new : List (List ℕ)). Written d o at row new d″ o″ end) (sym parts-are)
-              (written-more (coverageBytes gs ∷ []) rest whole covered
-              (subst (λ (new : List (List ℕ)). Written d′ o′ middle (row + 1) new d″ o″ end) (sym (rest-class two)) (written-one (classDefBytes (reducedEntries gs ks lo)) (q .0) h (q .1))))
-
--- ---- a table, and what stands beside it
-
-module _ (d o : List ℕ) (head : ℕ) (l : Layout) (lo hi at row : ℕ) (parts : List (List ℕ)) (room : Room d o at row (tableOf d head l lo hi ∷ parts)) where
-  table-room : Room d o at row (tableOf d head l lo hi ∷ [])
-  table-room = room-first (tableOf d head l lo hi ∷ []) parts room
-
-  pub table-fits : at + length (tableOf d head l lo hi) ≤ length d
-  table-fits = omega (arith, table-room .bytes, join-one (tableOf d head l lo hi))
-
-  pub table-row : 2 * row + 1 < length o
-  table-row = omega (arith, table-room .rows)
-
-  module _ (d′ : List ℕ) (end : ℕ) (c : Cloned d (shapeOf (oldTable d head l)) (oldTable d head l) lo hi at d′ end) where
-    pub table-small : end < 4294967296
-    table-small = omega (arith, table-room .small, join-one (tableOf d head l lo hi), c .ends)
-
-    module _ (o′ : List ℕ) (g : o′ ≡ put o (2 * row) (at ∷ end ∷ [])) where
-      table-written : Written d o at row (tableOf d head l lo hi ∷ []) d′ o′ end
-      table-written = written-one (tableOf d head l lo hi) (c .written) g (c .ends)
-
-      pub parts-room : Room d′ o′ end (row + 1) parts
-      parts-room = room-rest (tableOf d head l lo hi ∷ []) parts room table-written
-
-      pub table-done : (d″ o″ : List ℕ) (r : ℕ) → Written d′ o′ end (row + 1) parts d″ o″ r → Written d o at row (tableOf d head l lo hi ∷ parts) d″ o″ r
-      table-done d″ o″ r w = written-more (tableOf d head l lo hi ∷ []) parts room table-written w
+              (rest-done (coverageBytes gs) rest whole (e .0) g (e .1)
+              (subst (λ (new : List (List ℕ)). Written d′ o′ middle (row + 1) new d″ o″ end) (sym (rest-class two)) (written-one definition (q .0) h (q .1))))

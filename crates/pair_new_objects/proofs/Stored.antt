@@ -8,9 +8,7 @@ use lib.ListN.{length, getD}
 use lib.Dec.{eqb}
 use Rattle.folds.specs.Folds.{upto}
 use Rattle.folds.specs.Lists.{join, part, Bytes}
-use Rattle.folds.proofs.Folds.{before-none, before-more}
 use Rattle.folds.proofs.FromTheFront.{flat-same, upto-getD}
-use Rattle.folds.proofs.Parts.{getD-default}
 use Rattle.folds.proofs.Moved.{map-upto}
 use Rattle.ot_layouts.specs.Numbers.{u16At}
 use Rattle.ot_layouts.specs.Coverage.{Entry, Ascends, Under}
@@ -38,22 +36,15 @@ use Rattle.pair_rules.proofs.NamedRuns.{range-runs-few}
 use Rattle.ot_pairpos.specs.declared.Layout.{Layout}
 use Rattle.ot_pairpos.specs.Layout.{layoutOf}
 use Rattle.glyph_sort.specs.ByClass.{ByClass}
-use Rattle.pair_new_objects.specs.Tables.{paired, lowAt, highAt, Beside, Planned}
-use Rattle.pair_new_objects.specs.Order.{Sorted, Ordered, Arranged}
-use Rattle.pair_new_objects.specs.Objects.{Room, Written, oldTable, Old, objectsOf, Length}
-use Rattle.pair_new_objects.proofs.Keys.{Small}
-use Rattle.pair_new_objects.proofs.Arranging.{sorted-by-item, ordered-arranged, places-arranged}
+use Rattle.cut_parts.specs.Tables.{paired, lowAt, highAt}
+use Rattle.cut_parts.specs.Order.{Sorted, Ordered, Arranged}
+use Rattle.cut_parts.proofs.Keys.{Small}
+use Rattle.cut_parts.proofs.Arranging.{sorted-by-item, ordered-arranged, places-arranged, arranged-parted, kept-same, new-same}
+use Rattle.store_object_rows.specs.Objects.{Room, Written}
+use Rattle.pair_new_objects.specs.Planned.{Beside, Planned}
+use Rattle.pair_new_objects.specs.Objects.{oldTable, Old, objectsOf, Length}
 
 -- ---- the objects
-
-module _ (gs ks cs : List ℕ) (n : ℕ) (es : List Entry) (r : Arranged gs ks cs n es) where
-  kept-same : 0 < length cs → within 0 (from cs 0) (paired gs ks) ≡ within 0 (from cs 0) es
-  kept-same some =
-      subst (λ (h : ℕ). within 0 h (paired gs ks) ≡ within 0 h es) (getD-default cs 0 n 0 some)
-      (subst (λ (lo : ℕ). within lo (highAt n cs 0) (paired gs ks) ≡ within lo (highAt n cs 0) es) (before-none (from cs)) (r .entries 0 (omega arith)))
-
-  new-same : (j : ℕ) → j < length cs → within (from cs j) (getD cs (j + 1) n) (paired gs ks) ≡ within (from cs j) (getD cs (j + 1) n) es
-  new-same j h = subst (λ (lo : ℕ). within lo (getD cs (j + 1) n) (paired gs ks) ≡ within lo (getD cs (j + 1) n) es) (before-more (from cs) j) (r .entries (j + 1) (omega arith))
 
 pub same-objects : (gs ks cs : List ℕ) (es : List Entry) (sh : Shape) (b : List ℕ) → Arranged gs ks cs (sh .count) es → 0 < length cs → newObjects sh b (paired gs ks) cs ≡ newObjects sh b es cs
 unfolding newObjects newParts
@@ -120,12 +111,8 @@ module _ (s : Store) (t : ℕ) (reads : Reads s t) (octets : Bytes (s .bytes)) w
   unfolding layoutOf
   stored-plan gs ks cs r p some =
       record {
-        same = r .same;
+        parts = arranged-parted gs ks cs (sh .count) es r p some;
         few = omega (arith, r .long, few-entries es 0 65536 (omega arith) up under);
-        some = some;
-        below = p .below;
-        rising = p .rising;
-        parted = r .parted;
         beside = λ k h. subst (λ (x : List Entry). Beside (sh .format) (lowAt cs k) x) (sym (r .entries k h)) (stored-beside (lowAt cs k) (highAt (sh .count) cs k));
         header = header-small;
         count = count-bits s t octets;

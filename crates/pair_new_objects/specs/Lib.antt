@@ -1,3 +1,2 @@
-pub mod Tables
+pub mod Planned
 pub mod Objects
-pub mod Order

@@ -1,14 +1,13 @@
--- New objects written one behind another, with their rows, and the table that they are made from. Assumes nothing.
-use Prim.Native.Nat.{ℕ, _+_, _*_, _≤_, _<_}
+-- The new objects of a split, and the table that they are made from. Assumes nothing.
+use Prim.Native.Nat.{ℕ, _+_, _*_, _≤_}
 use mathlib.Core.Path.{_≡_}
 use mathlib.Core.List.{List, _∷_, map}
 use lib.ListN.{length, getD}
 use Rattle.folds.specs.Folds.{flat}
-use Rattle.folds.specs.Lists.{put, join, part}
+use Rattle.folds.specs.Lists.{join, part}
 use Rattle.ot_layouts.specs.Coverage.{Entry}
 use Rattle.ot_layouts.specs.PairPos.{ownIn, shapeOf, itemAt}
 use Rattle.glyph_rules.specs.Entries.{within}
-use Rattle.store_rules.specs.Appended.{rowsFrom}
 use Rattle.cut_rules.specs.Ranges.{from}
 use Rattle.pair_rules.specs.Written.{partOf, newTable, newObjects}
 use Rattle.ot_pairpos.specs.declared.Layout.{Layout}
@@ -17,18 +16,6 @@ use Rattle.ot_pairpos.specs.Layout.{layoutOf}
 -- the own parts of a table of format f with these entries, of which lo is the first item
 unfoldable pub partsOf : ℕ → List Entry → ℕ → List (List ℕ)
 partsOf f es lo = map (partOf es lo) (ownIn f)
-
--- there is room for new objects from byte `at` and row `row` on, and the last ends within 32 bits
-pub record Room (d o : List ℕ) (at row : ℕ) (new : List (List ℕ)) : Type 0 where
-  pub bytes : at + length (join new) ≤ length d
-  pub rows : 2 * (row + length new) ≤ length o
-  pub small : at + length (join new) < 4294967296
-
--- they are written, and the last ends at r
-pub record Written (d o : List ℕ) (at row : ℕ) (new : List (List ℕ)) (d′ o′ : List ℕ) (r : ℕ) : Type 0 where
-  pub bytes : d′ ≡ put d at (join new)
-  pub rows : o′ ≡ put o (2 * row) (rowsFrom at new)
-  pub ends : r ≡ at + length (join new)
 
 -- the bytes of the table of layout l at `head`
 abbrev pub oldTable : List ℕ → ℕ → Layout → List ℕ

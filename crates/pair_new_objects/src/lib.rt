@@ -1,5 +1,6 @@
 // The new objects of a split, in document 01's order: how many bytes they take, and their bytes and rows.
-use glyph_sort::sort_pairs;
+use cut_parts::cut_after;
+use cut_parts::part_end;
 use ot_class_def_writer::class_def_length;
 use ot_class_def_writer::write_class_def;
 use ot_coverage_writer::coverage_length;
@@ -10,67 +11,16 @@ use pair_new_table::write_format2;
 use store_object_rows::put_object;
 ghost use mathlib.Core.Path.{_≡_};
 ghost use mathlib.Core.List.{_∷_};
-ghost use Prim.Native.Nat.{_+_, _-_, _*_, _≤_, _<_};
+ghost use Prim.Native.Nat.{_+_, _≤_};
 ghost use lib.ListN.{length, getD};
-ghost use Rattle.folds.specs.Lists.{put, join};
+ghost use Rattle.folds.specs.Lists.{join};
 ghost use Rattle.ot_layouts.specs.PairPos.{shapeOf};
 ghost use Rattle.pair_new_table.specs.Cloned.{Cloned};
 ghost use Rattle.folds.specs.Moments.{came, left};
-ghost use Rattle.pair_new_objects.specs.Tables.{paired, PartEnd, Beside, Planned};
-ghost use Rattle.pair_new_objects.specs.Order.{glyphOrder, itemOrder, Sorted, Ordered};
-ghost use Rattle.pair_new_objects.specs.Objects.{partsOf, Room, Written, oldTable, Old, tableOf, tablesOf, objectsOf, Length};
-
-// Where the part of the classes from `from` on that lie below `hi` ends.
-fn part_end(classes: &[u16], from: usize, hi: u16) -> usize
-    requires { ⌜ from ≤ length (now classes) ⌝ }
-    ensures { λ r. ⌜ PartEnd (came classes) from hi r ⌝ }
-{
-    let mut at = from;
-    while at < classes.len() {
-        if hi <= classes[at] {
-            return at;
-        }
-        at += 1;
-    }
-    at
-}
-
-// The cut behind cut j, or the count of items where j is the last.
-fn cut_after(cuts: &[u16], j: usize, count: u16) -> u16
-    requires { ⌜ j < length (now cuts) ⌝ }
-    ensures { λ r. ⌜ r ≡ getD (came cuts) (j + 1) count ⌝ }
-{
-    if j + 1 < cuts.len() {
-        return cuts[j + 1];
-    }
-    count
-}
-
-// Puts the pairs from `a` up to `b` in order by glyph.
-fn order_part(glyphs: &mut [u16], classes: &mut [u16], a: usize, b: usize)
-    requires { ⌜ (a ≤ b) × (b ≤ length (now glyphs)) × (length (now classes) ≡ length (now glyphs)) ⌝ }
-    ensures { λ _. ⌜ left glyphs ≡ put (came glyphs) a (glyphOrder (came glyphs) (came classes) a b) ⌝ }
-    ensures { λ _. ⌜ left classes ≡ put (came classes) a (itemOrder (came glyphs) (came classes) a b) ⌝ }
-{
-    sort_pairs(&mut glyphs[a..b], &mut classes[a..b]);
-}
-
-// Puts the part of each table back in order by glyph, where glyphs and classes are in order by class.
-pub fn order_parts(glyphs: &mut [u16], classes: &mut [u16], cuts: &[u16], count: u16)
-    requires { ⌜ Sorted (now glyphs) (now classes) (now cuts) count ⌝ }
-    ensures { λ _. ⌜ Ordered (came glyphs) (came classes) (came cuts) count (left glyphs) (left classes) ⌝ }
-{
-    let mut at = 0;
-    let mut k = 0;
-    while k < cuts.len() {
-        let end = part_end(classes, at, cuts[k]);
-        order_part(glyphs, classes, at, end);
-        at = end;
-        k += 1;
-    }
-    let end = part_end(classes, at, count);
-    order_part(glyphs, classes, at, end);
-}
+ghost use Rattle.cut_parts.specs.Tables.{paired, PartEnd};
+ghost use Rattle.store_object_rows.specs.Objects.{Room, Written};
+ghost use Rattle.pair_new_objects.specs.Planned.{Beside, Planned};
+ghost use Rattle.pair_new_objects.specs.Objects.{partsOf, oldTable, Old, tableOf, tablesOf, objectsOf, Length};
 
 // How many bytes the coverage of a table takes, and in format 2 its class definition 1.
 fn parts_length(glyphs: &[u16], classes: &[u16], format: u16, first: u16) -> usize

@@ -3,6 +3,7 @@ use Prim.Native.Nat.{ℕ, _*_, _≤_, _<_}
 use mathlib.Core.Path.{_≡_, sym, ap, ap₂, subst, _∙_}
 use mathlib.Core.Bool.{Bool}
 use mathlib.Core.List.{List}
+use mathlib.Core.Logic.{_⊎_, inr}
 use mathlib.Core.Option.{some}
 use native.Mathlib.Omega.{arith}
 use lib.ListN.{length, getD}
@@ -23,6 +24,7 @@ use Rattle.pair_checks.specs.Opens.{Opens}
 use Rattle.pair_plan.specs.declared.Plan.{Plan}
 use Rattle.pair_plan.specs.declared.Decision.the-variants.{Cut, Settled}
 use Rattle.call_rules.specs.Scratch.{lengthsOf}
+use Rattle.pair_checks.specs.Checked.{checkedAs}
 use Rattle.pair_checks.specs.Called.{calledOf}
 use Rattle.pair_plan.specs.Cutting.{Looked, CutsTable}
 use Rattle.pair_plan.specs.Decided.{Planned, Decided}
@@ -33,16 +35,16 @@ use Rattle.pair_checks.proofs.Called.{lookedLast, called, Passed, passed}
 settles : (s : Store) (t : ℕ) (w : Scratch) (a : Answer) {gs ks cuts : List ℕ} → firstCase (cutCases s t w) ≡ some (number a) → Decided s t w (Settled a) gs ks cuts
 settles s t w a e = record { answers = e; plans = λ p x. let z : _≡_ {A = ℕ} 0 1 = cc in absurd (omega arith) }
 
-pub decided-settled : (s : Store) (t : ℕ) (w : Scratch) {x : Checked} {a : Answer} {gs ks cuts : List ℕ} → x ≡ calledOf s t (lengthsOf w) → x ≡ Checked.Settled a → Decided s t w (Settled a) gs ks cuts
-decided-settled s t w {a = a} e y = settles s t w a (called s t w ∙ ap (λ (x : Checked). lookedLast x (onCycle s t)) (sym e ∙ y))
+pub decided-settled : (s : Store) (t : ℕ) (w : Scratch) {x : Checked} {a : Answer} {gs ks cuts : List ℕ} → checkedAs x ≡ calledOf s t (lengthsOf w) → x ≡ Checked.Settled a → Decided s t w (Settled a) gs ks cuts
+decided-settled s t w {a = a} e y = settles s t w a (called s t w ∙ ap (λ (x : ℕ ⊎ PairTable). lookedLast x (onCycle s t)) (sym e ∙ ap checkedAs y))
 
 -- ---- the rest of 7, and the cuts
 
-module _ (b o l c : List ℕ) (t : ℕ) (w : Scratch) (p : PairTable) (e : calledOf (lent b o l c) t (lengthsOf w) ≡ Checked.Open p) where
+module _ (b o l c : List ℕ) (t : ℕ) (w : Scratch) (p : PairTable) (e : calledOf (lent b o l c) t (lengthsOf w) ≡ checkedAs (Checked.Open p)) where
   pass : Passed (lent b o l c) t (lengthsOf w) p
   pass = passed (lent b o l c) t (lengthsOf w) p e
 
-  last : {cycle : Bool} → cycle ≡ onCycle (lent b o l c) t → firstCase (cutCases (lent b o l c) t w) ≡ lookedLast (Checked.Open p) cycle
+  last : {cycle : Bool} → cycle ≡ onCycle (lent b o l c) t → firstCase (cutCases (lent b o l c) t w) ≡ lookedLast (inr p) cycle
   last h = called (lent b o l c) t w ∙ ap₂ lookedLast e (sym h)
 
   -- the table is open, and the walk's scratch long enough

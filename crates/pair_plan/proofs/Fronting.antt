@@ -11,7 +11,7 @@ use Rattle.store_rules.specs.Store.{Store}
 use Rattle.pair_rules.specs.Table.{entriesOf}
 use Rattle.pair_checks.specs.declared.PairTable.{PairTable}
 use Rattle.pair_points.specs.Filled.{Placed}
-use Rattle.pair_row_classes.specs.Classes.{Ordered}
+use Rattle.glyph_class_parts.specs.ClassParts.{Ordered}
 use Rattle.pair_plan.specs.Cutting.{Gathering, Looked2, Looked, CutsByClass}
 
 front-long : (xs : List ℕ) (n : ℕ) → n ≤ length xs → length (part xs 0 n) ≡ n

@@ -24,10 +24,10 @@ use Rattle.glyph_sort.specs.Pairs.{pairs, inOrder, keysOf, besideOf}
 use Rattle.pair_checks.specs.declared.PairTable.{PairTable}
 use Rattle.pair_checks.specs.Opens.{Opens}
 use Rattle.pair_checks.proofs.Refusals.{format-two}
-use Rattle.pair_row_classes.specs.Classes.{Ordered}
+use Rattle.glyph_class_parts.specs.ClassParts.{Ordered}
 use Rattle.pair_points.proofs.Callers.{sorted}
 use Rattle.pair_plan.specs.Cutting.{Gathering}
-use Rattle.pair_plan.proofs.Looking.{part-inside}
+use Rattle.glyph_parts.proofs.Parts.{part-inside}
 
 module _ {s : Store} {t : ℕ} {p : PairTable} {gs ks : List ℕ} (k : Gathering s t p gs ks) where
   abbrev o : Opens s t p
@@ -37,10 +37,10 @@ module _ {s : Store} {t : ℕ} {p : PairTable} {gs ks : List ℕ} (k : Gathering
   two = format-two o (k .two)
 
   pub coverage-inside : Inside (length (s .bytes)) (s .objects) (p .coverage .object)
-  coverage-inside = part-inside o (o .coverage)
+  coverage-inside = part-inside (o .reads .sounds) (o .coverage)
 
   pub class1-inside : Inside (length (s .bytes)) (s .objects) (p .class1 .object)
-  class1-inside = part-inside o (o .class1 two)
+  class1-inside = part-inside (o .reads .sounds) (o .class1 two)
 
   -- as many as there is room for
   glyphs-many : length (glyphsOf s t) ≡ length gs

@@ -1,7 +1,6 @@
 pub mod Looking
 pub mod Gathering
 pub mod Fronting
-pub mod Copying
 pub mod Planning
 pub mod Deciding
 pub mod Counting

@@ -17,15 +17,14 @@ use Rattle.ot_pairpos.specs.Layout.{layoutOf}
 use Rattle.store_rules.specs.Store.{Store, lent, bytesOf, sizeOf, linkedAt}
 use Rattle.pair_rules.specs.Table.{shape}
 use Rattle.store_rules.proofs.Sound.{Fits, sound-fits, size-bytes}
-use Rattle.store_rules.proofs.Lookups.{child-used}
 use Rattle.pair_rules.proofs.Checks.{count-bits}
-use Rattle.store_reader.specs.Rows.{Inside}
-use Rattle.store_reader.proofs.Bytes.{inside}
 use Rattle.store_walk.specs.Marks.{noRow, Prepared, Ready}
-use Rattle.pair_checks.specs.declared.Part.{Part}
+use Rattle.glyph_parts.specs.declared.Part.{Part}
+use Rattle.glyph_parts.specs.Parts.{LinkedPart}
+use Rattle.glyph_parts.proofs.Parts.{part-inside}
 use Rattle.pair_checks.specs.declared.PairTable.{PairTable}
 use Rattle.pair_checks.proofs.Refusals.{format-one, format-two}
-use Rattle.pair_checks.specs.Opens.{LinkedPart, Opens}
+use Rattle.pair_checks.specs.Opens.{Opens}
 use Rattle.glyph_set.specs.GlyphSet.{Empty}
 use Rattle.pair_points.specs.declared.«table_info».TableInfo.{TableInfo}
 use Rattle.pair_points.specs.Filled.{Described, Unseen, TellsCycle, Placed}
@@ -40,11 +39,8 @@ module _ {s : Store} {t : ℕ} {p : PairTable} (o : Opens s t p) where
   fits : Fits s
   fits = sound-fits s (o .reads .sounds)
 
-  pub part-inside : {read : List ℕ → Reading} {q : ℕ} {d : Part} → LinkedPart read s t q d → Inside (length (s .bytes)) (s .objects) (d .object)
-  part-inside {read} {q} {d} l = inside s fits (d .object) (child-used s t fits q (d .object) (l .child))
-
   part-beside : {read : List ℕ → Reading} {q : ℕ} {d : Part} → LinkedPart read s t q d → Beside (s .objects) (d .object)
-  part-beside l = let i = part-inside l in (i .row, i .ordered)
+  part-beside l = let i = part-inside (o .reads .sounds) l in (i .row, i .ordered)
 
   same-size : {read : List ℕ → Reading} {q : ℕ} {d : Part} → LinkedPart read s t q d → infoOf (s .objects) t p (d .object) .beside ≡ sizeOf s (linkedAt s t q)
   same-size l = ap (sizeOf s) (l .linked)

@@ -13,7 +13,7 @@ use Rattle.pair_checks.specs.declared.PairTable.{PairTable}
 use Rattle.pair_checks.specs.Opens.{Opens}
 use Rattle.pair_points.specs.declared.«table_info».TableInfo.{TableInfo}
 use Rattle.glyph_sort.specs.ByClass.{classPairs}
-use Rattle.pair_row_classes.specs.Classes.{Ordered}
+use Rattle.glyph_class_parts.specs.ClassParts.{Ordered}
 use Rattle.pair_points.specs.Filled.{TellsCycle, Placed}
 
 -- ---- the object beside the items

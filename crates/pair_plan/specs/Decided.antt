@@ -1,17 +1,15 @@
 -- What is decided before anything is written, and what a cut plan hands out. Assumes nothing.
 use Prim.Native.Nat.{ℕ, _≤_, _<_}
 use mathlib.Core.Path.{_≡_}
-use mathlib.Core.Bool.{cond}
 use mathlib.Core.List.{List}
 use mathlib.Core.Option.{Option, some, none}
 use lib.ListN.{length}
-use lib.Dec.{ltb}
-use Rattle.folds.specs.Lists.{put, part}
-use Rattle.call_rules.specs.declared.Answer.the-variants.{NoRoom}
+use Rattle.folds.specs.Lists.{part}
 use Rattle.store_rules.specs.Store.{Store}
 use Rattle.call_rules.specs.Scratch.{Scratch}
 use Rattle.call_rules.specs.Answers.{number, firstCase}
 use Rattle.pair_rules.specs.Calls.{cutCases}
+use Rattle.call_lists.specs.Handed.{Handed, handed, placesHanded}
 use Rattle.pair_checks.specs.Opens.{Opens}
 use Rattle.pair_plan.specs.declared.Plan.{Plan}
 use Rattle.pair_plan.specs.declared.Decision.{Decision}
@@ -35,20 +33,10 @@ pub record Decided (s : Store) (t : ℕ) (w : Scratch) (d : Decision) (gs ks cut
 
 -- ---- what a cut plan hands out
 
--- the answer, the count, and the list of places
-pub record Handed : Type 0 where
-  pub answer : ℕ
-  pub count : ℕ
-  pub list : List ℕ
-
--- for contracts
-abbrev pub handed : ℕ → ℕ → List ℕ → Handed
-handed n k list = record { answer = n; count = k; list = list }
-
 -- "refuses as a split does by 1 to 7, and by 8 where places is shorter than the cuts"
 unfoldable pub handedOut : Decision → List ℕ → List ℕ → Handed
 handedOut (Settled a) cuts list = handed (number a) 0 list
-handedOut (Cut p) cuts list = cond (ltb (length list) (p .cuts)) (handed (number NoRoom) 0 list) (handed 0 (p .cuts) (put list 0 (part cuts 0 (p .cuts))))
+handedOut (Cut p) cuts list = placesHanded (part cuts 0 (p .cuts)) list
 
 -- the cuts of a plan stand at the front of the scratch, and can be counted
 abbrev pub HandingOut : Decision → List ℕ → Type 0

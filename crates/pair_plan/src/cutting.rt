@@ -16,7 +16,7 @@ ghost use lib.ListN.{length};
 ghost use Rattle.store_rules.specs.Store.{lent};
 ghost use Rattle.pair_points.specs.Filled.{TellsCycle};
 ghost use Rattle.folds.specs.Moments.{came, left};
-ghost use Rattle.store_rules.specs.Moments.{storeCame, storeNow};
+ghost use Rattle.store_rules.specs.Moments.{storeCameWith, storeNowWith};
 ghost use Rattle.pair_plan.specs.Cutting.{Gathering, Gathers, Beside, infoOf, Looked1, Places1, Tells1, Looked2, Places2, Tells2, Looked, CutsByClass, CutsTable};
 
 // What the cut rules ask of the table; object `beside` is the one whose length they ask. The marks of their walks come after that of the walk of the header's links.
@@ -39,15 +39,15 @@ fn info_of(objects: &[u32], table: u32, opened: PairTable, beside: u32) -> Table
 fn cut_sets(
     objects: &[u32],
     links: &[u32],
-    counts: &[u32; 3],
+    counts: [u32; 3],
     table: u32,
     opened: PairTable,
     walk: &mut [u32],
     cuts: &mut [u16],
 ) -> usize
-    requires { ⌜ ((b : List ℕ) × Looked1 (lent b (now objects) (now links) (now counts)) table opened (now walk) (now cuts)) ⌝ }
-    ensures { λ r. ⌜ Places1 (came objects) (came links) (came counts) table opened (came walk) (came cuts) (left cuts) r ⌝ }
-    ensures { λ _. ⌜ Tells1 (came objects) (came links) (came counts) table opened (came walk) (came cuts) (left walk) ⌝ }
+    requires { ⌜ ((b : List ℕ) × Looked1 (lent b (now objects) (now links) counts) table opened (now walk) (now cuts)) ⌝ }
+    ensures { λ r. ⌜ Places1 (came objects) (came links) counts table opened (came walk) (came cuts) (left cuts) r ⌝ }
+    ensures { λ _. ⌜ Tells1 (came objects) (came links) counts table opened (came walk) (came cuts) (left walk) ⌝ }
 {
     let coverage = opened.coverage;
     let info = info_of(objects, table, opened, coverage.object);
@@ -87,7 +87,7 @@ fn gather(
 fn cut_rows(
     objects: &[u32],
     links: &[u32],
-    counts: &[u32; 3],
+    counts: [u32; 3],
     table: u32,
     opened: PairTable,
     glyphs: &[u16],
@@ -98,15 +98,15 @@ fn cut_rows(
 ) -> usize
     requires { ⌜
         ((b : List ℕ)
-        × Looked2 (lent b (now objects) (now links) (now counts)) table opened (now glyphs) (now classes) (now walk) (now «glyph_set»)
+        × Looked2 (lent b (now objects) (now links) counts) table opened (now glyphs) (now classes) (now walk) (now «glyph_set»)
         (now cuts))
         ⌝ }
     ensures { λ r. ⌜
-        Places2 (came objects) (came links) (came counts) table opened (came glyphs) (came classes) (came walk) (came «glyph_set»)
+        Places2 (came objects) (came links) counts table opened (came glyphs) (came classes) (came walk) (came «glyph_set»)
         (came cuts) (left cuts) r
         ⌝ }
     ensures { λ _. ⌜
-        Tells2 (came objects) (came links) (came counts) table opened (came glyphs) (came classes) (came walk) (came «glyph_set»)
+        Tells2 (came objects) (came links) counts table opened (came glyphs) (came classes) (came walk) (came «glyph_set»)
         (came cuts) (left walk)
         ⌝ }
 {
@@ -131,7 +131,7 @@ fn cut_by_class(
     data: &[u8],
     objects: &[u32],
     links: &[u32],
-    counts: &[u32; 3],
+    counts: [u32; 3],
     table: u32,
     opened: PairTable,
     walk: &mut [u32],
@@ -141,14 +141,14 @@ fn cut_by_class(
     cuts: &mut [u16],
 ) -> usize
     requires { ⌜
-        Looked (storeNow «data» objects links counts) table opened (now walk) (now «glyph_set») (now glyphs) (now classes) (now cuts)
+        Looked (storeNowWith «data» objects links counts) table opened (now walk) (now «glyph_set») (now glyphs) (now classes) (now cuts)
         ⌝ }
     requires { ⌜ (opened .layout .format ≡ 1 → ⊥) ⌝ }
     ensures { λ r. ⌜
-        CutsByClass (storeCame «data» objects links counts) table (came glyphs) (came classes) (came cuts) (left glyphs) (left classes)
+        CutsByClass (storeCameWith «data» objects links counts) table (came glyphs) (came classes) (came cuts) (left glyphs) (left classes)
         (left cuts) r
         ⌝ }
-    ensures { λ _. ⌜ TellsCycle (storeCame «data» objects links counts) table (left walk) ⌝ }
+    ensures { λ _. ⌜ TellsCycle (storeCameWith «data» objects links counts) table (left walk) ⌝ }
 {
     let count = opened.glyphs;
     gather(
@@ -178,7 +178,7 @@ pub fn cut_table(
     data: &[u8],
     objects: &[u32],
     links: &[u32],
-    counts: &[u32; 3],
+    counts: [u32; 3],
     table: u32,
     opened: PairTable,
     walk: &mut [u32],
@@ -188,13 +188,13 @@ pub fn cut_table(
     cuts: &mut [u16],
 ) -> usize
     requires { ⌜
-        Looked (storeNow «data» objects links counts) table opened (now walk) (now «glyph_set») (now glyphs) (now classes) (now cuts)
+        Looked (storeNowWith «data» objects links counts) table opened (now walk) (now «glyph_set») (now glyphs) (now classes) (now cuts)
         ⌝ }
     ensures { λ r. ⌜
-        CutsTable (storeCame «data» objects links counts) table opened (came glyphs) (came classes) (came cuts) (left glyphs) (left classes)
+        CutsTable (storeCameWith «data» objects links counts) table opened (came glyphs) (came classes) (came cuts) (left glyphs) (left classes)
         (left cuts) r
         ⌝ }
-    ensures { λ _. ⌜ TellsCycle (storeCame «data» objects links counts) table (left walk) ⌝ }
+    ensures { λ _. ⌜ TellsCycle (storeCameWith «data» objects links counts) table (left walk) ⌝ }
 {
     let layout = opened.layout;
     if layout.format == 1 {

@@ -2,6 +2,7 @@
 // which is the first half of `split_format1` and `split_format2` in the Rust text.
 pub mod cutting;
 
+use call_lists::list_places;
 use call_rules::Answer;
 use call_rules::Lengths;
 use call_rules::number_of;
@@ -16,7 +17,6 @@ ghost use mathlib.Core.Path.{_≡_};
 ghost use mathlib.Core.List.{List};
 ghost use Prim.Native.Nat.{ℕ, _*_, _≤_};
 ghost use lib.ListN.{length, getD};
-ghost use Rattle.folds.specs.Lists.{put};
 ghost use Rattle.store_rules.specs.Store.{lent};
 ghost use Rattle.call_rules.specs.Outcomes.{outcome};
 ghost use Rattle.pair_rules.specs.Calls.{planCall};
@@ -24,10 +24,12 @@ ghost use Rattle.pair_checks.specs.Opens.{Opens};
 ghost use Rattle.store_walk.specs.Marks.{Begun};
 ghost use Rattle.call_rules.specs.Scratch.{lengthsOf};
 ghost use Rattle.folds.specs.Moments.{came, left};
-ghost use Rattle.store_rules.specs.Moments.{storeCame, storeNow};
+ghost use Rattle.store_rules.specs.Moments.{storeCameWith, storeNowWith};
 ghost use Rattle.call_rules.specs.Moments.{scratchCame, scratchLeft, scratchNow};
+ghost use Rattle.pair_checks.specs.Checked.{checkedAs};
 ghost use Rattle.pair_checks.specs.Called.{calledOf};
-ghost use Rattle.pair_plan.specs.Decided.{Decided, handed, handedOut, HandingOut};
+ghost use Rattle.call_lists.specs.Handed.{handed};
+ghost use Rattle.pair_plan.specs.Decided.{Decided, handedOut, HandingOut};
 
 // A table that is not refused, and how many cuts it gets; they stand at the front of the scratch.
 pub struct Plan {
@@ -45,15 +47,15 @@ pub enum Decision {
 fn begin_walk(
     objects: &[u32],
     links: &[u32],
-    counts: &[u32; 3],
+    counts: [u32; 3],
     table: u32,
     opened: PairTable,
     walk: &mut [u32],
 )
-    requires { ⌜ ((b : List ℕ) × Opens (lent b (now objects) (now links) (now counts)) table opened) ⌝ }
-    requires { ⌜ 2 * getD (now counts) 1 0 ≤ length (now walk) ⌝ }
+    requires { ⌜ ((b : List ℕ) × Opens (lent b (now objects) (now links) counts) table opened) ⌝ }
+    requires { ⌜ 2 * getD counts 1 0 ≤ length (now walk) ⌝ }
     ensures { λ _. ⌜
-        ((b : List ℕ) → Begun (lent b (came objects) (came links) (came counts)) table (opened .layout .header) (left walk))
+        ((b : List ℕ) → Begun (lent b (came objects) (came links) counts) table (opened .layout .header) (left walk))
         ⌝ }
 {
     let layout = opened.layout;
@@ -66,7 +68,7 @@ pub fn decide_cuts(
     data: &[u8],
     objects: &[u32],
     links: &[u32],
-    counts: &[u32; 3],
+    counts: [u32; 3],
     table: u32,
     opened: PairTable,
     walk: &mut [u32],
@@ -76,11 +78,11 @@ pub fn decide_cuts(
     cuts: &mut [u16],
 ) -> Decision
     requires { ⌜
-        calledOf (storeNow «data» objects links counts) table (lengthsOf (scratchNow walk «glyph_set» glyphs classes cuts)) ≡ Checked.Open
-        opened
+        calledOf (storeNowWith «data» objects links counts) table (lengthsOf (scratchNow walk «glyph_set» glyphs classes cuts)) ≡ checkedAs
+        (Checked.Open opened)
         ⌝ }
     ensures { λ r. ⌜
-        Decided (storeCame «data» objects links counts) table (scratchCame walk «glyph_set» glyphs classes cuts) r (left glyphs)
+        Decided (storeCameWith «data» objects links counts) table (scratchCame walk «glyph_set» glyphs classes cuts) r (left glyphs)
         (left classes) (left cuts)
         ⌝ }
 {
@@ -112,7 +114,7 @@ pub fn decide(
     data: &[u8],
     objects: &[u32],
     links: &[u32],
-    counts: &[u32; 3],
+    counts: [u32; 3],
     table: u32,
     walk: &mut [u32],
     glyph_set: &mut [u8],
@@ -121,7 +123,7 @@ pub fn decide(
     cuts: &mut [u16],
 ) -> Decision
     ensures { λ r. ⌜
-        Decided (storeCame «data» objects links counts) table (scratchCame walk «glyph_set» glyphs classes cuts) r (left glyphs)
+        Decided (storeCameWith «data» objects links counts) table (scratchCame walk «glyph_set» glyphs classes cuts) r (left glyphs)
         (left classes) (left cuts)
         ⌝ }
 {
@@ -151,18 +153,6 @@ pub fn decide(
     }
 }
 
-// Copies the places to the front of the list.
-fn copy_places(cuts: &[u16], places: &mut [u16])
-    requires { ⌜ length (now cuts) ≤ length (now places) ⌝ }
-    ensures { λ _. ⌜ left places ≡ put (came places) 0 (came cuts) ⌝ }
-{
-    let mut k: usize = 0;
-    while k < cuts.len() {
-        places[k] = cuts[k];
-        k += 1;
-    }
-}
-
 // Hands out what was decided: the answer, and where it is 0 the places and their count.
 fn hand_out(decision: Decision, cuts: &[u16], places: &mut [u16], place_count: &mut u32) -> u32
     requires { ⌜ HandingOut decision (now cuts) ⌝ }
@@ -175,13 +165,7 @@ fn hand_out(decision: Decision, cuts: &[u16], places: &mut [u16], place_count: &
         }
         Decision::Cut(plan) => {
             let count = plan.cuts;
-            if places.len() < count {
-                *place_count = 0;
-                return number_of(Answer::NoRoom);
-            }
-            copy_places(&cuts[0..count], places);
-            *place_count = count as u32;
-            0
+            list_places(&cuts[0..count], places, place_count)
         }
     }
 }
@@ -191,7 +175,7 @@ pub fn cut_plan(
     data: &[u8],
     objects: &[u32],
     links: &[u32],
-    counts: &[u32; 3],
+    counts: [u32; 3],
     table: u32,
     walk: &mut [u32],
     glyph_set: &mut [u8],
@@ -202,9 +186,9 @@ pub fn cut_plan(
     place_count: &mut u32,
 ) -> u32
     ensures { λ r. ⌜
-        outcome r (left «place_count») (storeCame «data» objects links counts) (left places)
+        outcome r (left «place_count») (storeCameWith «data» objects links counts) (left places)
         (scratchLeft walk «glyph_set» glyphs classes cuts)
-        ≡ planCall (storeCame «data» objects links counts) table (scratchCame walk «glyph_set» glyphs classes cuts) (came places)
+        ≡ planCall (storeCameWith «data» objects links counts) table (scratchCame walk «glyph_set» glyphs classes cuts) (came places)
         ⌝ }
 {
     let decision = decide(

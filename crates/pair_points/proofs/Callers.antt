@@ -11,7 +11,7 @@ use Rattle.glyph_sort.specs.Pairs.{pairs, inOrder, keysOf, besideOf}
 use Rattle.glyph_sort.specs.ByClass.{classPairs}
 use Rattle.pair_points.specs.declared.«table_info».TableInfo.{TableInfo}
 use Rattle.pair_points.specs.Filled.{Described}
-use Rattle.pair_row_classes.specs.Classes.{Ordered}
+use Rattle.glyph_class_parts.specs.ClassParts.{Ordered}
 
 -- the checks up to 5
 pub described : {s : Store} {x : TableInfo} → Reads s (x .table) → x .header ≡ shape s (x .table) .header → x .item ≡ shape s (x .table) .item → x .count ≡ shape s (x .table) .count → x .epoch + x .count < 2147483648 → Described s x

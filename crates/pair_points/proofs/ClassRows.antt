@@ -1,24 +1,23 @@
 -- Format 2: the rule of a table, and one class-1 row after another. Assumes nothing.
 use Prim.Native.Nat.{ℕ, _+_, _-_, _*_, _≤_, _<_, min, max}
-use mathlib.Core.Path.{_≡_, refl, sym, ap, subst, _∙_}
+use mathlib.Core.Path.{_≡_, sym, ap, subst, _∙_}
 use mathlib.Core.Bool.{true, false}
 use mathlib.Core.List.{List}
-use mathlib.Core.Option.{Option, some, none, Option·getD}
 use native.Mathlib.Nat.{mul-le-mul-left}
 use native.Mathlib.Omega.{arith}
 use lib.Dec.{eqb}
 use lib.ListN.{length}
 use Rattle.ot_layouts.specs.PairPos.{itemAt}
 use Rattle.ot_layouts.proofs.Shapes.{format-two}
-use Rattle.store_rules.specs.Store.{Store, lent, bytesOf, sizeOf, childAt, linkedAt}
+use Rattle.store_rules.specs.Store.{Store, lent, bytesOf, sizeOf, linkedAt}
 use Rattle.store_rules.specs.Reach.{itemSize}
 use Rattle.cut_rules.specs.Cuts.{Rule, weigh, after}
 use Rattle.glyph_rules.specs.Entries.{within}
 use Rattle.glyph_rules.specs.Estimates.{estimate, coverSize, classSize, besideRows}
 use Rattle.pair_rules.specs.Rules.{rule2}
 use Rattle.pair_rules.specs.Table.{shape, entriesOf, ruleOf, ofItems}
-use Rattle.store_rules.proofs.Sound.{Fits, sound-fits}
-use Rattle.store_rules.proofs.Lookups.{child-used}
+use Rattle.store_rules.proofs.Sound.{Fits, sound-fits, size-most}
+use Rattle.store_rules.proofs.Lookups.{linked-used}
 use Rattle.store_reader.specs.Rows.{keyOf, FirstRow}
 use Rattle.glyph_estimator.specs.declared.Estimator.{Estimator}
 use Rattle.glyph_estimator.specs.States.{valuesOf, Small}
@@ -32,7 +31,7 @@ use Rattle.pair_points.specs.Measuring.{Measures}
 use Rattle.pair_points.specs.Filled.{Described, cuttingAt, TellsCycle, Placed}
 use Rattle.pair_row_classes.specs.Classes.{Holds, Begins}
 use Rattle.pair_points.specs.Format2.{Ready2, Below2}
-use Rattle.pair_points.proofs.Turns.{item-ends, filled-start, filled-stop, filled-back, added, cut}
+use Rattle.pair_points.proofs.Turns.{item-ends, filled-start, at-start, filled-stop, filled-back, added, cut}
 
 -- ---- the rule of a table of format 2
 
@@ -61,17 +60,9 @@ module _ (s : Store) (t : ℕ) (two : eqb (shape s t .format) 1 ≡ false) where
 
 -- an object that is linked, or the first one, lies within the data
 pub linked-most : {s : Store} {x : TableInfo} → Described s x → (q : ℕ) → sizeOf s (linkedAt s (x .table) q) ≤ 16777216
-linked-most {s} {x} u q = go (childAt s (x .table) q) refl
-  where
-    fits : Fits s
-    fits = sound-fits s (u .is-sound)
-
-    most : (c : ℕ) → c < s .objectCount → sizeOf s c ≤ 16777216
-    most c h = omega (arith, fits .object c h .inside, fits .bytesMost)
-
-    go : (o : Option ℕ) → childAt s (x .table) q ≡ o → sizeOf s (Option·getD o 0) ≤ 16777216
-    go none e = most 0 (omega (arith, u .used))
-    go (some c) e = most c (child-used s (x .table) fits q c e)
+linked-most {s} {x} u q =
+    let fits : Fits s = sound-fits s (u .is-sound) in
+    size-most s fits (linkedAt s (x .table) q) (linked-used s (x .table) fits (u .used) q)
 
 less : (n m : ℕ) → n - m ≤ n
 less n m = omega arith
@@ -95,7 +86,10 @@ rows-start {s} {x} v a g z =
     let start = start-two s (x .table) (v .table .format) in
     record {
       table = v .table;
-      filled = filled-start (v .table .described) (ruleOf s (x .table)) (v .unseen) (a (ruleOf s (x .table)) start) (omega (arith, start)) (sym (format-two (bytesOf s (x .table)) (v .table .format) .headerIs)) g;
+      filled = filled-start (v .table .described) (v .unseen) (a (ruleOf s (x .table)) start) (omega (arith, start));
+      at =
+          at-start (v .table .described) (v .unseen) (a (ruleOf s (x .table)) start)
+          (sym (format-two (bytesOf s (x .table)) (v .table .format) .headerIs)) g;
       held = z _ _ _ _ (v .table .ordered) (v .empty) (v .long);
     }
 
@@ -128,20 +122,20 @@ module _ {s : Store} {x : TableInfo} {gs cs d : List ℕ} {i : ℕ} {p : Rows} {
     -- no cut
     pub row-added : f′ .cuts ≡ p .filling .cuts → Below2 s x gs cs d (i + 1) (record { filling = f′; row = m .next; classes = k }) w′ set′ l′
     row-added e =
-        let (f, q) = added (ruleOf s (x .table)) (v .filled) y (x .item + m .size) looks costs listed e in
-        record { table = v .table; filled = f; held = subst (λ (n : ℕ). Holds (entriesOf s (x .table)) gs n (i + 1) k set′) (sym q) h }
+        let (f, a, q) = added s x (v .filled) y (x .item + m .size) looks costs listed e in
+        record { table = v .table; filled = f; at = a; held = subst (λ (n : ℕ). Holds (entriesOf s (x .table)) gs n (i + 1) k set′) (sym q) h }
 
     -- a cut
     pub row-cut : (f′ .cuts ≡ p .filling .cuts → ⊥) → {k′ : Classes} {set″ : List ℕ} → Holds (entriesOf s (x .table)) gs i (i + 1) k′ set″ → Below2 s x gs cs d (i + 1) (record { filling = f′; row = m .next; classes = k′ }) w′ set″ l′
     row-cut e {k′} {set″} h′ =
-        let (f, q) = cut (ruleOf s (x .table)) (v .filled) y (x .item + m .size) looks costs listed e (omega (arith, row-most, y .most, start-two s (x .table) (v .table .format))) in
-        record { table = v .table; filled = f; held = subst (λ (n : ℕ). Holds (entriesOf s (x .table)) gs n (i + 1) k′ set″) (sym q) h′ }
+        let (f, a, q) = cut s x (v .filled) y (x .item + m .size) looks costs listed e (omega (arith, row-most, y .most, start-two s (x .table) (v .table .format))) in
+        record { table = v .table; filled = f; at = a; held = subst (λ (n : ℕ). Holds (entriesOf s (x .table)) gs n (i + 1) k′ set″) (sym q) h′ }
 
 pub rows-stop : {s : Store} {x : TableInfo} {gs cs d : List ℕ} {i : ℕ} {p : Rows} {w set l : List ℕ} → Below2 s x gs cs d i p w set l → i ≡ x .count → Placed s (x .table) d l (p .filling .cuts)
-rows-stop v e = filled-stop (v .table .described) (v .filled) e
+rows-stop {p = p} v e = filled-stop (v .table .described) e (p .filling) (v .filled)
 
 pub rows-back : {s : Store} {x : TableInfo} {gs cs d : List ℕ} {i : ℕ} {p : Rows} {w set l : List ℕ} → Below2 s x gs cs d i p w set l → i ≡ x .count → TellsCycle s (x .table) w
-rows-back v e = filled-back (v .table .described) (v .filled) e
+rows-back {p = p} v e = filled-back (v .table .described) e (p .filling) (v .at)
 
 -- ---- the loop, whatever the bytes of the store
 

@@ -6,12 +6,15 @@ use native.Mathlib.Omega.{arith}
 use Rattle.ot_layouts.specs.PairPos.{Shape, itemAt}
 use Rattle.ot_layouts.proofs.Shapes.{items-rise}
 use Rattle.store_rules.specs.Store.{Store}
+use Rattle.store_rules.specs.Reach.{rowsOf}
+use Rattle.pair_rules.specs.Table.{ofItems}
 use Rattle.store_rules.proofs.Sound.{Fits, sound-fits}
 use Rattle.store_reader.specs.Rows.{keyOf, rowKey, InOrder, FirstRow}
 use Rattle.store_reader.proofs.Rows.{in-order, rows-rise}
-use Rattle.store_walk.specs.Marks.{Walked}
+use Rattle.store_walk.specs.Marks.{Walked, Grown}
 use Rattle.store_walk.proofs.Marks.{marks-next}
-use Rattle.store_walk.proofs.Items.{items, items-none, ItemRows, item-size, item-seen}
+use Rattle.store_walk.proofs.Grown.{grown-item}
+use Rattle.store_walk.proofs.Items.{items, items-none, ItemRows, item-grown}
 use Rattle.store_walk.proofs.Cycles.{item-back}
 use Rattle.pair_points.specs.Measuring.{At, Measures}
 
@@ -33,20 +36,23 @@ module _ {s : Store} {t : ℕ} {sh : Shape} {a i row e : ℕ} {w : List ℕ} (x 
     pub measured : {w′ : List ℕ} {size : ℕ} → Walked s (items s t (itemAt sh) a i) row next e w w′ size → Measures s t sh a i row e w (record { size = size; next = next }) w′
     measured {w′} {size} d =
         record {
-          size = item-size at-fits item-rows (items-rise sh) (x .order) (x .marks) d;
+          size = grown-item (ofItems t sh) a i grown;
           most = d .most;
           later = later;
           after = record {
             is-sound = x .is-sound;
             order = omega (arith, x .order);
             first = item-rows .next;
-            marks = item-seen at-fits item-rows (items-rise sh) (x .order) (x .marks) d;
+            marks = grown .marks;
             used = x .used;
             begun = x .begun;
             back = item-back at-fits item-rows (x .used) (x .begun) a (omega (arith, x .marks .room)) later d (x .back);
           };
         }
       where
+        grown : Grown s (rowsOf s (ofItems t sh) a i) (rowsOf s (ofItems t sh) a (i + 1)) e w′ size
+        grown = item-grown at-fits item-rows (items-rise sh) (x .order) (x .marks) d
+
         later : row ≤ next
         later = rows-rise (x .first) (item-rows .next) (omega (arith, items-rise sh i (i + 1) (omega arith)))
 

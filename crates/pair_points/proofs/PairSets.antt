@@ -16,7 +16,7 @@ use Rattle.folds.proofs.Sums.{sum-zero, sum-bound}
 use Rattle.ot_layouts.specs.PairPos.{itemAt}
 use Rattle.ot_layouts.proofs.Shapes.{format-one}
 use Rattle.ot_layouts.proofs.Slots.{slot-fits}
-use Rattle.store_rules.specs.Store.{Store, lent, bytesOf, sizeOf, parentOf, positionOf, childOf, childAt, linkedAt}
+use Rattle.store_rules.specs.Store.{Store, lent, bytesOf, sizeOf, parentOf, positionOf, childAt, linkedAt}
 use Rattle.store_rules.specs.Reach.{itemSize}
 use Rattle.cut_rules.specs.Cuts.{Rule, weigh, after}
 use Rattle.pair_rules.specs.Rules.{partialCover, rule1}
@@ -24,8 +24,6 @@ use Rattle.pair_rules.specs.Table.{shape, allAtSlots, ruleOf, ofItems}
 use Rattle.pair_rules.proofs.Checks.{at-slot}
 use Rattle.store_rules.proofs.Lookups.{child-row}
 use Rattle.store_reader.specs.Rows.{keyOf, FirstRow}
-use Rattle.store_reader.specs.Children.{asChild}
-use Rattle.store_reader.specs.declared.Child.the-variants.{Of}
 use Rattle.store_reader.proofs.Rows.{position-most, rows-between}
 use Rattle.store_reader.proofs.Children.{child-found}
 use Rattle.cut_filling.specs.declared.Filling.{Filling}
@@ -34,10 +32,10 @@ use Rattle.pair_points.specs.declared.«table_info».TableInfo.{TableInf
 use Rattle.pair_points.specs.declared.format1.Sets.{Sets}
 use Rattle.cut_filling.specs.Filling.{Fills, Weighed, Listed}
 use Rattle.pair_points.specs.Measuring.{At, Measures}
-use Rattle.pair_points.specs.Filled.{cuttingAt, Filled, TellsCycle, Placed}
+use Rattle.pair_points.specs.Filled.{cuttingAt, AtItem, TellsCycle, Placed}
 use Rattle.pair_points.specs.Format1.{Ready1, linked, Below1}
 use Rattle.pair_points.proofs.ItemSizes.{at-fits, at-in-order}
-use Rattle.pair_points.proofs.Turns.{item-ends, filled-start, filled-stop, filled-back, passed, added, cut}
+use Rattle.pair_points.proofs.Turns.{item-ends, filled-start, at-start, filled-stop, filled-back, passed, added, cut}
 
 -- ---- the rule of a table of format 1
 
@@ -64,10 +62,6 @@ module _ (s : Store) (t : ℕ) (one : eqb (shape s t .format) 1 ≡ true) where
 
 -- ---- empty slots
 
-has-one : (o : Option ℕ) (c : ℕ) → Of c ≡ asChild o → isSome o ≡ true
-has-one (some i) c e = refl
-has-one none c e = let z : _≡_ {A = ℕ} 0 1 = cc in absurd (omega arith)
-
 module _ {s : Store} {t a i row e : ℕ} {w : List ℕ} {m : Measured} {w′ : List ℕ} (one : eqb (shape s t .format) 1 ≡ true) (slots : allAtSlots s t ≡ true) (short : itemAt (shape s t) (i + 1) ≤ 4294967296)
     (x : At s t (shape s t) a i row e w) (y : Measures s t (shape s t) a i row e w m w′) where
   in-slot : (k : ℕ) → k < s .linkCount → (leb row k && ltb k (m .next)) ≡ (eqb (parentOf s k) t && leb (itemAt (shape s t) i) (positionOf s k) && ltb (positionOf s k) (itemAt (shape s t) (i + 1)))
@@ -86,7 +80,7 @@ module _ {s : Store} {t a i row e : ℕ} {w : List ℕ} {m : Measured} {w′ : L
       let q : parentOf s row ≡ t = eqb-true (parentOf s row) t parent in
       let g = slot-fits (bytesOf s t) (positionOf s row) (i + 1) (at-slot s t slots row used q) (ltb-true (positionOf s row) (itemAt (shape s t) (i + 1)) below) in
       let z : positionOf s row ≡ itemAt (shape s t) i = omega (arith, leb-true (itemAt (shape s t) i) (positionOf s row) above, slot-wide) in
-      has-one (childAt s t (itemAt (shape s t) i)) (childOf s row) (child-found s t (itemAt (shape s t) i) row (at-in-order x) (x .first) used q z)
+      sym (ap isSome (child-found s t (itemAt (shape s t) i) row (at-in-order x) (x .first) used q z))
 
   -- no row
   pub slot-empty : m .next ≡ row → linked s t i ≡ false
@@ -127,7 +121,10 @@ sets-start {s} {x} v a g =
     let start = start-one s (x .table) (v .table .format) in
     record {
       table = v .table;
-      filled = filled-start (v .table .described) (ruleOf s (x .table)) (v .unseen) (a (ruleOf s (x .table)) start) (omega (arith, start)) (sym (format-one (bytesOf s (x .table)) (v .table .format) .headerIs)) g;
+      filled = filled-start (v .table .described) (v .unseen) (a (ruleOf s (x .table)) start) (omega (arith, start));
+      at =
+          at-start (v .table .described) (v .unseen) (a (ruleOf s (x .table)) start)
+          (sym (format-one (bytesOf s (x .table)) (v .table .format) .headerIs)) g;
       coverage = omega (arith, sum-none (λ k. cond (leb (cuttingAt s x 0 .first) k && linked s (x .table) k) 1 0));
     }
 
@@ -145,17 +142,18 @@ module _ {s : Store} {x : TableInfo} {d : List ℕ} {i : ℕ} {p : Sets} {w l : 
     -- an empty slot
     pub set-passed : m .next ≡ p .row → Below1 s x d (i + 1) p w′ l
     set-passed e =
-        let empty = slot-empty (v .table .format) (v .table .slots) short (v .filled .at) y e in
-        let (f, q) = passed (ruleOf s (x .table)) (v .filled) y (looks-one s (x .table) (v .table .format) i ∙ empty) in
+        let empty = slot-empty (v .table .format) (v .table .slots) short (v .at) y e in
+        let (f, a, q) = passed s x (v .filled) y (looks-one s (x .table) (v .table .format) i ∙ empty) in
         record {
           table = v .table;
-          filled = subst (λ (n : ℕ). Filled s x d (i + 1) (cuttingAt s x (i + 1)) (p .filling) n w′ l) e f;
+          filled = f;
+          at = subst (λ (n : ℕ). AtItem s x (i + 1) (p .filling) n w′) e a;
           coverage = rw q (omega (arith, v .coverage, covered-same s (x .table) (cuttingAt s x i .first) i empty));
         }
 
     module _ (ne : m .next ≡ p .row → ⊥) {beside : ℕ} {f′ : Filling} {l′ : List ℕ} (b : beside ≡ min (p .partial + 2) (x .beside)) (g : Weighed (p .filling) i (m .size + 2) beside 10 l f′ l′) where
       is-linked : linked s (x .table) i ≡ true
-      is-linked = slot-linked (v .table .format) (v .table .slots) short (v .filled .at) y ne
+      is-linked = slot-linked (v .table .format) (v .table .slots) short (v .at) y ne
 
       looks : ruleOf s (x .table) .looks i ≡ true
       looks = looks-one s (x .table) (v .table .format) i ∙ is-linked
@@ -178,20 +176,20 @@ module _ {s : Store} {x : TableInfo} {d : List ℕ} {i : ℕ} {p : Sets} {w l : 
       -- no cut
       pub set-added : f′ .cuts ≡ p .filling .cuts → Below1 s x d (i + 1) (record { filling = f′; row = m .next; partial = p .partial + 2 }) w′ l′
       set-added e =
-          let (f, q) = added (ruleOf s (x .table)) (v .filled) y (m .size + 2) looks costs listed e in
-          record { table = v .table; filled = f; coverage = rw q (omega (arith, v .coverage, one-more)) }
+          let (f, a, q) = added s x (v .filled) y (m .size + 2) looks costs listed e in
+          record { table = v .table; filled = f; at = a; coverage = rw q (omega (arith, v .coverage, one-more)) }
 
       -- a cut
       pub set-cut : (f′ .cuts ≡ p .filling .cuts → ⊥) → Below1 s x d (i + 1) (record { filling = f′; row = m .next; partial = 6 }) w′ l′
       set-cut e =
-          let (f, q) = cut (ruleOf s (x .table)) (v .filled) y (m .size + 2) looks costs listed e (omega (arith, y .most, start-one s (x .table) (v .table .format))) in
-          record { table = v .table; filled = f; coverage = rw q (omega (arith, covered-none s (x .table) i, covered-more s (x .table) i i (omega arith) is-linked)) }
+          let (f, a, q) = cut s x (v .filled) y (m .size + 2) looks costs listed e (omega (arith, y .most, start-one s (x .table) (v .table .format))) in
+          record { table = v .table; filled = f; at = a; coverage = rw q (omega (arith, covered-none s (x .table) i, covered-more s (x .table) i i (omega arith) is-linked)) }
 
 pub sets-stop : {s : Store} {x : TableInfo} {d : List ℕ} {i : ℕ} {p : Sets} {w l : List ℕ} → Below1 s x d i p w l → i ≡ x .count → Placed s (x .table) d l (p .filling .cuts)
-sets-stop v e = filled-stop (v .table .described) (v .filled) e
+sets-stop {p = p} v e = filled-stop (v .table .described) e (p .filling) (v .filled)
 
 pub sets-back : {s : Store} {x : TableInfo} {d : List ℕ} {i : ℕ} {p : Sets} {w l : List ℕ} → Below1 s x d i p w l → i ≡ x .count → TellsCycle s (x .table) w
-sets-back v e = filled-back (v .table .described) (v .filled) e
+sets-back {p = p} v e = filled-back (v .table .described) e (p .filling) (v .at)
 
 -- ---- the loop, whatever the bytes of the store
 

@@ -1,4 +1,4 @@
--- The items below some item in tables, as the code accounts for it and as document 01 does. Assumes nothing.
+-- A table whose items are weighed one after another: before the first, at one of them, and after the last. Assumes nothing.
 use Prim.Native.Nat.{ℕ, _+_, _≤_, _<_}
 use mathlib.Core.Path.{_≡_}
 use mathlib.Core.Bool.{true}
@@ -15,7 +15,6 @@ use Rattle.store_reader.specs.Rows.{keyOf, FirstRow}
 use Rattle.store_walk.specs.Marks.{noRow, Back, Marks}
 use Rattle.cut_filling.specs.declared.Filling.{Filling}
 use Rattle.pair_points.specs.declared.«table_info».TableInfo.{TableInfo}
-use Rattle.cut_filling.specs.Filling.{Listed}
 use Rattle.pair_points.specs.Measuring.{At}
 
 -- the numbers are those of the table, which has passed the checks up to 3
@@ -41,15 +40,9 @@ pub record Unseen (s : Store) (x : TableInfo) (w l : List ℕ) : Type 0 where
 abbrev pub cuttingAt : Store → TableInfo → ℕ → Cutting
 cuttingAt s x i = after (ruleOf s (x .table)) i
 
--- the items below i have been weighed, and c is where document 01 then stands
-pub record Filled (s : Store) (x : TableInfo) (d : List ℕ) (i : ℕ) (c : Cutting) (f : Filling) (row : ℕ) (w l : List ℕ) : Type 0 where
-  pub listed : Listed f c d l
-  pub at : At s (x .table) (shape s (x .table)) (c .seen) i row (x .epoch + f .cuts) w
-  pub first : c .first ≤ i
-  pub few : f .cuts ≤ i
-  -- a header and an item at most, as a sum that goes on stays within 65,535
-  pub small : f .sum ≤ 67108864
-  pub room : x .count ≤ length d
+-- then item i is at hand, and what counts as seen has the mark of this table's epoch
+abbrev pub AtItem : Store → TableInfo → ℕ → Filling → ℕ → List ℕ → Type 0
+AtItem s x i f row w = At s (x .table) (shape s (x .table)) (cuttingAt s x i .seen) i row (x .epoch + f .cuts) w
 
 -- after the last item: the table has a mark exactly if it can be reached from itself
 pub record TellsCycle (s : Store) (t : ℕ) (w : List ℕ) : Type 0 where

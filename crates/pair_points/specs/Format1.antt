@@ -8,10 +8,11 @@ use Rattle.folds.specs.Folds.{sum}
 use Rattle.folds.specs.Lists.{isSome}
 use Rattle.ot_layouts.specs.PairPos.{itemAt}
 use Rattle.store_rules.specs.Store.{Store, lent, sizeOf, childAt, linkedAt}
-use Rattle.pair_rules.specs.Table.{shape, allAtSlots}
+use Rattle.pair_rules.specs.Table.{shape, allAtSlots, ruleOf}
 use Rattle.pair_points.specs.declared.«table_info».TableInfo.{TableInfo}
 use Rattle.pair_points.specs.declared.format1.Sets.{Sets}
-use Rattle.pair_points.specs.Filled.{Described, Unseen, cuttingAt, Filled, TellsCycle, Placed}
+use Rattle.cut_filling.specs.Filling.{Filled}
+use Rattle.pair_points.specs.Filled.{Described, Unseen, cuttingAt, AtItem, TellsCycle, Placed}
 
 -- the table is of format 1, and its links stand at slots
 pub record Table1 (s : Store) (x : TableInfo) : Type 0 where
@@ -32,7 +33,8 @@ linked s t k = isSome (childAt s t (itemAt (shape s t) k))
 -- the pair sets below i have been weighed, and the coverage has the glyphs of those in the table that is being filled
 pub record Below1 (s : Store) (x : TableInfo) (d : List ℕ) (i : ℕ) (p : Sets) (w l : List ℕ) : Type 0 where
   pub table : Table1 s x
-  pub filled : Filled s x d i (cuttingAt s x i) (p .filling) (p .row) w l
+  pub filled : Filled (ruleOf s (x .table)) d i (p .filling) l
+  pub at : AtItem s x i (p .filling) (p .row) w
   pub coverage : p .partial ≡ 4 + 2 * sum (λ k. cond (leb (cuttingAt s x i .first) k && linked s (x .table) k) 1 0) i
 
 -- pair set i was weighed, whatever the bytes of the store

@@ -6,12 +6,14 @@ use mathlib.Core.List.{List}
 use lib.Dec.{eqb}
 use lib.ListN.{length}
 use Rattle.store_rules.specs.Store.{Store, lent, sizeOf, linkedAt}
-use Rattle.pair_rules.specs.Table.{shape, entriesOf}
+use Rattle.pair_rules.specs.Table.{shape, entriesOf, ruleOf}
 use Rattle.glyph_set.specs.GlyphSet.{Empty}
 use Rattle.pair_points.specs.declared.«table_info».TableInfo.{TableInfo}
 use Rattle.pair_points.specs.declared.format2.Rows.{Rows}
-use Rattle.pair_points.specs.Filled.{Described, Unseen, cuttingAt, Filled, TellsCycle, Placed}
-use Rattle.pair_row_classes.specs.Classes.{Ordered, Holds}
+use Rattle.cut_filling.specs.Filling.{Filled}
+use Rattle.pair_points.specs.Filled.{Described, Unseen, cuttingAt, AtItem, TellsCycle, Placed}
+use Rattle.glyph_class_parts.specs.ClassParts.{Ordered}
+use Rattle.pair_row_classes.specs.Classes.{Holds}
 
 -- the table is of format 2, and the glyphs are those that it covers, by class
 pub record Table2 (s : Store) (x : TableInfo) (gs cs : List ℕ) : Type 0 where
@@ -30,7 +32,8 @@ pub record Ready2 (s : Store) (x : TableInfo) (gs cs w set l : List ℕ) : Type 
 -- the rows below i have been weighed, and the estimator has the classes of those in the table that is being filled
 pub record Below2 (s : Store) (x : TableInfo) (gs cs d : List ℕ) (i : ℕ) (p : Rows) (w set l : List ℕ) : Type 0 where
   pub table : Table2 s x gs cs
-  pub filled : Filled s x d i (cuttingAt s x i) (p .filling) (p .row) w l
+  pub filled : Filled (ruleOf s (x .table)) d i (p .filling) l
+  pub at : AtItem s x i (p .filling) (p .row) w
   pub held : Holds (entriesOf s (x .table)) gs (cuttingAt s x i .first) i (p .classes) set
 
 -- row i was weighed, whatever the bytes of the store

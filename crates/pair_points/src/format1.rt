@@ -23,14 +23,14 @@ pub struct Sets {
 pub fn compute_format1_split_points(
     objects: &[u32],
     links: &[u32],
-    counts: &[u32; 3],
+    counts: [u32; 3],
     info: TableInfo,
     walk: &mut [u32],
     cuts: &mut [u16],
 ) -> usize
-    requires { ⌜ ((b : List ℕ) × Ready1 (lent b (now objects) (now links) (now counts)) info (now walk) (now cuts)) ⌝ }
-    ensures { λ r. ⌜ Places1 (came objects) (came links) (came counts) info (came walk) (came cuts) (left cuts) r ⌝ }
-    ensures { λ _. ⌜ Tells1 (came objects) (came links) (came counts) info (came walk) (came cuts) (left walk) ⌝ }
+    requires { ⌜ ((b : List ℕ) × Ready1 (lent b (now objects) (now links) counts) info (now walk) (now cuts)) ⌝ }
+    ensures { λ r. ⌜ Places1 (came objects) (came links) counts info (came walk) (came cuts) (left cuts) r ⌝ }
+    ensures { λ _. ⌜ Tells1 (came objects) (came links) counts info (came walk) (came cuts) (left walk) ⌝ }
 {
     let count = counts[2] as usize;
     let mut sets = Sets {
@@ -50,7 +50,7 @@ pub fn compute_format1_split_points(
 fn weigh_set(
     objects: &[u32],
     links: &[u32],
-    counts: &[u32; 3],
+    counts: [u32; 3],
     info: TableInfo,
     sets: Sets,
     i: u16,
@@ -59,9 +59,9 @@ fn weigh_set(
 ) -> Sets
     requires { ⌜
         (i < info .count)
-        × ((b : List ℕ) × (d : List ℕ) × Below1 (lent b (now objects) (now links) (now counts)) info d i sets (now walk) (now cuts))
+        × ((b : List ℕ) × (d : List ℕ) × Below1 (lent b (now objects) (now links) counts) info d i sets (now walk) (now cuts))
         ⌝ }
-    ensures { λ r. ⌜ Weighs1 (came objects) (came links) (came counts) info i sets (came walk) (came cuts) r (left walk) (left cuts) ⌝ }
+    ensures { λ r. ⌜ Weighs1 (came objects) (came links) counts info i sets (came walk) (came cuts) r (left walk) (left cuts) ⌝ }
 {
     let filling = sets.filling;
     let row = sets.row;

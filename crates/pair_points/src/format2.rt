@@ -21,7 +21,7 @@ pub struct Rows {
 pub fn compute_format2_split_points(
     objects: &[u32],
     links: &[u32],
-    counts: &[u32; 3],
+    counts: [u32; 3],
     info: TableInfo,
     glyphs: &[u16],
     classes: &[u16],
@@ -30,14 +30,14 @@ pub fn compute_format2_split_points(
     cuts: &mut [u16],
 ) -> usize
     requires { ⌜
-        ((b : List ℕ) × Ready2 (lent b (now objects) (now links) (now counts)) info (now glyphs) (now classes) (now walk) (now set)
+        ((b : List ℕ) × Ready2 (lent b (now objects) (now links) counts) info (now glyphs) (now classes) (now walk) (now set)
         (now cuts))
         ⌝ }
     ensures { λ r. ⌜
-        Places2 (came objects) (came links) (came counts) info (came glyphs) (came classes) (came walk) (came set) (came cuts) (left cuts) r
+        Places2 (came objects) (came links) counts info (came glyphs) (came classes) (came walk) (came set) (came cuts) (left cuts) r
         ⌝ }
     ensures { λ _. ⌜
-        Tells2 (came objects) (came links) (came counts) info (came glyphs) (came classes) (came walk) (came set) (came cuts) (left walk)
+        Tells2 (came objects) (came links) counts info (came glyphs) (came classes) (came walk) (came set) (came cuts) (left walk)
         ⌝ }
 {
     let count = counts[2] as usize;
@@ -70,7 +70,7 @@ pub fn compute_format2_split_points(
 fn weigh_row(
     objects: &[u32],
     links: &[u32],
-    counts: &[u32; 3],
+    counts: [u32; 3],
     info: TableInfo,
     rows: Rows,
     i: u16,
@@ -85,10 +85,10 @@ fn weigh_row(
         ×
         ((b : List ℕ)
         × (d : List ℕ)
-        × Below2 (lent b (now objects) (now links) (now counts)) info (now glyphs) (now classes) d i rows (now walk) (now set) (now cuts))
+        × Below2 (lent b (now objects) (now links) counts) info (now glyphs) (now classes) d i rows (now walk) (now set) (now cuts))
         ⌝ }
     ensures { λ r. ⌜
-        Weighs2 (came objects) (came links) (came counts) info (came glyphs) (came classes) i rows (came walk) (came set) (came cuts) r
+        Weighs2 (came objects) (came links) counts info (came glyphs) (came classes) i rows (came walk) (came set) (came cuts) r
         (left walk) (left set) (left cuts)
         ⌝ }
 {

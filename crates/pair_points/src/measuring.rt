@@ -20,7 +20,7 @@ pub struct Measured {
 pub fn measure(
     objects: &[u32],
     links: &[u32],
-    counts: &[u32; 3],
+    counts: [u32; 3],
     table: u32,
     row: usize,
     end: u32,
@@ -34,9 +34,9 @@ pub fn measure(
         × (a : ℕ)
         × (i : ℕ)
         × (end ≡ itemAt sh (i + 1))
-        × At (lent b (now objects) (now links) (now counts)) table sh a i row epoch (now walk))
+        × At (lent b (now objects) (now links) counts) table sh a i row epoch (now walk))
         ⌝ }
-    ensures { λ m. ⌜ MeasuresItem (came objects) (came links) (came counts) table row end epoch (came walk) m (left walk) ⌝ }
+    ensures { λ m. ⌜ MeasuresItem (came objects) (came links) counts table row end epoch (came walk) m (left walk) ⌝ }
 {
     let count = counts[2] as usize;
     let next = next_row(links, count, row, table, end);

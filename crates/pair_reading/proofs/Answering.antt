@@ -1,9 +1,9 @@
 -- What a call answers, from the checks and from the pair. Assumes nothing.
 use Prim.Native.Nat.{ℕ, _+_, _*_}
-use mathlib.Core.Path.{_≡_, refl, sym, ap, _∙_}
+use mathlib.Core.Path.{_≡_, sym, ap, _∙_}
 use mathlib.Core.Bool.{true, false, cond}
 use mathlib.Core.List.{List, _++_}
-use mathlib.Core.Option.{Option, some, none}
+use mathlib.Core.Option.{Option, some}
 use native.Mathlib.Omega.{arith}
 use lib.IntN.{ℤ}
 use Rattle.ot_layouts.specs.Values.{fieldCount}
@@ -16,13 +16,13 @@ use Rattle.pair_rules.specs.Pairs as Pairs
 use Rattle.pair_rules.specs.Pairs.{spotOf, noPair, pairAt, pairOf}
 use Rattle.pair_rules.specs.Calls.{PairOutcome, reported, settlePair, pairCall}
 use Rattle.call_rules.specs.Answers.{number}
-use Rattle.pair_checks.specs.Checked.{checkedOf, settledAs}
+use Rattle.pair_checks.specs.Checked.{checkedAs, checkedOf, settledAs}
 use Rattle.pair_checks.specs.declared.PairTable.{PairTable}
 use Rattle.pair_checks.specs.declared.Checked.{Checked}
 use Rattle.pair_checks.specs.declared.Checked.the-variants.{Open, Settled}
 use Rattle.pair_checks.proofs.Refusals.{refusals}
 use Rattle.pair_checks.specs.Opens.{Opens}
-use Rattle.pair_reading.specs.Reading.{asSpot, asPair, pairOutcome, ValueRecord, valuePair}
+use Rattle.pair_reading.specs.Reading.{spotFound, asPair, pairOutcome, ValueRecord, valuePair}
 use Rattle.pair_reading.specs.declared.PairAnswer.{PairAnswer}
 use Rattle.pair_reading.specs.declared.Spot.{Spot}
 use Rattle.pair_reading.specs.declared.Spot.the-variants as Spot
@@ -30,25 +30,14 @@ use Rattle.pair_reading.proofs.Spots.{Whole, same-size, spot-whole}
 
 -- ---- the pair at a spot
 
-spot-some : (o : Option Pairs.Spot) (c q : ℕ) → Spot.At c q ≡ asSpot o → o ≡ some (record { object = c; at = q })
-spot-some none c q e = let z : _≡_ {A = ℕ} 0 1 = cc in cc
-spot-some (some p) c q e =
-    let a : c ≡ p .object = cc in
-    let b : q ≡ p .at = cc in
-    λ i. some (record { object = sym a i; at = sym b i })
-
-spot-none : (o : Option Pairs.Spot) → Spot.Nowhere ≡ asSpot o → o ≡ none
-spot-none none e = refl
-spot-none (some p) e = let z : _≡_ {A = ℕ} 0 1 = cc in cc
-
-module _ {s : Store} {t : ℕ} {p : PairTable} (o : Opens s t p) (a b : ℕ) {x : Spot} (e : x ≡ asSpot (spotOf s t a b)) where
+module _ {s : Store} {t : ℕ} {p : PairTable} (o : Opens s t p) (a b : ℕ) {x : Spot} (e : spotFound x ≡ spotOf s t a b) where
   pub no-spot : {v : Pairs.Pair} → x ≡ Spot.Nowhere → v ≡ noPair → v ≡ pairOf s t a b
   unfolding pairOf pairAt
-  no-spot y i = i ∙ sym (ap (pairAt s t) (spot-none (spotOf s t a b) (sym y ∙ e)))
+  no-spot y i = i ∙ sym (ap (pairAt s t) (sym e ∙ ap spotFound y))
 
   module _ {c q : ℕ} (y : x ≡ Spot.At c q) where
     stands : spotOf s t a b ≡ some (record { object = c; at = q })
-    stands = spot-some (spotOf s t a b) c q (sym y ∙ e)
+    stands = sym e ∙ ap spotFound y
 
     whole : Whole s t (record { object = c; at = q })
     whole = spot-whole o a b (record { object = c; at = q }) stands
@@ -74,15 +63,15 @@ found-reported n p e f = λ i. record { answer = n; found = cond (sym e i) 1 0; 
 pub none-reported : (n : ℕ) (p : PairAnswer) {v : List ℤ} → p .found ≡ false → v ≡ p .first ++ p .second → pairOutcome n 0 v ≡ reported n (asPair p)
 none-reported n p e f = λ i. record { answer = n; found = cond (sym e i) 1 0; values = f i }
 
-module _ (s : Store) (t a b : ℕ) {x : Checked} (e : x ≡ checkedOf s t) where
-  called : pairCall s t a b ≡ settlePair (settledAs x) (pairOf s t a b)
+module _ (s : Store) (t a b : ℕ) {x : Checked} (e : checkedAs x ≡ checkedOf s t) where
+  called : {z : Checked} → x ≡ z → pairCall s t a b ≡ settlePair (settledAs (checkedAs z)) (pairOf s t a b)
   unfolding pairCall
-  called = ap (λ (o : Option ℕ). settlePair o (pairOf s t a b)) (refusals s t ∙ ap settledAs (sym e))
+  called y = ap (λ (o : Option ℕ). settlePair o (pairOf s t a b)) (refusals s t ∙ ap settledAs (sym e ∙ ap checkedAs y))
 
   pub settled-call : {out : PairOutcome} {v : Pairs.Pair} {n : ℕ} {w : Answer} → x ≡ Settled w → n ≡ number w → v ≡ noPair → out ≡ reported n v → out ≡ pairCall s t a b
   unfolding settlePair
-  settled-call y i j r = r ∙ (λ k. reported (i k) (j k)) ∙ sym (called ∙ ap (λ (c : Checked). settlePair (settledAs c) (pairOf s t a b)) y)
+  settled-call y i j r = r ∙ (λ k. reported (i k) (j k)) ∙ sym (called y)
 
   pub open-call : {out : PairOutcome} {v : Pairs.Pair} {p : PairTable} → x ≡ Open p → v ≡ pairOf s t a b → out ≡ reported 0 v → out ≡ pairCall s t a b
   unfolding settlePair
-  open-call y j r = r ∙ ap (reported 0) j ∙ sym (called ∙ ap (λ (c : Checked). settlePair (settledAs c) (pairOf s t a b)) y)
+  open-call y j r = r ∙ ap (reported 0) j ∙ sym (called y)

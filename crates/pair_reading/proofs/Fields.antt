@@ -16,7 +16,8 @@ use Rattle.ot_layouts.specs.Values.{bit, fieldAt, position}
 use Rattle.ot_layouts.specs.declared.Field.{Field}
 use Rattle.ot_layouts.proofs.Values.{bit-below, position-more, position-le, position-all}
 use Rattle.store_reader.specs.Rows.{Inside, InOrder}
-use Rattle.store_reader.specs.Children.{asChild}
+use Rattle.store_reader.specs.Children.{childFound}
+use Rattle.store_reader.specs.declared.Child.{Child}
 use Rattle.store_reader.specs.declared.Child.the-variants.{Of, Nowhere}
 use Rattle.store_reader.proofs.Bytes.{inside}
 use Rattle.store_reader.proofs.Rows.{in-order}
@@ -24,7 +25,6 @@ use Rattle.store_rules.specs.Store.{Store, bytesOf, childAt, childOf}
 use Rattle.pair_rules.specs.Pairs.{deviceNumber, numberOf}
 use Rattle.store_rules.proofs.Sound.{Fits, sound-fits, size-bytes}
 use Rattle.store_rules.proofs.Lookups.{child-row}
-use Rattle.pair_checks.proofs.Linking.{is-some, is-none}
 use Rattle.pair_reading.specs.Reading.{ValueRecord}
 
 -- ---- signed numbers
@@ -52,16 +52,17 @@ module _ (v : ℕ) where
 abbrev pub SmallChildren : Store → Type 0
 SmallChildren s = (k : ℕ) → k < s .linkCount → childOf s k < 65536
 
-pub child-small : (s : Store) (p q c : ℕ) → SmallChildren s → Of c ≡ asChild (childAt s p q) → c < 65536
-child-small s p q c small e =
-    let (k, l, a, b, x) = child-row s p q c (is-some (childAt s p q) c e) in
-    rw x at (small k l)
+module _ (s : Store) (p q : ℕ) {x : Child} (e : childFound x ≡ childAt s p q) where
+  pub child-small : SmallChildren s → {c : ℕ} → x ≡ Of c → c < 65536
+  child-small small {c} y =
+      let (k, l, a, b, z) = child-row s p q c (sym e ∙ ap childFound y) in
+      rw z at (small k l)
 
-pub device-linked : (s : Store) (p q c : ℕ) → Of c ≡ asChild (childAt s p q) → c < 65536 → toZ w32 (c + 1) ≡ deviceNumber (childAt s p q)
-device-linked s p q c e h = toZ-pos w32 (c + 1) (omega arith) ∙ sym (ap deviceNumber (is-some (childAt s p q) c e))
+  pub device-linked : {c : ℕ} → x ≡ Of c → c < 65536 → toZ w32 (c + 1) ≡ deviceNumber (childAt s p q)
+  device-linked {c} y h = toZ-pos w32 (c + 1) (omega arith) ∙ ap deviceNumber (sym (ap childFound y) ∙ e)
 
-pub device-none : (s : Store) (p q : ℕ) → Nowhere ≡ asChild (childAt s p q) → pos 0 ≡ deviceNumber (childAt s p q)
-device-none s p q e = sym (ap deviceNumber (is-none (childAt s p q) e))
+  pub device-none : x ≡ Nowhere → pos 0 ≡ deviceNumber (childAt s p q)
+  device-none y = ap deviceNumber (sym (ap childFound y) ∙ e)
 
 -- ---- fields
 

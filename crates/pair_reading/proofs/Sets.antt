@@ -14,7 +14,7 @@ use Rattle.folds.specs.Folds.{firstAt}
 use Rattle.folds.proofs.First.{first-none, first-at, first-below}
 use Rattle.ot_layouts.specs.Numbers.{u16At}
 use Rattle.ot_layouts.specs.PairPos.{setReadable, valuesAt, firstRecord}
-use Rattle.pair_reading.specs.Reading.{asFound}
+use Rattle.pair_reading.specs.Reading.{recordFound}
 use Rattle.pair_reading.specs.declared.Found.the-variants.{At, Nothing}
 use Rattle.pair_reading.proofs.Widths.{record-within}
 
@@ -32,12 +32,12 @@ pub record Searched (b : List ℕ) (size g n r : ℕ) : Type 0 where
   pub missed : (j : ℕ) → j < r → isGlyph b size g j ≡ false
 
 module _ (b : List ℕ) (size g : ℕ) where
-  pub no-count : length b < 2 → Nothing ≡ asFound (firstRecord b size g)
+  pub no-count : length b < 2 → recordFound Nothing ≡ firstRecord b size g
   unfolding firstRecord setReadable
   no-count h = rw (lt-leb 2 (length b) h)
 
   module _ {n : ℕ} (e : n ≡ u16At b 0) (long : 2 ≤ length b) where
-    pub too-short : length b < 2 + (2 + size) * n → Nothing ≡ asFound (firstRecord b size g)
+    pub too-short : length b < 2 + (2 + size) * n → recordFound Nothing ≡ firstRecord b size g
     unfolding firstRecord setReadable
     too-short h = rw (le-leb 2 (length b) long, lt-leb (2 + (2 + size) * u16At b 0) (length b) (rw e at h))
 
@@ -67,10 +67,10 @@ module _ {b : List ℕ} {size g n r : ℕ} (i : Searched b size g n r) where
   unfolding firstRecord setReadable
   readable = rw (le-leb 2 (length b) (omega (arith, i .whole)), le-leb (2 + (2 + size) * u16At b 0) (length b) (rw (i .count) at i .whole))
 
-  pub hit : r < n → u16At b (2 + (2 + size) * r) ≡ g → At r ≡ asFound (firstRecord b size g)
+  pub hit : r < n → u16At b (2 + (2 + size) * r) ≡ g → recordFound (At r) ≡ firstRecord b size g
   hit h e = rw (readable, first-at (isGlyph b size g) r (u16At b 0) (omega (arith, i .count)) (i .missed) (eq-eqb (u16At b (2 + (2 + size) * r)) g e))
 
-  pub miss : n ≤ r → Nothing ≡ asFound (firstRecord b size g)
+  pub miss : n ≤ r → recordFound Nothing ≡ firstRecord b size g
   miss h = rw (readable, first-none (isGlyph b size g) (u16At b 0) (λ j l. i .missed j (omega (arith, i .count))))
 
 -- a record that is found stands in the set whole, its values behind its glyph

@@ -12,14 +12,10 @@ use Rattle.folds.specs.Lists.{given, andThen}
 use Rattle.ot_layouts.specs.Values.{fieldCount}
 use Rattle.ot_layouts.specs.ClassDef.{classOf}
 use Rattle.ot_layouts.specs.PairPos.{firstRecord, valuesAt}
-use Rattle.ot_layouts.specs.declared.Reading.{Reading}
-use Rattle.ot_layouts.specs.declared.Reading.the-variants.{Readable}
-use Rattle.store_reader.specs.Rows.{Inside}
 use Rattle.ot_pairpos.specs.declared.Layout.{Layout}
 use Rattle.store_rules.specs.Store.{Store, lent, sound, bytesOf, childAt}
 use Rattle.pair_rules.specs.Pairs as Pairs
 use Rattle.pair_rules.specs.Calls.{PairOutcome}
-use Rattle.pair_checks.specs.declared.Part.{Part}
 use Rattle.pair_checks.specs.declared.PairTable.{PairTable}
 use Rattle.pair_reading.specs.declared.Found.{Found}
 use Rattle.pair_reading.specs.declared.Found.the-variants as Found
@@ -29,15 +25,15 @@ use Rattle.pair_reading.specs.declared.PairAnswer.{PairAnswer}
 
 -- ---- answers
 
--- a record that was found, or none
-abbrev pub asFound : Option ℕ → Found
-asFound (some r) = Found.At r
-asFound none = Found.Nothing
+-- which record was found, if any
+abbrev pub recordFound : Found → Option ℕ
+recordFound (Found.At r) = some r
+recordFound Found.Nothing = none
 
--- where a pair's values stand, or nowhere
-abbrev pub asSpot : Option Pairs.Spot → Spot
-asSpot (some p) = Spot.At (p .object) (p .at)
-asSpot none = Spot.Nowhere
+-- where a pair's values were found, if anywhere
+abbrev pub spotFound : Spot → Option Pairs.Spot
+spotFound (Spot.At c q) = some (record { object = c; at = q })
+spotFound Spot.Nowhere = none
 
 -- "a struct of a flag and two arrays of eight numbers"
 abbrev pub asPair : PairAnswer → Pairs.Pair
@@ -48,11 +44,6 @@ abbrev pub pairOutcome : ℕ → ℕ → List ℤ → PairOutcome
 pairOutcome n f v = record { answer = n; found = f; values = v }
 
 -- ---- where the values stand, by what the code holds of a table
-
--- the part lies within the data, and is what it was read into
-pub record ReadPart (read : List ℕ → Reading) (d o : List ℕ) (p : Part) : Type 0 where
-  pub inside : Inside (length d) o (p .object)
-  pub header : (l c : List ℕ) → read (bytesOf (lent d o l c) (p .object)) ≡ Readable (p .header)
 
 -- the bytes of a pair's two value records
 abbrev pub sizeOf : Layout → ℕ

@@ -1,15 +1,14 @@
 // Where a pair's values stand: in format 1 by the set of the first glyph's place, in format 2 by the classes of both glyphs.
 use crate::Found;
 use crate::Spot;
-use ot_class_def_reader::class_of;
+use glyph_parts::class_in;
+use glyph_parts::place_in;
 use ot_coverage_reader::Place;
-use ot_coverage_reader::place_of;
 use ot_pairpos::Layout;
 use ot_pairpos::record_size;
 use ot_wire::u16_at;
 use pair_checks::Checked;
 use pair_checks::PairTable;
-use pair_checks::Part;
 use store_reader::Child;
 use store_reader::bytes_of;
 use store_reader::child_at;
@@ -19,22 +18,21 @@ ghost use mathlib.Core.List.{List};
 ghost use Prim.Native.Nat.{ℕ, _+_, _*_, _≤_};
 ghost use lib.ListN.{length};
 ghost use Rattle.store_reader.specs.Rows.{Inside};
-ghost use Rattle.ot_layouts.specs.Coverage.{coverageOf, coverPlace};
-ghost use Rattle.ot_layouts.specs.ClassDef.{classDefOf, classOf};
+ghost use Rattle.ot_layouts.specs.ClassDef.{classDefOf};
 ghost use Rattle.ot_layouts.specs.PairPos.{firstRecord};
-ghost use Rattle.ot_coverage_reader.specs.Coverage.{placeOf};
-ghost use Rattle.store_rules.specs.Store.{lent, sound, bytesOf};
+ghost use Rattle.glyph_parts.specs.Parts.{ReadPart};
+ghost use Rattle.store_rules.specs.Store.{lent, sound};
 ghost use Rattle.pair_rules.specs.Pairs.{spotOf};
-ghost use Rattle.pair_checks.specs.Checked.{checkedOf};
+ghost use Rattle.pair_checks.specs.Checked.{checkedAs, checkedOf};
 ghost use Rattle.folds.specs.Moments.{came};
-ghost use Rattle.store_rules.specs.Moments.{storeCame, storeNow};
-ghost use Rattle.pair_reading.specs.Reading.{asFound, asSpot, ReadPart, inSet, bySet, byClasses};
+ghost use Rattle.store_rules.specs.Moments.{storeCameWith, storeNowWith};
+ghost use Rattle.pair_reading.specs.Reading.{recordFound, spotFound, inSet, bySet, byClasses};
 
 // The first record of a pair set with the second glyph, where a record has `size` bytes behind its glyph.
 // A set under two bytes or too short for its count has no pairs.
 fn record_in_set(set: &[u8], size: usize, glyph: u16) -> Found
     requires { ⌜ size ≤ 32 ⌝ }
-    ensures { λ r. ⌜ r ≡ asFound (firstRecord (came set) size glyph) ⌝ }
+    ensures { λ r. ⌜ recordFound r ≡ firstRecord (came set) size glyph ⌝ }
 {
     if set.len() < 2 {
         return Found::Nothing;
@@ -57,7 +55,7 @@ fn record_in_set(set: &[u8], size: usize, glyph: u16) -> Found
 fn spot_in_set(data: &[u8], objects: &[u32], object: u32, size: usize, second: u16) -> Spot
     requires { ⌜ Inside (length (now «data»)) (now objects) object ⌝ }
     requires { ⌜ size ≤ 32 ⌝ }
-    ensures { λ r. ⌜ ((l c : List ℕ) → r ≡ asSpot (inSet (lent (came «data») (came objects) l c) size second object)) ⌝ }
+    ensures { λ r. ⌜ ((l c : List ℕ) → spotFound r ≡ inSet (lent (came «data») (came objects) l c) size second object) ⌝ }
 {
     let set = bytes_of(data, objects, object as usize);
     let found = record_in_set(set, size, second);
@@ -75,14 +73,14 @@ fn spot_by_set(
     data: &[u8],
     objects: &[u32],
     links: &[u32],
-    counts: &[u32; 3],
+    counts: [u32; 3],
     table: u32,
     layout: Layout,
     k: usize,
     second: u16,
 ) -> Spot
-    requires { ⌜ sound (storeNow «data» objects links counts) ≡ true ⌝ }
-    ensures { λ r. ⌜ r ≡ asSpot (bySet (storeCame «data» objects links counts) table layout second k) ⌝ }
+    requires { ⌜ sound (storeNowWith «data» objects links counts) ≡ true ⌝ }
+    ensures { λ r. ⌜ spotFound r ≡ bySet (storeCameWith «data» objects links counts) table layout second k ⌝ }
 {
     if (layout.count as usize) <= k {
         return Spot::Nowhere;
@@ -93,18 +91,6 @@ fn spot_by_set(
     };
     let size = record_size(layout.value1, layout.value2);
     spot_in_set(data, objects, object, size, second)
-}
-
-// The glyph's class by a class definition that was read.
-fn class_in(data: &[u8], objects: &[u32], part: Part, glyph: u16) -> u16
-    requires { ⌜ ReadPart classDefOf (now «data») (now objects) part ⌝ }
-    ensures { λ r. ⌜ ((l c : List ℕ) → r ≡ classOf (bytesOf (lent (came «data») (came objects) l c) (part .object)) glyph) ⌝ }
-{
-    class_of(
-        bytes_of(data, objects, part.object as usize),
-        part.header,
-        glyph,
-    )
 }
 
 // The record of a row and a column.
@@ -129,7 +115,7 @@ fn spot_by_classes(
     requires { ⌜ opened .layout .unit ≤ 32 ⌝ }
     requires { ⌜ ReadPart classDefOf (now «data») (now objects) (opened .class1) ⌝ }
     requires { ⌜ ReadPart classDefOf (now «data») (now objects) (opened .class2) ⌝ }
-    ensures { λ r. ⌜ ((l c : List ℕ) → r ≡ asSpot (byClasses (lent (came «data») (came objects) l c) table opened first second)) ⌝ }
+    ensures { λ r. ⌜ ((l c : List ℕ) → spotFound r ≡ byClasses (lent (came «data») (came objects) l c) table opened first second) ⌝ }
 {
     let layout = opened.layout;
     let class1 = opened.class1;
@@ -145,31 +131,19 @@ fn spot_by_classes(
     spot_in_row(table, layout, row, column)
 }
 
-// The glyph's place in a coverage that was read.
-fn place_in(data: &[u8], objects: &[u32], part: Part, glyph: u16) -> Place
-    requires { ⌜ ReadPart coverageOf (now «data») (now objects) part ⌝ }
-    ensures { λ r. ⌜ ((l c : List ℕ) → r ≡ placeOf (coverPlace (bytesOf (lent (came «data») (came objects) l c) (part .object)) glyph)) ⌝ }
-{
-    place_of(
-        bytes_of(data, objects, part.object as usize),
-        part.header,
-        glyph,
-    )
-}
-
 // In either format: the first glyph is covered, and then by its set or by both classes.
 pub fn spot_of(
     data: &[u8],
     objects: &[u32],
     links: &[u32],
-    counts: &[u32; 3],
+    counts: [u32; 3],
     table: u32,
     opened: PairTable,
     first: u16,
     second: u16,
 ) -> Spot
-    requires { ⌜ checkedOf (storeNow «data» objects links counts) table ≡ Checked.Open opened ⌝ }
-    ensures { λ r. ⌜ r ≡ asSpot (spotOf (storeCame «data» objects links counts) table first second) ⌝ }
+    requires { ⌜ checkedOf (storeNowWith «data» objects links counts) table ≡ checkedAs (Checked.Open opened) ⌝ }
+    ensures { λ r. ⌜ spotFound r ≡ spotOf (storeCameWith «data» objects links counts) table first second ⌝ }
 {
     let coverage = opened.coverage;
     let place = place_in(data, objects, coverage, first);

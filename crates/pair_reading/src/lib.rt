@@ -12,9 +12,9 @@ ghost use mathlib.Core.Path.{_≡_};
 ghost use mathlib.Core.List.{_++_};
 ghost use Rattle.pair_rules.specs.Pairs.{noPair, pairOf};
 ghost use Rattle.pair_rules.specs.Calls.{reported, pairCall};
-ghost use Rattle.pair_checks.specs.Checked.{checkedOf};
+ghost use Rattle.pair_checks.specs.Checked.{checkedAs, checkedOf};
 ghost use Rattle.folds.specs.Moments.{left};
-ghost use Rattle.store_rules.specs.Moments.{storeCame, storeNow};
+ghost use Rattle.store_rules.specs.Moments.{storeCameWith, storeNowWith};
 ghost use Rattle.pair_reading.specs.Reading.{asPair, pairOutcome};
 
 // The record of a pair set that a search finds.
@@ -52,14 +52,14 @@ fn pair_of(
     data: &[u8],
     objects: &[u32],
     links: &[u32],
-    counts: &[u32; 3],
+    counts: [u32; 3],
     table: u32,
     opened: PairTable,
     first: u16,
     second: u16,
 ) -> PairAnswer
-    requires { ⌜ checkedOf (storeNow «data» objects links counts) table ≡ Checked.Open opened ⌝ }
-    ensures { λ r. ⌜ asPair r ≡ pairOf (storeCame «data» objects links counts) table first second ⌝ }
+    requires { ⌜ checkedOf (storeNowWith «data» objects links counts) table ≡ checkedAs (Checked.Open opened) ⌝ }
+    ensures { λ r. ⌜ asPair r ≡ pairOf (storeCameWith «data» objects links counts) table first second ⌝ }
 {
     let spot = spot_of(data, objects, links, counts, table, opened, first, second);
     let Spot::At { object, at } = spot else {
@@ -107,14 +107,14 @@ pub fn read_pair(
     data: &[u8],
     objects: &[u32],
     links: &[u32],
-    counts: &[u32; 3],
+    counts: [u32; 3],
     table: u32,
     first: u16,
     second: u16,
     values: &mut [i32; 16],
     found: &mut u32,
 ) -> u32
-    ensures { λ r. ⌜ pairOutcome r (left found) (left values) ≡ pairCall (storeCame «data» objects links counts) table first second ⌝ }
+    ensures { λ r. ⌜ pairOutcome r (left found) (left values) ≡ pairCall (storeCameWith «data» objects links counts) table first second ⌝ }
 {
     let checked = check_table(data, objects, links, counts, table);
     match checked {

@@ -20,7 +20,7 @@ ghost use Rattle.ot_layouts.specs.Values.{fieldCount};
 ghost use Rattle.store_rules.specs.Store.{perLink, lent, childAt};
 ghost use Rattle.pair_rules.specs.Pairs.{deviceNumber, numberOf};
 ghost use Rattle.folds.specs.Moments.{came};
-ghost use Rattle.store_rules.specs.Moments.{storeCame, storeNow};
+ghost use Rattle.store_rules.specs.Moments.{storeCameWith, storeNowWith};
 ghost use Rattle.pair_reading.specs.Reading.{asPair, ValueRecord, valuePair};
 
 // Sixteen bits as a signed number.
@@ -34,10 +34,10 @@ fn signed(v: u16) -> i32
 }
 
 // A device's number: one more than the object that is linked at `position`, or 0.
-fn device_number(links: &[u32], counts: &[u32; 3], object: u32, position: u32) -> i32
-    requires { ⌜ InOrder (now links) (getD (now counts) 2 0) ⌝ }
-    requires { ⌜ ((k : ℕ) → k < getD (now counts) 2 0 → getD (now links) (perLink * k + 3) 0 < 65536) ⌝ }
-    ensures { λ r. ⌜ ((b o : List ℕ) → r ≡ deviceNumber (childAt (lent b o (came links) (came counts)) object position)) ⌝ }
+fn device_number(links: &[u32], counts: [u32; 3], object: u32, position: u32) -> i32
+    requires { ⌜ InOrder (now links) (getD counts 2 0) ⌝ }
+    requires { ⌜ ((k : ℕ) → k < getD counts 2 0 → getD (now links) (perLink * k + 3) 0 < 65536) ⌝ }
+    ensures { λ r. ⌜ ((b o : List ℕ) → r ≡ deviceNumber (childAt (lent b o (came links) counts) object position)) ⌝ }
 {
     let child = child_at(links, counts, object, position);
     match child {
@@ -51,15 +51,15 @@ fn number_at(
     data: &[u8],
     objects: &[u32],
     links: &[u32],
-    counts: &[u32; 3],
+    counts: [u32; 3],
     object: u32,
     at: usize,
     format: u16,
     j: usize,
 ) -> i32
-    requires { ⌜ ValueRecord (storeNow «data» objects links counts) object at format ⌝ }
+    requires { ⌜ ValueRecord (storeNowWith «data» objects links counts) object at format ⌝ }
     requires { ⌜ j < 8 ⌝ }
-    ensures { λ r. ⌜ r ≡ numberOf (storeCame «data» objects links counts) object at format j ⌝ }
+    ensures { λ r. ⌜ r ≡ numberOf (storeCameWith «data» objects links counts) object at format j ⌝ }
 {
     if !has_field(format, j) {
         return 0;
@@ -76,13 +76,13 @@ fn numbers_at(
     data: &[u8],
     objects: &[u32],
     links: &[u32],
-    counts: &[u32; 3],
+    counts: [u32; 3],
     object: u32,
     at: usize,
     format: u16,
 ) -> [i32; 8]
-    requires { ⌜ ValueRecord (storeNow «data» objects links counts) object at format ⌝ }
-    ensures { λ r. ⌜ r ≡ upto (numberOf (storeCame «data» objects links counts) object at format) 8 ⌝ }
+    requires { ⌜ ValueRecord (storeNowWith «data» objects links counts) object at format ⌝ }
+    ensures { λ r. ⌜ r ≡ upto (numberOf (storeCameWith «data» objects links counts) object at format) 8 ⌝ }
 {
     let mut numbers = [0i32; 8];
     let mut j: usize = 0;
@@ -99,14 +99,14 @@ pub fn pair_at(
     data: &[u8],
     objects: &[u32],
     links: &[u32],
-    counts: &[u32; 3],
+    counts: [u32; 3],
     layout: Layout,
     object: u32,
     at: usize,
 ) -> PairAnswer
-    requires { ⌜ ValueRecord (storeNow «data» objects links counts) object at (layout .value1) ⌝ }
-    requires { ⌜ ValueRecord (storeNow «data» objects links counts) object (at + 2 * fieldCount (layout .value1)) (layout .value2) ⌝ }
-    ensures { λ r. ⌜ asPair r ≡ valuePair (storeCame «data» objects links counts) (layout .value1) (layout .value2) object at ⌝ }
+    requires { ⌜ ValueRecord (storeNowWith «data» objects links counts) object at (layout .value1) ⌝ }
+    requires { ⌜ ValueRecord (storeNowWith «data» objects links counts) object (at + 2 * fieldCount (layout .value1)) (layout .value2) ⌝ }
+    ensures { λ r. ⌜ asPair r ≡ valuePair (storeCameWith «data» objects links counts) (layout .value1) (layout .value2) object at ⌝ }
 {
     let first = numbers_at(data, objects, links, counts, object, at, layout.value1);
     let behind = at + 2 * field_count(layout.value1);

@@ -1,12 +1,10 @@
--- Where a class ends; a class added to those that are held, and all but the last one forgotten. Assumes nothing.
-use Prim.Native.Nat.{ℕ, _+_, _-_, _<_, _≤_}
+-- A class added to those that are held, and all but the last one forgotten. Assumes nothing.
+use Prim.Native.Nat.{ℕ, _+_, _-_, _≤_}
 use mathlib.Core.Path.{_≡_, sym, ap, subst, _∙_}
 use mathlib.Core.List.{List, [], map}
-use mathlib.Core.Logic.{⊎-elim}
 use native.Mathlib.Omega.{arith}
-use lib.ListN.{length, take, drop, getD}
+use lib.ListN.{length, take, drop}
 use Rattle.folds.specs.Lists.{part}
-use Rattle.folds.proofs.Tests.{either}
 use Rattle.ot_layouts.specs.Coverage.{Entry}
 use Rattle.glyph_rules.specs.Entries.{within}
 use Rattle.glyph_rules.specs.Estimates.{estimate}
@@ -17,33 +15,9 @@ use Rattle.glyph_estimator.specs.States.{valuesOf, Ready, Added, Small}
 use Rattle.glyph_estimator.proofs.Estimates.{estimates-none, ready, estimates-more, small}
 use Rattle.glyph_estimator.proofs.Forgetting.{marked-behind, forgotten}
 use Rattle.pair_row_classes.specs.declared.Classes.{Classes}
-use Rattle.pair_row_classes.specs.ClassParts.{startOf, ClassEnd}
-use Rattle.pair_row_classes.specs.Classes.{Ordered, Holds, Begins}
-use Rattle.pair_row_classes.proofs.ClassParts.{starts-rise, starts-most, starts-none, length-glyphs, length-classes, class-part, class-ends}
-
--- ---- where a class ends
-
--- the entries from `from` up to k are of the class
-pub record Scanned (cs : List ℕ) (from class k : ℕ) : Type 0 where
-  pub after : from ≤ k
-  pub inside : k ≤ length cs
-  pub same : (j : ℕ) → from ≤ j → j < k → getD cs j 0 ≡ class
-
-module _ {cs : List ℕ} {from class : ℕ} where
-  pub scan-start : from ≤ length cs → Scanned cs from class from
-  scan-start h = record { after = omega arith; inside = h; same = λ j l m. absurd (omega arith) }
-
-  module _ {k : ℕ} (v : Scanned cs from class k) where
-    pub scan-turn : k < length cs → getD cs k 0 ≡ class → Scanned cs from class (k + 1)
-    scan-turn h e =
-        record {
-          after = omega (arith, v .after);
-          inside = omega arith;
-          same = λ j l m. ⊎-elim (λ (n : j < k). v .same j l n) (λ (n : k ≤ j). let z : j ≡ k = omega arith in rw z e) (either j k);
-        }
-
-    pub scan-stop : (k < length cs → getD cs k 0 ≡ class → ⊥) → ClassEnd cs from class k
-    scan-stop h = record { after = v .after; inside = v .inside; same = v .same; other = h }
+use Rattle.pair_row_classes.specs.Classes.{Holds, Begins}
+use Rattle.glyph_class_parts.specs.ClassParts.{Ordered, startOf, ClassEnd}
+use Rattle.glyph_class_parts.proofs.ClassParts.{starts-rise, starts-most, starts-none, length-glyphs, length-classes, class-part, class-ends}
 
 -- ---- no class
 

@@ -4,19 +4,12 @@ use mathlib.Core.Path.{_≡_}
 use mathlib.Core.List.{List}
 use lib.ListN.{length}
 use Rattle.folds.specs.Lists.{part}
-use Rattle.ot_layouts.specs.Coverage.{Entry, Ascends, Under}
+use Rattle.ot_layouts.specs.Coverage.{Entry}
 use Rattle.glyph_rules.specs.Entries.{within}
 use Rattle.glyph_set.specs.GlyphSet.{markAll, Empty}
 use Rattle.glyph_estimator.specs.States.{Estimates}
-use Rattle.glyph_sort.specs.ByClass.{ByClass}
+use Rattle.glyph_class_parts.specs.ClassParts.{Ordered, startOf}
 use Rattle.pair_row_classes.specs.declared.Classes.{Classes}
-use Rattle.pair_row_classes.specs.ClassParts.{startOf}
-
--- the glyphs are those of the entries, each once, in the order of their classes
-pub record Ordered (es : List Entry) (gs cs : List ℕ) : Type 0 where
-  pub up : Ascends 0 es
-  pub under : Under 65536 es
-  pub byClass : ByClass es gs cs
 
 -- the classes from a up to i, i left out, have been added since the set was empty
 pub record Holds (es : List Entry) (gs : List ℕ) (a i : ℕ) (k : Classes) (set : List ℕ) : Type 0 where

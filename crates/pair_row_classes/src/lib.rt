@@ -1,15 +1,15 @@
 // The classes of the rows in the table that is being filled: the estimator with the glyphs that it counts. The covered glyphs come in the
 // order of their classes, so that each class's glyphs are one part, and those of the classes since the last cut are one part too.
+use glyph_class_parts::class_end;
 use glyph_estimator::Estimator;
 use glyph_estimator::forget;
 ghost use mathlib.Core.Path.{_≡_};
 ghost use mathlib.Core.List.{List};
 ghost use Prim.Native.Nat.{ℕ, _+_, _≤_};
-ghost use lib.ListN.{length};
 ghost use Rattle.ot_layouts.specs.Coverage.{Entry};
 ghost use Rattle.folds.specs.Moments.{came, left};
-ghost use Rattle.pair_row_classes.specs.ClassParts.{ClassEnd, startOf};
-ghost use Rattle.pair_row_classes.specs.Classes.{Ordered, Holds, Begins, Adds, Restarts};
+ghost use Rattle.glyph_class_parts.specs.ClassParts.{Ordered, startOf};
+ghost use Rattle.pair_row_classes.specs.Classes.{Holds, Begins, Adds, Restarts};
 
 // The glyphs from `first` up to `to` are in the estimator and in the set; those of the last class start at `from`.
 pub struct Classes {
@@ -76,19 +76,4 @@ impl Classes {
             to,
         }
     }
-}
-
-// Where the entries of a class, which start at `from`, end.
-fn class_end(classes: &[u16], from: usize, class: u16) -> usize
-    requires { ⌜ from ≤ length (now classes) ⌝ }
-    ensures { λ r. ⌜ ClassEnd (came classes) from class r ⌝ }
-{
-    let mut end = from;
-    while end < classes.len() {
-        if classes[end] != class {
-            return end;
-        }
-        end += 1;
-    }
-    end
 }

@@ -1,13 +1,13 @@
 -- What is known of a table once the checks of a reading are passed. Assumes nothing.
 use Prim.Native.Nat.{ℕ, _<_}
-use mathlib.Core.Path.{_≡_, refl, sym}
+use mathlib.Core.Path.{_≡_}
 use mathlib.Core.Bool.{true, false, _&&_}
-use mathlib.Core.Option.{Option, some, none}
+use mathlib.Core.Option.{some, none}
 use lib.ListN.{length}
 use lib.Dec.{eqb}
 use borrow.Author.Tests.{not-false, leb-false, ltb-false, eqb-true, lt-leb, le-ltb, eq-eqb}
 use Rattle.folds.specs.Lists.{isSome, Bytes}
-use Rattle.folds.proofs.Tests.{true-false, and-both}
+use Rattle.folds.proofs.Tests.{and-both}
 use Rattle.folds.proofs.Joined.{and-three}
 use Rattle.ot_layouts.specs.Coverage.{coverReadable, Ascends, Under}
 use Rattle.ot_layouts.specs.ClassDef.{classReadable}
@@ -17,6 +17,7 @@ use Rattle.ot_layouts.proofs.Octets.{bytes-u16}
 use Rattle.ot_layouts.proofs.Shapes.{by-format}
 use Rattle.store_rules.specs.Store.{Store, sound, bytesOf, childAt, parentOf, positionOf, linkedBytes, linkedAt}
 use Rattle.store_rules.proofs.Bytes.{object-bytes}
+use Rattle.store_rules.proofs.Lookups.{child-there}
 use Rattle.store_rules.proofs.Slots.{all-stand, one-stands}
 use Rattle.call_rules.specs.Answers.{firstCase}
 use Rattle.call_rules.proofs.Cases.{first-head}
@@ -62,10 +63,6 @@ reads-no-case s t r =
 
 -- ---- 4: coverage and class definitions
 
-some-of : (o : Option ℕ) → isSome o ≡ true → (c : ℕ) × (o ≡ some c)
-some-of (some c) h = (c, refl)
-some-of none h = true-false (sym h)
-
 -- they are there
 pub record Parts (s : Store) (t : ℕ) : Type 0 where
   pub cover : (c : ℕ) × (childAt s t 2 ≡ some c)
@@ -93,9 +90,9 @@ unfolding partsReadable
 parts-read s t h =
     let (p, q) = and-both (isSome (childAt s t 2) && coverReadable (linkedBytes s t 2)) _ h in
     record {
-      cover = some-of (childAt s t 2) (and-both (isSome (childAt s t 2)) (coverReadable (linkedBytes s t 2)) p .0);
-      class1 = λ e. some-of (childAt s t 8) (class-read s t h e .0);
-      class2 = λ e. some-of (childAt s t 10) (class-read s t h e .2);
+      cover = child-there s t 2 (and-both (isSome (childAt s t 2)) (coverReadable (linkedBytes s t 2)) p .0);
+      class1 = λ e. child-there s t 8 (class-read s t h e .0);
+      class2 = λ e. child-there s t 10 (class-read s t h e .2);
     }
 
 -- ---- the covered glyphs

@@ -1,5 +1,5 @@
 -- Pair tables held against small whole stores, as one check; each list pins what its comment says. Assumes nothing.
-use Prim.Native.Nat.{ℕ, _+_, _*_, _/_}
+use Prim.Native.Nat.{ℕ, _+_, _*_}
 use mathlib.Core.Path.{_≡_, refl}
 use mathlib.Core.Bool.{Bool, true, false, cond, _&&_}
 use mathlib.Core.List.{List, [], _∷_, _++_}
@@ -15,14 +15,15 @@ use Rattle.ot_layouts.specs.Coverage.{Entry}
 use Rattle.ot_layouts.specs.PairPos.{shapeOf}
 use Rattle.store_rules.specs.Store.{Store, perLink, sound, bytesOf}
 use Rattle.store_rules.specs.Appended.{rowNumbers}
-use Rattle.store_rules.proofs.Pinned.{linkRow, packed}
+use Rattle.store_rules.proofs.Pinned.{linkRow, packed, storeOf, roomy}
 use Rattle.cut_rules.specs.Cuts.{cutsOf}
 use Rattle.call_rules.specs.Scratch.{Scratch}
 use Rattle.call_rules.specs.Outcomes.{Outcome}
+use Rattle.call_rules.proofs.Pinned.{fives}
 use Rattle.pair_rules.specs.Rules.{bareRule, rule2}
 use Rattle.pair_rules.specs.Table.{cutPlaces}
-use Rattle.pair_rules.specs.Written.{newLinks, splitStore, newTables}
-use Rattle.pair_rules.specs.Pairs.{Pair, noPair, pairOf, pairAmong}
+use Rattle.pair_rules.specs.Written.{newTable, newLinks, splitStore, newTables}
+use Rattle.pair_rules.specs.Pairs.{Pair, pairOf, pairAmong}
 use Rattle.pair_rules.specs.Calls.{splitCall, planCall, pairCall}
 use Rattle.pair_rules.specs.Computing as definitions
 
@@ -45,30 +46,6 @@ samePair p q = agree (p .found) (q .found) && sameℤs (p .first) (q .first) && 
 
 -- ---- stores
 
--- a store of objects of these sizes
-unfoldable pub storeOf : List ℕ → List ℕ → List ℕ → Store
-storeOf bytes sizes links =
-    record {
-      bytes = bytes;
-      objects = packed 0 sizes;
-      links = links;
-      byteCount = length bytes;
-      objectCount = length sizes;
-      linkCount = length links / perLink;
-    }
-
--- with these bytes, objects and links to spare, none of them zero
-unfoldable pub roomy : ℕ → ℕ → ℕ → Store → Store
-roomy bytes objects links s =
-    record {
-      bytes = s .bytes ++ replicate bytes 77;
-      objects = s .objects ++ replicate (2 * objects) 77;
-      links = s .links ++ replicate (perLink * links) 77;
-      byteCount = s .byteCount;
-      objectCount = s .objectCount;
-      linkCount = s .linkCount;
-    }
-
 -- format 1, value formats 0011 and 0004, under a coverage: sets 2 and 3 at the first and the last of three slots, and a device, 4, of set 2
 unfoldable pub bare1 : List ℕ → List ℕ → Store
 bare1 cover links =
@@ -89,13 +66,16 @@ slots1 = linkRow 0 10 2 ++ linkRow 0 14 3 ++ linkRow 2 6 4
 unfoldable pub store1 : Store
 store1 = under1 tens (linkRow 0 2 1 ++ slots1)
 
--- format 2, value formats 0044 and 0: glyphs 10 to 14 of classes 0, 1, 1, 2, 3; rows as counted, 2 columns; glyphs 50 to 60 in column 1; a device, 4
-unfoldable pub rows2 : ℕ → List ℕ → List ℕ → Store
-rows2 rows class2 links =
-    roomy 400 20 20 (storeOf
+-- format 2, value formats 0044 and 0: glyphs 10 to 14 of classes 0, 1, 1, 2, 3; rows as counted, 2 columns; glyphs 50 to 60 in column 1; a device, 4, or objects of more sizes
+unfoldable pub bare2 : ℕ → List ℕ → List ℕ → List ℕ → Store
+bare2 rows class2 more links =
+    storeOf
     (words (2 ∷ 0 ∷ 0x44 ∷ 0 ∷ 0 ∷ 0 ∷ rows ∷ 2 ∷ 1 ∷ 0 ∷ 2 ∷ 0 ∷ 3 ∷ 0 ∷ 4 ∷ 0 ∷ 5 ∷ 0 ∷ 6 ∷ 0 ∷ [])
     ++ words (2 ∷ 1 ∷ 10 ∷ 14 ∷ 0 ∷ []) ++ words (1 ∷ 11 ∷ 4 ∷ 1 ∷ 1 ∷ 2 ∷ 3 ∷ []) ++ words class2 ++ words (12 ∷ 13 ∷ 1 ∷ []))
-    (40 ∷ 10 ∷ 14 ∷ 10 ∷ 6 ∷ []) links)
+    (40 ∷ 10 ∷ 14 ∷ 2 * length class2 ∷ more) links
+
+unfoldable pub rows2 : ℕ → List ℕ → List ℕ → Store
+rows2 rows class2 links = roomy 400 20 20 (bare2 rows class2 (6 ∷ []) links)
 
 unfoldable pub fifties : List ℕ
 fifties = 2 ∷ 1 ∷ 50 ∷ 60 ∷ 1 ∷ []
@@ -105,6 +85,16 @@ heads2 = linkRow 0 2 1 ++ linkRow 0 8 2 ++ linkRow 0 10 3
 
 unfoldable pub store2 : Store
 store2 = rows2 3 fifties (heads2 ++ linkRow 0 30 4 ++ linkRow 0 38 4)
+
+-- format 1, value formats 0007 and 0004: one set of one record, of three fields and one
+unfoldable pub storeFields : Store
+storeFields =
+    storeOf (words (1 ∷ 0 ∷ 0x07 ∷ 0x04 ∷ 1 ∷ 0 ∷ []) ++ words (1 ∷ 1 ∷ 10 ∷ []) ++ words (1 ∷ 5 ∷ 3 ∷ 8 ∷ 9 ∷ 7 ∷ [])) (12 ∷ 6 ∷ 12 ∷ [])
+    (linkRow 0 2 1 ++ linkRow 0 10 2)
+
+-- format 2 without rows, table 1; object 0 is readable as a coverage and as a class definition, object 2 as neither
+unfoldable pub parts : List ℕ → Store
+parts links = storeOf (words (2 ∷ 0 ∷ []) ++ words (2 ∷ 0 ∷ 0 ∷ 0 ∷ 0 ∷ 0 ∷ 0 ∷ 0 ∷ []) ++ words (9 ∷ [])) (4 ∷ 16 ∷ 2 ∷ []) links
 
 -- one set of 65,518 bytes under a coverage of 6: with room for its cut, at 0, and as many bytes, objects, links as are to spare
 unfoldable pub store9 : ℕ → ℕ → ℕ → Store
@@ -117,10 +107,6 @@ store9 bytes objects links =
       objectCount = 3;
       linkCount = 2;
     }
-
--- scratch that holds fives, of these lengths
-unfoldable pub fives : ℕ → ℕ → ℕ → ℕ → ℕ → Scratch
-fives w b g c k = record { walk = replicate w 5; set = replicate b 5; glyphs = replicate g 5; classes = replicate c 5; cuts = replicate k 5 }
 
 -- just enough for store1 and store2
 unfoldable pub enough : Scratch
@@ -139,15 +125,28 @@ found xs ys = record { found = true; first = xs; second = ys }
 abbrev zero8 : List ℤ
 zero8 = replicate 8 (pos 0)
 
+-- no pair, and sixteen zeros
+unfoldable pub nothing : Pair
+nothing = record { found = false; first = zero8; second = zero8 }
+
 -- `spot1`, `spot2`, `numberOf`, `pairAt`, `pairCall`: signed values, devices, absent fields, no record, no set, no class, not covered
 unfoldable pub readings : List Bool
 readings =
     reads store1 0 10 5 0 (found (negsuc 0 ∷ pos 0 ∷ pos 0 ∷ pos 0 ∷ pos 5 ∷ pos 0 ∷ pos 0 ∷ pos 0 ∷ []) (pos 0 ∷ pos 0 ∷ pos 7 ∷ pos 0 ∷ pos 0 ∷ pos 0 ∷ pos 0 ∷ pos 0 ∷ []))
     ∷ reads store1 0 30 5 0 (found (pos 3 ∷ pos 0 ∷ pos 0 ∷ pos 0 ∷ pos 0 ∷ pos 0 ∷ pos 0 ∷ pos 0 ∷ []) (pos 0 ∷ pos 0 ∷ negsuc 1 ∷ pos 0 ∷ pos 0 ∷ pos 0 ∷ pos 0 ∷ pos 0 ∷ []))
-    ∷ reads store1 0 20 5 0 noPair ∷ reads store1 0 10 7 0 noPair ∷ reads store1 0 11 5 0 noPair
+    ∷ reads (under1 (1 ∷ 3 ∷ 1 ∷ 2 ∷ 10 ∷ []) (linkRow 0 2 1 ++ linkRow 0 14 2)) 0 10 6 0
+    (found (pos 1 ∷ pos 0 ∷ pos 0 ∷ pos 0 ∷ pos 0 ∷ pos 0 ∷ pos 0 ∷ pos 0 ∷ []) (pos 0 ∷ pos 0 ∷ pos 2 ∷ pos 0 ∷ pos 0 ∷ pos 0 ∷ pos 0 ∷ pos 0 ∷ []))
+    ∷ reads store1 0 20 5 0 nothing ∷ reads store1 0 10 7 0 nothing ∷ reads store1 0 11 5 0 nothing
     ∷ reads store2 0 12 50 0 (found (pos 0 ∷ pos 0 ∷ pos 4 ∷ pos 0 ∷ pos 0 ∷ pos 0 ∷ pos 5 ∷ pos 0 ∷ []) zero8)
     ∷ reads store2 0 10 49 0 (found (pos 0 ∷ pos 0 ∷ pos 1 ∷ pos 0 ∷ pos 0 ∷ pos 0 ∷ pos 0 ∷ pos 0 ∷ []) zero8)
-    ∷ reads store2 0 14 50 0 noPair ∷ reads store2 0 9 50 0 noPair
+    ∷ reads store2 0 10 2 0 (found (pos 0 ∷ pos 0 ∷ pos 1 ∷ pos 0 ∷ pos 0 ∷ pos 0 ∷ pos 0 ∷ pos 0 ∷ []) zero8)
+    ∷ reads store2 0 14 50 0 nothing ∷ reads store2 0 9 50 0 nothing
+    -- `spot1`, `spot2`: a place at the set count, a second class at the column count
+    ∷ samePair (pairOf (under1 (1 ∷ 4 ∷ 10 ∷ 20 ∷ 30 ∷ 40 ∷ []) (linkRow 0 2 1 ++ slots1 ++ linkRow 0 16 3)) 0 40 5) nothing
+    ∷ reads (rows2 3 (2 ∷ 1 ∷ 50 ∷ 60 ∷ 2 ∷ []) heads2) 0 10 50 0 nothing
+    -- `numberOf`, `pairAt`: fields behind the first, and three of them before the second glyph's
+    ∷ reads storeFields 0 10 5 0
+    (found (pos 3 ∷ pos 8 ∷ pos 9 ∷ pos 0 ∷ pos 0 ∷ pos 0 ∷ pos 0 ∷ pos 0 ∷ []) (pos 0 ∷ pos 0 ∷ pos 7 ∷ pos 0 ∷ pos 0 ∷ pos 0 ∷ pos 0 ∷ pos 0 ∷ []))
     ∷ []
 
 -- ---- cuts
@@ -167,23 +166,48 @@ sharing more =
     storeOf (words (1 ∷ 0 ∷ 4 ∷ 0 ∷ 3 ∷ 0 ∷ 0 ∷ 0 ∷ []) ++ words (1 ∷ 3 ∷ 10 ∷ 20 ∷ 30 ∷ [])) (16 ∷ 10 ∷ 100 ∷ 30000 ∷ 100 ∷ 40000 ∷ [])
     (linkRow 0 2 1 ++ linkRow 0 10 2 ++ linkRow 0 12 3 ++ linkRow 0 14 4 ++ linkRow 2 4 5 ++ linkRow 3 4 5 ++ more)
 
+-- five sets under a coverage of one range: four of 10,000 bytes, and one of n
+unfoldable pub fiveSets : ℕ → Store
+fiveSets n =
+    storeOf (words (1 ∷ 0 ∷ 4 ∷ 0 ∷ 5 ∷ 0 ∷ 0 ∷ 0 ∷ 0 ∷ 0 ∷ []) ++ words (2 ∷ 1 ∷ 10 ∷ 14 ∷ 0 ∷ []))
+    (20 ∷ 10 ∷ 10000 ∷ 10000 ∷ 10000 ∷ 10000 ∷ n ∷ [])
+    (linkRow 0 2 1 ++ linkRow 0 10 2 ++ linkRow 0 12 3 ++ linkRow 0 14 4 ++ linkRow 0 16 5 ++ linkRow 0 18 6)
+
+-- three slots, the second empty: sets of 40,000 bytes and of n
+unfoldable pub twoSets : ℕ → Store
+twoSets n =
+    storeOf (words (1 ∷ 0 ∷ 4 ∷ 0 ∷ 3 ∷ 0 ∷ 0 ∷ 0 ∷ []) ++ words tens) (16 ∷ 10 ∷ 40000 ∷ n ∷ []) (linkRow 0 2 1 ++ linkRow 0 10 2 ++ linkRow 0 14 3)
+
+-- three rows, of which the first leads to 30,000 bytes and the second to n, or to both, and a class definition 2 of 4 bytes
+unfoldable pub threeRows : ℕ → List ℕ → Store
+threeRows n more = bare2 3 (2 ∷ 0 ∷ []) (30000 ∷ n ∷ []) (heads2 ++ linkRow 0 18 4 ++ linkRow 0 26 5 ++ more)
+
 -- `rule1`, `partialCover`: an empty slot adds nothing, coverage is no more than its own length, and starts anew after a cut
--- `rule2`: estimates start anew with the glyphs of the row at a cut; `ruleOf`: what was seen before a cut counts again, the cut item's too
+-- `rule2`: estimates start anew with the glyphs of the row at a cut
+-- `ruleOf`: what was seen before a cut counts again, the cut item's too; each format's rule over its own parts
 unfoldable pub cuttings : List Bool
 cuttings =
     same (cutsOf (bareRule (40000 ∷ 0 ∷ 0 ∷ 25513 ∷ []) 204)) [] ∷ same (cutsOf (bareRule (40000 ∷ 0 ∷ 0 ∷ 25514 ∷ []) 204)) (3 ∷ [])
     ∷ same (cutsOf (bareRule (40000 ∷ 25515 ∷ []) 6)) [] ∷ same (cutsOf (bareRule (40000 ∷ 25516 ∷ []) 6)) (1 ∷ [])
     ∷ same (cutsOf (bareRule (40000 ∷ 40000 ∷ 25513 ∷ []) 204)) (1 ∷ []) ∷ same (cutsOf (bareRule (40000 ∷ 40000 ∷ 25514 ∷ []) 204)) (1 ∷ 2 ∷ [])
     ∷ same (cutsOf (bareRule (65518 ∷ 0 ∷ 0 ∷ 1 ∷ []) 204)) (0 ∷ 3 ∷ [])
+    -- two bytes a set, of three sets, and none for a set that comes later
+    ∷ same (cutsOf (bareRule (20000 ∷ 20000 ∷ 25509 ∷ []) 204)) [] ∷ same (cutsOf (bareRule (20000 ∷ 20000 ∷ 25510 ∷ []) 204)) (2 ∷ [])
+    ∷ same (cutsOf (bareRule (40000 ∷ 25513 ∷ 1 ∷ []) 204)) (2 ∷ []) ∷ same (cutsOf (bareRule (65530 ∷ 65530 ∷ 65530 ∷ []) 2)) (0 ∷ 1 ∷ 2 ∷ [])
     ∷ same (cutRows (40000 ∷ 30000 ∷ 35499 ∷ [])) (1 ∷ []) ∷ same (cutRows (40000 ∷ 30000 ∷ 35500 ∷ [])) (1 ∷ 2 ∷ [])
+    -- nor are the glyphs of a later row estimated
+    ∷ same (cutRows (65501 ∷ 1 ∷ [])) (1 ∷ [])
     ∷ same (cutPlaces (sharing []) 0) (1 ∷ []) ∷ same (cutPlaces (sharing (linkRow 4 4 5)) 0) (1 ∷ 2 ∷ [])
+    ∷ same (cutPlaces (fiveSets 25505) 0) [] ∷ same (cutPlaces (fiveSets 25506) 0) (4 ∷ [])
+    ∷ same (cutPlaces (twoSets 25513) 0) [] ∷ same (cutPlaces (twoSets 25514) 0) (2 ∷ [])
+    ∷ same (cutPlaces (threeRows 35481 []) 0) [] ∷ same (cutPlaces (threeRows 35482 []) 0) (2 ∷ []) ∷ same (cutPlaces (threeRows 35481 (linkRow 0 30 4)) 0) []
     ∷ []
 
 -- ---- answers
 
 -- split, plan and reading answer alike
 unfoldable pub refuses : Store → ℕ → ℕ → Bool
-refuses s t n = eqb (splitCall s t enough [] .answer) n && eqb (planCall s t enough [] .answer) n && reads s t 10 5 n noPair
+refuses s t n = eqb (splitCall s t enough [] .answer) n && eqb (planCall s t enough [] .answer) n && reads s t 10 5 n nothing
 
 -- split and plan of table 0 answer alike
 unfoldable pub splits : Store → ℕ → Scratch → Bool
@@ -195,10 +219,18 @@ refusals =
     refuses (under1 tens (linkRow 0 10 2 ++ linkRow 0 2 1)) 0 1
     ∷ refuses store1 5 2
     ∷ refuses store1 1 3 ∷ refuses (rows2 2 fifties heads2) 0 3 ∷ refuses (rows2 4 fifties heads2) 0 3
-    ∷ refuses store1 4 0
+    ∷ refuses store1 4 0 ∷ refuses (storeOf (words (0 ∷ [])) (2 ∷ []) []) 0 0
+    -- no part is linked in another's place, and the table's own bytes are none
+    ∷ refuses (parts (linkRow 1 8 0 ++ linkRow 1 10 0)) 1 4 ∷ refuses (parts (linkRow 1 2 0 ++ linkRow 1 10 0)) 1 4
+    ∷ refuses (parts (linkRow 1 2 0 ++ linkRow 1 8 0)) 1 4 ∷ refuses (parts (linkRow 1 2 2 ++ linkRow 1 8 0 ++ linkRow 1 10 0)) 1 4
+    ∷ refuses (parts (linkRow 1 2 0 ++ linkRow 1 8 2 ++ linkRow 1 10 0)) 1 4 ∷ refuses (parts (linkRow 1 2 0 ++ linkRow 1 8 0 ++ linkRow 1 10 2)) 1 4
+    ∷ refuses (parts (linkRow 1 2 0 ++ linkRow 1 8 0 ++ linkRow 1 10 0)) 1 0
     ∷ refuses (under1 tens slots1) 0 4 ∷ refuses (under1 (1 ∷ 3 ∷ 10 ∷ 30 ∷ 20 ∷ []) (linkRow 0 2 1 ++ slots1)) 0 4
     ∷ refuses (rows2 3 fifties (linkRow 0 2 1 ++ linkRow 0 8 2)) 0 4 ∷ refuses (rows2 3 (2 ∷ 1 ∷ 60 ∷ 50 ∷ 1 ∷ []) heads2) 0 4
     ∷ refuses (under1 (1 ∷ 2 ∷ 10 ∷ 20 ∷ []) (linkRow 0 2 1 ++ slots1)) 0 5
+    -- rows may be more than covered glyphs
+    ∷ splits (rows2 3 (2 ∷ 1 ∷ 10 ∷ 11 ∷ 0 ∷ []) (linkRow 0 2 3 ++ linkRow 0 8 2 ++ linkRow 0 10 3)) 0 enough
+    ∷ splits store1 6 (fives 9 8192 3 3 3)
     ∷ splits store2 6 (fives 9 8192 5 5 3) ∷ splits store2 6 (fives 10 8191 5 5 3) ∷ splits store2 6 (fives 10 8192 4 5 3)
     ∷ splits store2 6 (fives 10 8192 5 4 3) ∷ splits store2 6 (fives 10 8192 5 5 2)
     ∷ splits (under1 tens (linkRow 0 2 1 ++ linkRow 0 4 1 ++ slots1)) 7 enough ∷ splits (under1 tens (linkRow 0 2 1 ++ slots1 ++ linkRow 3 4 0)) 7 enough
@@ -233,6 +265,8 @@ orders =
     ∷ splits (under1 tens (linkRow 0 2 1 ++ linkRow 0 4 1 ++ slots1)) 7 enough
     -- "no cut" before 8: there is no room at all
     ∷ splits (bare1 tens (linkRow 0 2 1 ++ slots1)) 0 enough
+    -- 6 before 8: a place, and no list
+    ∷ splits (store9 0 0 0) 6 (fives 5 8192 1 1 1)
     ∷ []
 
 -- ---- splits
@@ -262,12 +296,25 @@ splitsAt0 o =
     && same (bytesOf (o .store) 0) (words (1 ∷ 0 ∷ 4 ∷ 0 ∷ 0 ∷ [])) && same (bytesOf (o .store) 3) (words (1 ∷ 0 ∷ 4 ∷ 0 ∷ 1 ∷ 0 ∷ []))
     && same (bytesOf (o .store) 4) (words (1 ∷ 1 ∷ 10 ∷ [])) && same (bytesOf (o .store) 5) (words (1 ∷ 0 ∷ []))
 
--- `newTable`, `newParts`, `tableLinks`, `kept`, `needed`: at one and at several places; "2K+1 objects and K links", "3K+2 objects and 3K links"
+-- a table of three items whose offsets are not zero, and the bytes of a new one of the last two
+unfoldable pub afresh : List ℕ → List ℕ → Bool
+afresh old new = same (newTable (shapeOf (words old)) (words old) 1 3) (words new)
+
+-- `newTable`: "Format, value formats and class2Count are copied and its own count set; format 2 rows are copied whole; all other new bytes are zero."
+unfoldable pub tables : List Bool
+tables =
+    afresh (1 ∷ 77 ∷ 0x11 ∷ 0x04 ∷ 3 ∷ 78 ∷ 79 ∷ 80 ∷ []) (1 ∷ 0 ∷ 0x11 ∷ 0x04 ∷ 2 ∷ 0 ∷ 0 ∷ [])
+    ∷ afresh (2 ∷ 77 ∷ 0x44 ∷ 0 ∷ 78 ∷ 79 ∷ 3 ∷ 2 ∷ 1 ∷ 9 ∷ 2 ∷ 9 ∷ 3 ∷ 9 ∷ 4 ∷ 9 ∷ 5 ∷ 9 ∷ 6 ∷ 9 ∷ [])
+    (2 ∷ 0 ∷ 0x44 ∷ 0 ∷ 0 ∷ 0 ∷ 2 ∷ 2 ∷ 3 ∷ 9 ∷ 4 ∷ 9 ∷ 5 ∷ 9 ∷ 6 ∷ 9 ∷ [])
+    ∷ []
+
+-- `newParts`, `tableLinks`, `keptTable`, `kept`, `needed`: at one and at several places; "2K+1 objects and K links", "3K+2 objects and 3K links"
 -- `splitCall`, `planCall`: a whole outcome; 8 at its edges: bytes, objects, links, the list, and the plan's list
 unfoldable pub splittings : List Bool
 splittings =
     keeps store1 (1 ∷ []) 3 1 (10 ∷ 20 ∷ 30 ∷ []) (5 ∷ 6 ∷ []) ∷ keeps store1 (0 ∷ 2 ∷ []) 5 2 (10 ∷ 20 ∷ 30 ∷ []) (5 ∷ 6 ∷ [])
     ∷ keeps store2 (1 ∷ []) 5 3 (run 10 5) (49 ∷ 50 ∷ []) ∷ keeps store2 (0 ∷ 1 ∷ 2 ∷ []) 11 9 (run 10 5) (49 ∷ 50 ∷ [])
+    ∷ same (bytesOf (splitStore store1 0 (1 ∷ [])) 0) (words (1 ∷ 0 ∷ 0x11 ∷ 0x04 ∷ 1 ∷ 0 ∷ [])) ∷ same (bytesOf (splitStore store1 0 (1 ∷ [])) 1) (words tens)
     ∷ same (newTables store2 0 (1 ∷ 2 ∷ [])) (5 ∷ 8 ∷ [])
     ∷ same (rowNumbers (newLinks store2 0 (shapeOf (bytesOf store2 0)) (1 ∷ [])))
     (linkRow 0 2 8 ++ linkRow 0 8 9 ++ linkRow 0 10 3 ++ linkRow 5 2 6 ++ linkRow 5 8 7 ++ linkRow 5 10 3 ++ linkRow 5 22 4 ++ linkRow 5 30 4)
@@ -277,6 +324,6 @@ splittings =
     ∷ same (planCall (store9 0 0 0) 0 enough (8 ∷ 9 ∷ []) .list) (0 ∷ 9 ∷ []) ∷ eqb (planCall (store9 22 3 1) 0 enough [] .answer) 8
     ∷ []
 
-pub pinned : every (readings ++ cuttings ++ refusals ++ orders ++ splittings) ≡ true
-unfolding definitions.computes compared.computes packed sameℤs samePair storeOf roomy bare1 under1 tens slots1 store1 rows2 fifties heads2 store2 store9 fives enough reads found readings cutRows sharing cuttings refuses splits refusals short orders having keepsIn keeps splitsAt0 splittings
+pub pinned : every (readings ++ cuttings ++ refusals ++ orders ++ tables ++ splittings) ≡ true
+unfolding definitions.computes compared.computes packed sameℤs samePair storeOf roomy bare1 under1 tens slots1 store1 bare2 rows2 fifties heads2 store2 storeFields parts store9 fives enough reads found nothing readings cutRows sharing fiveSets twoSets threeRows cuttings refuses splits refusals short orders having keepsIn keeps splitsAt0 afresh tables splittings
 pinned = refl

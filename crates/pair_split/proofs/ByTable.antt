@@ -23,8 +23,8 @@ use Rattle.ot_pairpos.specs.Layout.{layoutOf}
 use Rattle.pair_checks.specs.declared.PairTable.{PairTable}
 use Rattle.pair_checks.specs.Opens.{Opens}
 use Rattle.pair_checks.proofs.Refusals.{format-one, format-two}
-use Rattle.pair_plan.proofs.Looking.{part-inside}
-use Rattle.pair_new_objects.specs.Order.{Sorted, Ordered, Arranged}
+use Rattle.glyph_parts.proofs.Parts.{part-inside}
+use Rattle.cut_parts.specs.Order.{Sorted, Ordered, Arranged}
 use Rattle.pair_new_objects.proofs.Stored.{arranged1, sorted2, arranged2}
 use Rattle.pair_split.specs.Arranging.{Arranging}
 
@@ -39,7 +39,7 @@ module _ {s : Store} {t : ℕ} {p : PairTable} {gs ks cs : List ℕ} (k : Arrang
   -- ---- format 1
 
   pub coverage-inside : Inside (length (s .bytes)) (s .objects) (p .coverage .object)
-  coverage-inside = part-inside o (o .coverage)
+  coverage-inside = part-inside (o .reads .sounds) (o .coverage)
 
   module _ {b : List ℕ} (e : b ≡ bytesOf s (p .coverage .object)) where
     same-glyphs : coverGlyphs b ≡ glyphsOf s t

@@ -16,8 +16,9 @@ use Rattle.pair_rules.specs.Table.{shape, entriesOf}
 use Rattle.pair_rules.specs.Written.{needObjects, needLinks, needsOf, needed}
 use Rattle.pair_checks.specs.declared.PairTable.{PairTable}
 use Rattle.pair_checks.specs.Opens.{Opens}
-use Rattle.pair_new_objects.specs.Order.{Arranged}
-use Rattle.pair_new_objects.specs.Tables.{paired, Planned}
+use Rattle.cut_parts.specs.Order.{Arranged}
+use Rattle.cut_parts.specs.Tables.{paired}
+use Rattle.pair_new_objects.specs.Planned.{Planned}
 use Rattle.pair_new_objects.specs.Objects.{Length}
 use Rattle.pair_new_objects.proofs.Planning.{cuts-few}
 use Rattle.pair_new_objects.proofs.Stored.{stored-plan, stored-length}
@@ -39,7 +40,7 @@ unfolding layoutOf needsOf needObjects needLinks
 counted l k bytes b is = λ i. record { objects = (is i .own + 1) * k + is i .own; links = is i .heads * k; bytes = bytes; entries = k }
 
 -- a header has few links
-header-few : (b : List ℕ) → (layoutOf b .own ≤ 2) × (layoutOf b .heads ≤ 3)
+pub header-few : (b : List ℕ) → (layoutOf b .own ≤ 2) × (layoutOf b .heads ≤ 3)
 unfolding layoutOf shape1 shape2
 header-few b = by-format (λ sh. (length (sh .own) ≤ 2) × (length (heads sh) ≤ 3)) b (λ e. (omega arith, omega arith)) (λ e. (omega arith, omega arith))
 

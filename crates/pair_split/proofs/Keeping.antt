@@ -19,8 +19,10 @@ use Rattle.store_rules.proofs.Sound.{Fits, ObjectFits, sound-fits, size-bytes}
 use Rattle.store_rules.proofs.ObjectRows.{rows-length}
 use Rattle.ot_pairpos.specs.declared.Layout.{Layout}
 use Rattle.ot_pairpos.specs.Layout.{layoutOf}
-use Rattle.pair_new_objects.specs.Tables.{paired, Planned}
-use Rattle.pair_new_objects.specs.Objects.{Room, Written, Old, objectsOf}
+use Rattle.cut_parts.specs.Tables.{paired}
+use Rattle.pair_new_objects.specs.Planned.{Planned}
+use Rattle.store_object_rows.specs.Objects.{Room, Written}
+use Rattle.pair_new_objects.specs.Objects.{Old, objectsOf}
 use Rattle.pair_new_objects.proofs.Stored.{stored-plan, stored-old, stored-room, stored-written}
 use Rattle.pair_split.specs.Carrying.{Keeping, Writing, Wrote}
 

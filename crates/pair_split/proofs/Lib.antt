@@ -1,9 +1,8 @@
 mod Numbering
 mod Keeping
-mod StoreAfter
-mod Places
-mod ByTable
 mod Counting
+mod StoreAfter
+mod ByTable
 mod SplitAt
 mod Fronts
 mod Calling

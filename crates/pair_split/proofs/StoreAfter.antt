@@ -7,8 +7,7 @@ use native.Mathlib.Omega.{arith}
 use lib.ListN.{length}
 use Rattle.folds.specs.Folds.{upto}
 use Rattle.folds.specs.Lists.{put, Bytes}
-use Rattle.ot_layouts.specs.PairPos.{Shape, ownIn}
-use Rattle.ot_layouts.proofs.Shapes.{own-of}
+use Rattle.ot_layouts.specs.PairPos.{Shape}
 use Rattle.store_rules.specs.Store.{Store, lent, objectRoom, linkRoom, bytesOf}
 use Rattle.pair_rules.specs.Table.{shape, entriesOf}
 use Rattle.pair_rules.specs.Written.{perTable, needLinks, needObjects, needsOf, needed, storeAfter, splitStore, newTables, keptTable}
@@ -25,6 +24,7 @@ use Rattle.pair_checks.specs.declared.PairTable.{PairTable}
 use Rattle.pair_links.specs.Parting.{Parting, Parted}
 use Rattle.pair_links.proofs.Callers.{Decided, part-asked, part-answered}
 use Rattle.pair_split.specs.Carrying.{Writing, Wrote, Carrying, Carried}
+use Rattle.pair_split.proofs.Counting.{header-few}
 
 module _ {s : Store} {t : ℕ} {p : PairTable} {n : Needs} {gs ks cs list : List ℕ} (k : Carrying s t p n gs ks cs list) where
   abbrev sh : Shape
@@ -36,9 +36,12 @@ module _ {s : Store} {t : ℕ} {p : PairTable} {n : Needs} {gs ks cs list : List
   room : Enough s list (needed s t cs)
   room = enough s list (needed s t cs) (subst (λ (x : Needs). roomShort s list x ≡ false) (k .measured .needs) (k .room))
 
-  same-format : p .layout .format ≡ sh .format
+  same-own : p .layout .own ≡ length (sh .own)
   unfolding layoutOf
-  same-format = ap (λ (x : Layout). x .format) (k .opens .layout)
+  same-own = ap (λ (x : Layout). x .own) (k .opens .layout)
+
+  pub own-few : p .layout .own ≤ 2
+  own-few = subst (λ (x : Layout). x .own ≤ 2) (sym (k .opens .layout)) (header-few (bytesOf s t) .0)
 
   tables-few : s .objectCount + perTable sh * length cs + 1 ≤ 65536
   unfolding needed needsOf needObjects
@@ -75,9 +78,9 @@ module _ {s : Store} {t : ℕ} {p : PairTable} {n : Needs} {gs ks cs list : List
         objectRoom = omega (arith, tables-few);
       }
 
-  pub list-asked : (per : ℕ) → per ≡ length (ownIn (p .layout .format)) + 1 → (length cs ≤ length list) × (s .objectCount + per * length cs < 4294967296)
+  pub list-asked : (length cs ≤ length list) × (s .objectCount + (p .layout .own + 1) * length cs < 4294967296)
   unfolding needed needsOf
-  list-asked per e = (room .listed, rw (e, same-format, ← own-of (bytesOf s t)) (omega (arith, tables-few)))
+  list-asked = (room .listed, rw same-own (omega (arith, tables-few)))
 
   -- ---- the counts fit
 
@@ -97,11 +100,11 @@ module _ {s : Store} {t : ℕ} {p : PairTable} {n : Needs} {gs ks cs list : List
 
   -- ---- what is then
 
-  pub carried : {d o ls list′ : List ℕ} {bytes rows per : ℕ} → Wrote s t cs d o bytes → Parted s t sh cs ls rows
-      → per ≡ length (ownIn (p .layout .format)) + 1 → list′ ≡ put list 0 (upto (λ j. s .objectCount + per * j) (length cs))
+  pub carried : {d o ls list′ : List ℕ} {bytes rows : ℕ} → Wrote s t cs d o bytes → Parted s t sh cs ls rows
+      → list′ ≡ put list 0 (upto (λ j. s .objectCount + (p .layout .own + 1) * j) (length cs))
       → Carried s t cs list (lent d o ls (bytes ∷ (s .objectCount + n .objects) ∷ rows ∷ [])) list′
   unfolding needed needsOf splitStore storeAfter appended keptTable withBytes withTail newTables
-  carried w parted e numbered =
+  carried w parted numbered =
       let many = objects-needed ∙ sym (new-many sh (bytesOf s t) (entriesOf s t) cs) in
       record {
         store = λ i. record {
@@ -112,7 +115,7 @@ module _ {s : Store} {t : ℕ} {p : PairTable} {n : Needs} {gs ks cs list : List
           objectCount = s .objectCount + many i;
           linkCount = parted .count-is i;
         };
-        list-is = numbered ∙ ap (λ (q : ℕ). put list 0 (upto (λ j. s .objectCount + q * j) (length cs))) (e ∙ ap (λ (f : ℕ). length (ownIn f) + 1) same-format ∙ ap (λ (own : List ℕ). length own + 1) (sym (own-of (bytesOf s t))));
+        list-is = numbered ∙ ap (λ (own : ℕ). put list 0 (upto (λ j. s .objectCount + (own + 1) * j) (length cs))) same-own;
       }
 
 -- ---- the links, of which a call is handed the rows and the counts

@@ -9,7 +9,7 @@ use Rattle.pair_rules.specs.Table.{shape, entriesOf}
 use Rattle.pair_checks.specs.declared.PairTable.{PairTable}
 use Rattle.pair_checks.specs.Opens.{Opens}
 use Rattle.glyph_sort.specs.ByClass.{ByClass}
-use Rattle.pair_new_objects.specs.Order.{Arranged}
+use Rattle.cut_parts.specs.Order.{Arranged}
 
 -- a table that is open, places at which it can be cut, and lists of the exact length; in format 2 these are its covered glyphs by class
 pub record Arranging (s : Store) (t : ℕ) (p : PairTable) (gs ks cs : List ℕ) : Type 0 where

@@ -16,8 +16,8 @@ use Rattle.ot_pairpos.specs.declared.Layout.{Layout}
 use Rattle.ot_pairpos.specs.Layout.{layoutOf}
 use Rattle.pair_checks.specs.declared.PairTable.{PairTable}
 use Rattle.pair_checks.specs.Opens.{Opens}
-use Rattle.pair_new_objects.specs.Order.{Arranged}
-use Rattle.pair_new_objects.specs.Objects.{Room}
+use Rattle.cut_parts.specs.Order.{Arranged}
+use Rattle.store_object_rows.specs.Objects.{Room}
 use Rattle.pair_split.specs.Measuring.{Measured}
 
 -- the table has a row and so many items, and lies within the data

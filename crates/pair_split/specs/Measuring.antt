@@ -7,7 +7,7 @@ use Rattle.call_rules.specs.declared.Needs.{Needs}
 use Rattle.pair_rules.specs.Table.{shape, entriesOf}
 use Rattle.pair_rules.specs.Written.{needed}
 use Rattle.pair_checks.specs.declared.PairTable.{PairTable}
-use Rattle.pair_new_objects.specs.Order.{Arranged}
+use Rattle.cut_parts.specs.Order.{Arranged}
 use Rattle.pair_split.specs.Arranging.{Arranging}
 
 -- each table has its entries in the lists, and n is what the split at cs needs

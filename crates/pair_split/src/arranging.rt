@@ -1,28 +1,14 @@
 // The covered glyphs with their items, as the new objects are written from them: each table's glyphs together, and in order.
+use buffers::number_u16;
+use cut_parts::order_parts;
 use ot_coverage_reader::glyphs_into;
 use pair_checks::PairTable;
-use pair_new_objects::order_parts;
 use store_reader::bytes_of;
-ghost use mathlib.Core.Path.{_≡_};
 ghost use mathlib.Core.List.{List};
-ghost use Prim.Native.Nat.{ℕ, _≤_};
-ghost use lib.ListN.{length};
-ghost use Rattle.folds.specs.Folds.{upto};
+ghost use Prim.Native.Nat.{ℕ};
 ghost use Rattle.store_rules.specs.Store.{lent};
 ghost use Rattle.folds.specs.Moments.{came, left};
 ghost use Rattle.pair_split.specs.Arranging.{Arranging, Arranges};
-
-// Format 1: a covered glyph's item is its place.
-fn number_places(places: &mut [u16])
-    requires { ⌜ length (now places) ≤ 65536 ⌝ }
-    ensures { λ _. ⌜ left places ≡ upto (λ k. k) (length (came places)) ⌝ }
-{
-    let mut k: usize = 0;
-    while k < places.len() {
-        places[k] = k as u16;
-        k += 1;
-    }
-}
 
 // Arranges the covered glyphs of a table that is cut; in format 2 they come in the order of their classes.
 pub fn arrange(
@@ -46,7 +32,8 @@ pub fn arrange(
             coverage.header,
             glyphs,
         );
-        number_places(classes);
+        // A covered glyph's item is its place.
+        number_u16(classes);
         return;
     }
     order_parts(glyphs, classes, cuts, layout.count);

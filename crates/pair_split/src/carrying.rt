@@ -2,7 +2,6 @@
 // All that can refuse it has been asked: nothing here fails.
 use call_rules::Needs;
 use ot_pairpos::Layout;
-use ot_pairpos::objects_per_table;
 use ot_wire::put_u16;
 use pair_checks::PairTable;
 use pair_links::part_links;
@@ -42,7 +41,7 @@ fn keep_items(data: &mut [u8], objects: &mut [u32], table: u32, layout: Layout, 
 fn write_bytes(
     data: &mut [u8],
     objects: &mut [u32],
-    counts: &[u32; 3],
+    counts: [u32; 3],
     table: u32,
     layout: Layout,
     glyphs: &[u16],
@@ -50,12 +49,12 @@ fn write_bytes(
     cuts: &[u16],
 ) -> usize
     requires { ⌜
-        ((l : List ℕ) × Writing (lent (now «data») (now objects) l (now counts)) table layout (now glyphs) (now classes) (now cuts))
+        ((l : List ℕ) × Writing (lent (now «data») (now objects) l counts) table layout (now glyphs) (now classes) (now cuts))
         ⌝ }
     ensures { λ r. ⌜
         ((l : List ℕ)
-        → Writing (lent (came «data») (came objects) l (came counts)) table layout (came glyphs) (came classes) (came cuts)
-        → Wrote (lent (came «data») (came objects) l (came counts)) table (came cuts) (left «data») (left objects) r)
+        → Writing (lent (came «data») (came objects) l counts) table layout (came glyphs) (came classes) (came cuts)
+        → Wrote (lent (came «data») (came objects) l counts) table (came cuts) (left «data») (left objects) r)
         ⌝ }
 {
     let head = objects[2 * (table as usize)] as usize;
@@ -111,14 +110,9 @@ pub fn carry_out(
     let layout = opened.layout;
     let class2 = opened.class2;
     let count = cuts.len();
-    let bytes = write_bytes(data, objects, counts, table, layout, glyphs, classes, cuts);
-    let rows = part_links(links, counts, table, layout, cuts, class2.object);
-    number_tables(
-        new_tables,
-        counts[1],
-        objects_per_table(layout.format),
-        count,
-    );
+    let bytes = write_bytes(data, objects, *counts, table, layout, glyphs, classes, cuts);
+    let rows = part_links(links, *counts, table, layout, cuts, class2.object);
+    number_tables(new_tables, counts[1], layout.own + 1, count);
     let byte_count = bytes as u32;
     let object_count = counts[1] + (needs.objects as u32);
     let link_count = rows as u32;

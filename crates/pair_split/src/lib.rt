@@ -51,7 +51,7 @@ pub fn split_at(
         links: links.len(),
         list: new_tables.len(),
     };
-    if is_short(lent, counts, needs) {
+    if is_short(lent, *counts, needs) {
         return false;
     }
     carry_out(
@@ -143,7 +143,7 @@ fn split_any(
         data,
         objects,
         links,
-        counts,
+        *counts,
         table,
         walk,
         glyph_set,

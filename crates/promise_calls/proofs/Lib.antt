@@ -2,3 +2,4 @@ pub mod Settled
 pub mod Given
 pub mod Unique
 pub mod Keeps
+pub mod Asked

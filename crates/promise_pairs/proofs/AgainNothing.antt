@@ -2,13 +2,13 @@
 use Prim.Native.Nat.{ℕ, _+_, _-_, _*_, _<_, _≤_, min}
 use mathlib.Core.Path.{_≡_, refl, sym, ap, ap₂, subst, _∙_}
 use mathlib.Core.Bool.{Bool, true, false, cond, _&&_}
-use mathlib.Core.List.{List, [], _∷_, _++_, map}
+use mathlib.Core.List.{List, [], _++_, map}
 use mathlib.Core.Option.{Option, some, Option·getD}
 use native.Mathlib.Omega.{arith}
 use lib.ListN.{length, getD}
 use lib.Dec.{leb, eqb}
 use Rattle.folds.specs.Folds.{upto}
-use Rattle.folds.specs.Lists.{isEmpty, isSome}
+use Rattle.folds.specs.Lists.{isSome}
 use Rattle.folds.proofs.Tests.{by-test}
 use Rattle.folds.proofs.Folds.{upto-same}
 use Rattle.folds.proofs.FromTheFront.{sum-same, upto-getD}
@@ -30,17 +30,14 @@ use Rattle.pair_rules.specs.Written.{splitStore, newTables, needed}
 use Rattle.cut_rules.specs.Ranges.{from}
 use Rattle.call_rules.specs.Scratch.{Scratch, cleared}
 use Rattle.pair_rules.specs.Calls.{splitCall, splitCases, cutCases, lastCases}
-use Rattle.call_rules.specs.Needs.{roomShort}
 use Rattle.call_rules.specs.Outcomes.{outcome, settle, done}
-use Rattle.call_rules.specs.Answers.{firstCase, Case, case}
-use Rattle.call_rules.specs.declared.Answer.the-variants.{NoRoom}
 use Rattle.store_rules.proofs.Sound.{Fits, size-bytes}
 use Rattle.pair_rules.proofs.TableCuts.{rule-count}
 use Rattle.cut_rules.proofs.FirstCut.{none-before, cuts-none}
 use Rattle.store_rules.proofs.Lookups.{child-used, linked-some}
 use Rattle.pair_rules.proofs.Entries.{entries1}
 use Rattle.glyph_rules.proofs.Entries.{within-upto, reduced-none, within-within}
-use Rattle.call_rules.proofs.Cases.{first-skip}
+use Rattle.promise_calls.proofs.Asked.{no-cut-case}
 use Rattle.pair_rules.proofs.Checks.{entries-ascend, cover-read}
 use Rattle.promise_pairs.specs.Demands.{AgainNothing}
 use Rattle.promise_pairs.specs.Exactly.{Checked}
@@ -55,12 +52,10 @@ use Rattle.promise_pairs.proofs.SameReach.{size-same, at-slots, still-a
 -- ---- a call that finds nothing to split
 nothing-to-split : (s : Store) (t : ℕ) (w : Scratch) (list : List ℕ) → Checked s t w → cutPlaces s t ≡ []
     → splitCall s t w list ≡ outcome 0 0 s list (cleared w)
-unfolding splitCall settle splitCases lastCases firstCase isEmpty
+unfolding splitCall settle splitCases lastCases
 nothing-to-split s t w list checked none-cut =
-    let room : List Case = case NoRoom (roomShort s list (needed s t (cutPlaces s t))) ∷ [] in
-    let done-first : firstCase (lastCases s t list) ≡ some 0 = ap (λ (b : List ℕ). cond (isEmpty b) (some 0) (firstCase room)) none-cut in
     ap (λ (o : Option ℕ). settle o s list w (done (splitStore s t (cutPlaces s t)) (newTables s t (cutPlaces s t)) list w))
-    (first-skip (cutCases s t w) (lastCases s t list) (checked-no-case s t w checked) ∙ done-first)
+    (no-cut-case (cutCases s t w) (cutPlaces s t) s list (needed s t (cutPlaces s t)) (checked-no-case s t w checked) none-cut)
 
 partial-same : (f g : ℕ → Bool) (i : ℕ) → ((k : ℕ) → k ≤ i → f k ≡ g k) → partialCover f 0 i ≡ partialCover g 0 i
 unfolding partialCover

@@ -1,2 +1,4 @@
 pub mod CallsThatSplit
+pub mod HeldToACall
 pub mod UselessBuilds
+pub mod UselessMarkBuilds

@@ -1,20 +1,20 @@
 -- None of the four useless builds keeps what is promised: each is held to a call that splits. Assumes nothing.
 use Prim.Native.Nat.{ℕ}
-use mathlib.Core.Path.{_≡_, refl, ap, subst, _∙_}
+use mathlib.Core.Path.{_≡_, refl}
 use mathlib.Core.List.{List, [], _∷_, _++_}
 use native.Mathlib.Omega.{arith}
-use lib.ListN.{replicate, getD}
-use Rattle.folds.specs.Lists.{part}
+use lib.ListN.{replicate}
 use Rattle.folds.proofs.Bytes.{bytes-append, bytes-zeros}
 use Rattle.ot_layouts.specs.Numbers.{words, be16}
-use Rattle.store_rules.specs.Store.{Store, bytesOf, headOf, tailOf}
+use Rattle.store_rules.specs.Store.{Store}
 use Rattle.call_rules.specs.Scratch.{Scratch, scratchOf}
 use Rattle.call_rules.specs.Outcomes.{Outcome}
 use Rattle.pair_rules.specs.Calls.{splitCall}
 use Rattle.pair_rules.specs.Computing.{computes}
 use Rattle.promise_calls.specs.Unchanged.{Octets}
 use Rattle.promise_pairs.proofs.Unique.{split-only}
-use Rattle.promise_witnesses.specs.Builds.{Build, Keeps, RefusesEverything, NeverCuts, DoesNothing, OnlyNumbered, NumbersTheRest}
+use Rattle.promise_witnesses.specs.Builds.{Build, Keeps, RefusesEverything, NeverCuts, DoesNothing, NumbersTheRest}
+use Rattle.promise_witnesses.proofs.HeldToACall.{seenOf, refuses-not, cuts-once, does-something, writes-the-rest}
 use Rattle.promise_witnesses.proofs.CallsThatSplit.{small-bytes}
 
 -- ---- a call that splits in two: one set of 65,518 bytes in two slots, under a coverage of two glyphs, with room
@@ -48,12 +48,6 @@ twoList = 0 ∷ 0 ∷ []
 abbrev left : Outcome
 left = splitCall twoSlots 0 twoScratch twoList
 
--- answer, count and objects; then the second new table's second byte, and what stood there: in one list, so that the call is computed once
-unfoldable seenOf : Store → Outcome → List ℕ
-seenOf s o =
-    let u = getD (o .list) 1 0 in
-    o .answer ∷ o .count ∷ o .store .objectCount ∷ getD (bytesOf (o .store) u) 1 0 ∷ getD (part (s .bytes) (headOf (o .store) u) (tailOf (o .store) u)) 1 0 ∷ []
-
 two-seen : seenOf twoSlots left ≡ 0 ∷ 2 ∷ 8 ∷ 1 ∷ 0 ∷ []
 unfolding twoSlots twoFront twoScratch computes seenOf
 two-seen = refl
@@ -66,31 +60,14 @@ module _ (build : Build) (keeps : Keeps build) where
   built = split-only twoSlots 0 twoScratch twoList _ two-octets (keeps twoSlots 0 twoScratch twoList two-octets)
 
   pub no-build-refuses-everything : RefusesEverything build → ⊥
-  unfolding seenOf
-  no-build-refuses-everything refuses =
-      let answer : left .answer ≡ 0 = cc two-seen in
-      refuses twoSlots 0 twoScratch twoList (ap (λ (o : Outcome). o .answer) built ∙ answer)
+  no-build-refuses-everything = refuses-not twoSlots 0 twoScratch twoList left 8 two-seen build built
 
   pub no-build-never-cuts : NeverCuts build → ⊥
-  unfolding seenOf
-  no-build-never-cuts never =
-      let count : left .count ≡ 2 = cc two-seen in
-      omega (arith, never twoSlots 0 twoScratch twoList, ap (λ (o : Outcome). o .count) built)
+  no-build-never-cuts = cuts-once twoSlots 0 twoScratch twoList left 8 two-seen build built
 
   pub no-build-does-nothing : DoesNothing build → ⊥
-  unfolding seenOf twoSlots
-  no-build-does-nothing nothing =
-      let objects : left .store .objectCount ≡ 8 = cc two-seen in
-      omega (arith, ap (λ (s : Store). s .objectCount) (nothing twoSlots 0 twoScratch twoList), ap (λ (o : Outcome). o .store .objectCount) built)
+  unfolding twoSlots
+  no-build-does-nothing = does-something twoSlots 0 twoScratch twoList left 8 two-seen build built (omega arith)
 
   pub no-build-only-numbers-the-rest : NumbersTheRest build → ⊥
-  unfolding seenOf
-  no-build-only-numbers-the-rest numbers =
-      let count : left .count ≡ 2 = cc two-seen in
-      let u = getD (left .list) 1 0 in
-      let written : getD (bytesOf (left .store) u) 1 0 ≡ 1 = cc two-seen in
-      let stood : getD (part (twoSlots .bytes) (headOf (left .store) u) (tailOf (left .store) u)) 1 0 ≡ 0 = cc two-seen in
-      let asked : build twoSlots 0 twoScratch twoList .count ≡ 2 = ap (λ (o : Outcome). o .count) built ∙ count in
-      let numbered : OnlyNumbered twoSlots left u
-      = subst (λ (o : Outcome). OnlyNumbered twoSlots o (getD (o .list) 1 0)) built (numbers twoSlots 0 twoScratch twoList 1 (omega arith) (omega arith)) in
-      omega (arith, ap (λ (b : List ℕ). getD b 1 0) numbered)
+  no-build-only-numbers-the-rest = writes-the-rest twoSlots 0 twoScratch twoList left 8 two-seen build built

@@ -1,3 +1,6 @@
 pub mod Spans
 pub mod RowLaws
 pub mod Reversing
+pub mod Links
+pub mod Header
+pub mod Keeping

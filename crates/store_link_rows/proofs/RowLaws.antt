@@ -7,6 +7,7 @@ use lib.ListN.{length, getD}
 use lib.Seq.{set-getD}
 use Rattle.folds.specs.Lists.{put}
 use Rattle.folds.proofs.Put.{put-nil, put-put, put-below, put-inside, put-above, put-four}
+use Rattle.store_rules.specs.Store.{perLink}
 use Rattle.store_link_rows.specs.Rows.{seg, span, row, rows}
 use Rattle.store_link_rows.proofs.Spans.{seg-ext, length-seg, seg-at, span-empty, span-back}
 
@@ -15,59 +16,59 @@ unfolding row
 length-row ls k = refl
 
 -- rows that agree at the four places
-pub row-same : (d e : List ℕ) (k : ℕ) → ((i : ℕ) → 4 * k ≤ i → i < 4 * k + 4 → getD d i 0 ≡ getD e i 0) → row d k ≡ row e k
+pub row-same : (d e : List ℕ) (k : ℕ) → ((i : ℕ) → perLink * k ≤ i → i < perLink * k + perLink → getD d i 0 ≡ getD e i 0) → row d k ≡ row e k
 unfolding row
 row-same d e k h =
-    let p = h (4 * k) (omega arith) (omega arith) in
-    let q = h (4 * k + 1) (omega arith) (omega arith) in
-    let w = h (4 * k + 2) (omega arith) (omega arith) in
-    let c = h (4 * k + 3) (omega arith) (omega arith) in
+    let p = h (perLink * k) (omega arith) (omega arith) in
+    let q = h (perLink * k + 1) (omega arith) (omega arith) in
+    let w = h (perLink * k + 2) (omega arith) (omega arith) in
+    let c = h (perLink * k + 3) (omega arith) (omega arith) in
     cc
 
 module _ (d : List ℕ) (b : ℕ) (xs : List ℕ) (fits : b ≤ length d) where
-  pub row-below : (k : ℕ) → 4 * k + 4 ≤ b → row (put d b xs) k ≡ row d k
+  pub row-below : (k : ℕ) → perLink * k + perLink ≤ b → row (put d b xs) k ≡ row d k
   row-below k l = row-same (put d b xs) d k (λ i p q. put-below d b xs fits i (omega arith))
 
-  pub row-above : (k : ℕ) → b + length xs ≤ 4 * k → row (put d b xs) k ≡ row d k
+  pub row-above : (k : ℕ) → b + length xs ≤ perLink * k → row (put d b xs) k ≡ row d k
   row-above k l = row-same (put d b xs) d k (λ i p q. put-above d b xs fits i (omega arith))
 
 -- the row at its own place
-pub put-same : (d : List ℕ) (k : ℕ) → 4 * k + 3 < length d → put d (4 * k) (row d k) ≡ d
+pub put-same : (d : List ℕ) (k : ℕ) → perLink * k + 3 < length d → put d (perLink * k) (row d k) ≡ d
 unfolding row
-put-same d k l = sym (put-four d (4 * k) (getD d (4 * k) 0) (getD d (4 * k + 1) 0) (getD d (4 * k + 2) 0) (getD d (4 * k + 3) 0) l) ∙ simp set-getD
+put-same d k l = sym (put-four d (perLink * k) (getD d (perLink * k) 0) (getD d (perLink * k + 1) 0) (getD d (perLink * k + 2) 0) (getD d (perLink * k + 3) 0) l) ∙ simp set-getD
 
 module _ (f : ℕ → List ℕ) (four : (k : ℕ) → length (f k) ≡ 4) where
-  pub length-span : (lo hi : ℕ) → lo ≤ hi → 4 * lo + length (span f lo hi) ≡ 4 * hi
+  pub length-span : (lo hi : ℕ) → lo ≤ hi → perLink * lo + length (span f lo hi) ≡ perLink * hi
   length-span lo hi l = omega (arith, length-seg f four lo (hi - lo))
 
-  pub span-at : (d : List ℕ) (lo hi k c : ℕ) → 4 * hi ≤ length d → lo ≤ k → k < hi → c < 4 → getD (put d (4 * lo) (span f lo hi)) (4 * k + c) 0 ≡ getD (f k) c 0
+  pub span-at : (d : List ℕ) (lo hi k c : ℕ) → perLink * hi ≤ length d → lo ≤ k → k < hi → c < 4 → getD (put d (perLink * lo) (span f lo hi)) (perLink * k + c) 0 ≡ getD (f k) c 0
   span-at d lo hi k c room l h m =
-      let e : 4 * k + c - 4 * lo ≡ 4 * (k - lo) + c = omega arith in
+      let e : perLink * k + c - perLink * lo ≡ perLink * (k - lo) + c = omega arith in
       let q : lo + (k - lo) ≡ k = omega arith in
-      put-inside d (4 * lo) (span f lo hi) (omega arith) (4 * k + c) (omega arith) (omega (arith, length-span lo hi (omega arith)))
+      put-inside d (perLink * lo) (span f lo hi) (omega arith) (perLink * k + c) (omega arith) (omega (arith, length-span lo hi (omega arith)))
       ∙ ap (λ (i : ℕ). getD (span f lo hi) i 0) e
       ∙ seg-at f four lo (hi - lo) (k - lo) c (omega arith) m
       ∙ ap (λ (i : ℕ). getD (f i) c 0) q
 
-pub rows-long : (ls : List ℕ) (lo hi : ℕ) → lo ≤ hi → 4 * lo + length (rows ls lo hi) ≡ 4 * hi
+pub rows-long : (ls : List ℕ) (lo hi : ℕ) → lo ≤ hi → perLink * lo + length (rows ls lo hi) ≡ perLink * hi
 rows-long ls lo hi l = length-span (row ls) (length-row ls) lo hi l
 
 -- a row of a segment of rows, after the segment was written
 module _ (ls : List ℕ) (g : ℕ → ℕ) where
-  pub row-inside : (d : List ℕ) (lo hi k : ℕ) → 4 * hi ≤ length d → lo ≤ k → k < hi → row (put d (4 * lo) (span (λ k. row ls (g k)) lo hi)) k ≡ row ls (g k)
+  pub row-inside : (d : List ℕ) (lo hi k : ℕ) → perLink * hi ≤ length d → lo ≤ k → k < hi → row (put d (perLink * lo) (span (λ k. row ls (g k)) lo hi)) k ≡ row ls (g k)
   unfolding row
   row-inside d lo hi k room l h =
       let f : ℕ → List ℕ = λ k. row ls (g k) in
       let n : (k : ℕ) → length (f k) ≡ 4 = λ k. length-row ls (g k) in
-      let z : 4 * k + 0 ≡ 4 * k = omega arith in
-      let p : getD (put d (4 * lo) (span f lo hi)) (4 * k) 0 ≡ getD ls (4 * g k) 0 = ap (λ (i : ℕ). getD (put d (4 * lo) (span f lo hi)) i 0) (sym z) ∙ span-at f n d lo hi k 0 room l h (omega arith) in
-      let q : getD (put d (4 * lo) (span f lo hi)) (4 * k + 1) 0 ≡ getD ls (4 * g k + 1) 0 = span-at f n d lo hi k 1 room l h (omega arith) in
-      let w : getD (put d (4 * lo) (span f lo hi)) (4 * k + 2) 0 ≡ getD ls (4 * g k + 2) 0 = span-at f n d lo hi k 2 room l h (omega arith) in
-      let c : getD (put d (4 * lo) (span f lo hi)) (4 * k + 3) 0 ≡ getD ls (4 * g k + 3) 0 = span-at f n d lo hi k 3 room l h (omega arith) in
+      let z : perLink * k + 0 ≡ perLink * k = omega arith in
+      let p : getD (put d (perLink * lo) (span f lo hi)) (perLink * k) 0 ≡ getD ls (perLink * g k) 0 = ap (λ (i : ℕ). getD (put d (perLink * lo) (span f lo hi)) i 0) (sym z) ∙ span-at f n d lo hi k 0 room l h (omega arith) in
+      let q : getD (put d (perLink * lo) (span f lo hi)) (perLink * k + 1) 0 ≡ getD ls (perLink * g k + 1) 0 = span-at f n d lo hi k 1 room l h (omega arith) in
+      let w : getD (put d (perLink * lo) (span f lo hi)) (perLink * k + 2) 0 ≡ getD ls (perLink * g k + 2) 0 = span-at f n d lo hi k 2 room l h (omega arith) in
+      let c : getD (put d (perLink * lo) (span f lo hi)) (perLink * k + 3) 0 ≡ getD ls (perLink * g k + 3) 0 = span-at f n d lo hi k 3 room l h (omega arith) in
       cc
 
 -- a row of rows that were written, at other numbers than their own
-pub row-of-rows : (ls d : List ℕ) (a b n i : ℕ) → 4 * (a + n) ≤ length d → i < n → row (put d (4 * a) (seg (row ls) b n)) (a + i) ≡ row ls (b + i)
+pub row-of-rows : (ls d : List ℕ) (a b n i : ℕ) → perLink * (a + n) ≤ length d → i < n → row (put d (perLink * a) (seg (row ls) b n)) (a + i) ≡ row ls (b + i)
 row-of-rows ls d a b n i room l =
     let g : ℕ → ℕ = λ k. b + (k - a) in
     let e : n ≡ a + n - a = omega arith in
@@ -75,23 +76,23 @@ row-of-rows ls d a b n i room l =
     seg-ext (row ls) (λ k. row ls (g k)) b a n (λ i l. let z : b + i ≡ b + (a + i - a) = omega arith in ap (row ls) z)
     ∙ ap (seg (λ k. row ls (g k)) a) e in
     let z : b + (a + i - a) ≡ b + i = omega arith in
-    ap (λ (y : List ℕ). row (put d (4 * a) y) (a + i)) x
+    ap (λ (y : List ℕ). row (put d (perLink * a) y) (a + i)) x
     ∙ row-inside ls g d a (a + n) (a + i) room (omega arith) (omega arith)
     ∙ ap (row ls) z
 
 -- rows at their own place
-own-from : (ls : List ℕ) (lo n : ℕ) → 4 * (lo + n) ≤ length ls → put ls (4 * lo) (rows ls lo (lo + n)) ≡ ls
+own-from : (ls : List ℕ) (lo n : ℕ) → perLink * (lo + n) ≤ length ls → put ls (perLink * lo) (rows ls lo (lo + n)) ≡ ls
 own-from ls lo zero l =
     let e : lo + 0 ≡ lo = omega arith in
-    rw e (ap (put ls (4 * lo)) (span-empty (row ls) lo) ∙ sym (put-nil ls (4 * lo)))
+    rw e (ap (put ls (perLink * lo)) (span-empty (row ls) lo) ∙ sym (put-nil ls (perLink * lo)))
 own-from ls lo (suc n) l =
     let e : lo + suc n ≡ lo + n + 1 = omega arith in
     let r = rows-long ls lo (lo + n) (omega arith) in
     rw e
-    (ap (put ls (4 * lo)) (span-back (row ls) lo (lo + n) (omega arith))
-    ∙ sym (put-put ls (4 * lo) (rows ls lo (lo + n)) (4 * (lo + n)) (row ls (lo + n)) (omega arith) (sym r))
-    ∙ ap (λ (o : List ℕ). put o (4 * (lo + n)) (row ls (lo + n))) (own-from ls lo n (omega arith))
+    (ap (put ls (perLink * lo)) (span-back (row ls) lo (lo + n) (omega arith))
+    ∙ sym (put-put ls (perLink * lo) (rows ls lo (lo + n)) (perLink * (lo + n)) (row ls (lo + n)) (omega arith) (sym r))
+    ∙ ap (λ (o : List ℕ). put o (perLink * (lo + n)) (row ls (lo + n))) (own-from ls lo n (omega arith))
     ∙ put-same ls (lo + n) (omega arith))
 
-pub own-rows : (ls : List ℕ) (lo hi : ℕ) → lo ≤ hi → 4 * hi ≤ length ls → put ls (4 * lo) (rows ls lo hi) ≡ ls
+pub own-rows : (ls : List ℕ) (lo hi : ℕ) → lo ≤ hi → perLink * hi ≤ length ls → put ls (perLink * lo) (rows ls lo hi) ≡ ls
 own-rows ls lo hi l h = let e : lo + (hi - lo) ≡ hi = omega arith in let g = own-from ls lo (hi - lo) (omega arith) in rw e at g

@@ -1,9 +1,12 @@
 -- Link rows as numbers, four a row: "parent, position, width, child". Assumes nothing.
 use Prim.Native.Nat.{ℕ, _+_, _-_, _*_, _≤_, _<_}
+use mathlib.Core.Bool.{cond}
 use mathlib.Core.List.{List, [], _∷_}
 use lib.ListN.{getD}
+use lib.Dec.{eqb}
 use Rattle.folds.specs.Folds.{flat}
 use Rattle.store_rules.specs.Store.{perLink}
+use Rattle.store_rules.specs.Header.{ownChild}
 
 -- what f gives at the n indices from a on, in a row
 unfoldable pub seg : (ℕ → List ℕ) → ℕ → ℕ → List ℕ
@@ -48,3 +51,9 @@ reversed ls lo hi = span (λ k. row ls (lo + hi - 1 - k)) lo hi
 -- the positions of the rows from lo up to hi do not descend
 abbrev pub Ordered : List ℕ → ℕ → ℕ → Type 0
 Ordered ls lo hi = (i j : ℕ) → lo ≤ i → i ≤ j → j < hi → positionIn ls i ≤ positionIn ls j
+
+-- row k where it stays: the kept table t's own parts are new objects, of which v is the first
+unfoldable pub keptRow : List ℕ → List ℕ → ℕ → ℕ → ℕ → List ℕ
+keptRow ls own t v k =
+    four (parentIn ls k) (positionIn ls k) (widthIn ls k)
+    (cond (eqb (parentIn ls k) t) (ownChild own v (positionIn ls k) (childIn ls k)) (childIn ls k))

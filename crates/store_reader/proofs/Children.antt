@@ -4,7 +4,7 @@ use mathlib.Core.Bool.{true, false}
 use mathlib.Core.List.{[], _∷_}
 use mathlib.Core.Logic.{⊎-elim}
 use mathlib.Core.Option.{some, none}
-use mathlib.Core.Path.{_≡_, sym, ap, _∙_}
+use mathlib.Core.Path.{_≡_, sym, _∙_}
 use native.Mathlib.Decide.{ℕ-discrete}
 use native.Mathlib.Nat.{not-suc-le-zero, le-of-suc-le-suc, eq-or-lt-of-le}
 use native.Mathlib.Omega.{arith}
@@ -15,7 +15,7 @@ use Rattle.folds.proofs.Tests.{either, and-first, and-second}
 use Rattle.store_rules.specs.Store.{Store, Link, linkAt, linksOf, lookup, childAt, parentOf, positionOf, childOf}
 use Rattle.store_rules.proofs.Lookups.{hit, lookup-append, lookup-none-flat}
 use Rattle.store_reader.specs.Rows.{keyOf, rowKey, InOrder, FirstRow}
-use Rattle.store_reader.specs.Children.{asChild}
+use Rattle.store_reader.specs.Children.{childFound}
 use Rattle.store_reader.specs.declared.Child.the-variants.{Of, Nowhere}
 
 module _ (p q : ℕ) where
@@ -52,23 +52,23 @@ module _ (s : Store) (p q r : ℕ) (o : InOrder (s .links) (s .linkCount)) (f : 
   after-misses : (k : ℕ) → r < k → k < s .linkCount → hit (linkAt s k) p q ≡ false
   after-misses k h l = misses k (λ e. omega (arith, f .above r (omega arith) (omega arith), o .rising r k h l))
 
-  pub child-past : s .linkCount ≤ r → Nowhere ≡ asChild (childAt s p q)
+  pub child-past : s .linkCount ≤ r → childFound Nowhere ≡ childAt s p q
   unfolding childAt linksOf
-  child-past h = ap asChild (sym (lookup-none p q (linkAt s) (s .linkCount) (λ k l. before-misses k (omega arith))))
+  child-past h = sym (lookup-none p q (linkAt s) (s .linkCount) (λ k l. before-misses k (omega arith)))
 
-  pub child-missing : hit (linkAt s r) p q ≡ false → Nowhere ≡ asChild (childAt s p q)
+  pub child-missing : hit (linkAt s r) p q ≡ false → childFound Nowhere ≡ childAt s p q
   unfolding childAt linksOf
   child-missing h =
-      ap asChild (sym (lookup-none p q (linkAt s) (s .linkCount)
-      (λ k l. ⊎-elim (λ d. before-misses k d) (λ d. ⊎-elim (λ e. after-misses k e l) (λ e. let z : k ≡ r = omega arith in rw z h) (either r k)) (either k r))))
+      sym (lookup-none p q (linkAt s) (s .linkCount)
+      (λ k l. ⊎-elim (λ d. before-misses k d) (λ d. ⊎-elim (λ e. after-misses k e l) (λ e. let z : k ≡ r = omega arith in rw z h) (either r k)) (either k r)))
 
-  pub child-found : r < s .linkCount → parentOf s r ≡ p → positionOf s r ≡ q → Of (childOf s r) ≡ asChild (childAt s p q)
+  pub child-found : r < s .linkCount → parentOf s r ≡ p → positionOf s r ≡ q → childFound (Of (childOf s r)) ≡ childAt s p q
   unfolding childAt linksOf
   child-found l a b =
-      ap asChild (sym (lookup-at p q (linkAt s) (s .linkCount) r l before-misses (rw (eq-eqb (parentOf s r) p a, eq-eqb (positionOf s r) q b))))
+      sym (lookup-at p q (linkAt s) (s .linkCount) r l before-misses (rw (eq-eqb (parentOf s r) p a, eq-eqb (positionOf s r) q b)))
 
-  pub child-other-parent : (parentOf s r ≡ p → ⊥) → Nowhere ≡ asChild (childAt s p q)
+  pub child-other-parent : (parentOf s r ≡ p → ⊥) → childFound Nowhere ≡ childAt s p q
   child-other-parent ne = child-missing (and-first (eqb (parentOf s r) p) (eqb (positionOf s r) q) (ne-eqb (parentOf s r) p ne))
 
-  pub child-other-place : (positionOf s r ≡ q → ⊥) → Nowhere ≡ asChild (childAt s p q)
+  pub child-other-place : (positionOf s r ≡ q → ⊥) → childFound Nowhere ≡ childAt s p q
   child-other-place ne = child-missing (and-second (eqb (parentOf s r) p) (eqb (positionOf s r) q) (ne-eqb (positionOf s r) q ne))

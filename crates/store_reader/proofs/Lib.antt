@@ -1,4 +1,5 @@
 pub mod Checks
 pub mod Bytes
 pub mod Rows
+pub mod AtSlots
 pub mod Children

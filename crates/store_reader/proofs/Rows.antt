@@ -11,9 +11,10 @@ use lib.Dec.{leb, ltb, eqb}
 use lib.ListN.{getD}
 use borrow.Author.Tests.{ltb-true, lt-ltb, le-ltb, le-leb, lt-leb, eq-eqb, ne-eqb}
 use Rattle.folds.proofs.Tests.{either, and-first, and-second}
-use Rattle.store_rules.specs.Store.{Store, perLink, parentOf, positionOf, ascends}
-use Rattle.store_rules.proofs.Sound.{Fits}
-use Rattle.store_reader.specs.Rows.{keyOf, rowKey, InOrder, FirstRow}
+use Rattle.store_rules.specs.Store.{Store, perLink, sound, parentOf, positionOf, ascends}
+use Rattle.store_rules.proofs.Sound.{Fits, sound-fits}
+use Rattle.store_reader.specs.declared.LinkRows.{LinkRows}
+use Rattle.store_reader.specs.Rows.{keyOf, rowKey, InOrder, FirstRow, Bracket, ParentRows}
 
 -- pairs ascend as their keys do, where second parts have 32 bits
 key-ascends : (p q p′ q′ : ℕ) → q < 4294967296 → q′ < 4294967296 → ltb (keyOf p q) (keyOf p′ q′) ≡ (ltb p p′ || eqb p p′ && ltb q q′)
@@ -56,13 +57,10 @@ module _ (s : Store) (f : Fits s) where
   pub in-order : InOrder (s .links) (s .linkCount)
   in-order = record { room = f .linksIn; rising = keys-rise }
 
--- ---- a search by halving: the rows before lo are below the key, those from hi on are not
+pub rows-in-order : (s : Store) → sound s ≡ true → InOrder (s .links) (s .linkCount)
+rows-in-order s h = in-order s (sound-fits s h)
 
-pub record Bracket (l : List ℕ) (m key lo hi : ℕ) : Type 0 where
-  pub lo-le : lo ≤ hi
-  pub hi-le : hi ≤ m
-  pub below : (k : ℕ) → k < lo → rowKey l k < key
-  pub above : (k : ℕ) → hi ≤ k → k < m → key ≤ rowKey l k
+-- ---- a search: the rows before lo are below the key, those from hi on are not
 
 pub whole : (l : List ℕ) (m key : ℕ) → Bracket l m key 0 m
 whole l m key = record { lo-le = omega arith; hi-le = omega arith; below = λ k h. absurd (omega arith); above = λ k h g. absurd (omega arith) }
@@ -85,6 +83,14 @@ module _ {l : List ℕ} {m key lo hi : ℕ} (o : InOrder l m) (b : Bracket l m k
 
 pub found : {l : List ℕ} {m key lo hi : ℕ} → Bracket l m key lo hi → hi ≤ lo → FirstRow l m key lo
 found b h = record { within = omega (arith, b .lo-le, b .hi-le); below = b .below; above = λ k g n. b .above k (omega arith) n }
+
+-- a row with that very key
+pub hit : {l : List ℕ} {m key : ℕ} → InOrder l m → (k : ℕ) → k < m → rowKey l k ≡ key → FirstRow l m key k
+hit {l} {m} {key} o k h e =
+    record { within = omega arith; below = λ j d. omega (arith, o .rising j k d h); above = over }
+  where
+    over : (j : ℕ) → k ≤ j → j < m → key ≤ rowKey l j
+    over j d n = ⊎-elim (λ (g : k < j). omega (arith, o .rising k j g n)) (λ (g : j ≤ k). let q : j ≡ k = omega arith in rw q (omega (arith, e))) (either k j)
 
 -- the row before `near` is below the key
 pub behind : {l : List ℕ} {m key near : ℕ} → InOrder l m → near ≤ m → (near ≡ 0 → ⊥) → rowKey l (near - 1) < key → Bracket l m key near m
@@ -143,3 +149,13 @@ parent-rows {l} {m} {lo} {hi} p f g k used small =
     and-true : (b : Bool) → b && true && true ≡ b
     and-true true = refl
     and-true false = refl
+
+-- a position's first row is one of its parent's, or the one behind them
+pub among-parent : {l : List ℕ} {m p : ℕ} {r : LinkRows} → ParentRows l m p r → (q : ℕ) → q < 4294967296 → Bracket l m (keyOf p q) (r .first) (r .after)
+among-parent rows q small =
+    record {
+      lo-le = rows .rise;
+      hi-le = rows .after .within;
+      below = λ k h. omega (arith, rows .first .below k h);
+      above = λ k h n. omega (arith, rows .after .above k h n);
+    }

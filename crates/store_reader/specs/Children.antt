@@ -4,7 +4,7 @@ use mathlib.Core.Option.{Option, some, none}
 use Rattle.store_reader.specs.declared.Child.{Child}
 use Rattle.store_reader.specs.declared.Child.the-variants.{Of, Nowhere}
 
--- the child that is there, or none
-abbrev pub asChild : Option ℕ → Child
-asChild (some i) = Of i
-asChild none = Nowhere
+-- the object that was found, if any
+abbrev pub childFound : Child → Option ℕ
+childFound (Of c) = some c
+childFound Nowhere = none

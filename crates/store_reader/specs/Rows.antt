@@ -3,6 +3,7 @@ use Prim.Native.Nat.{ℕ, _+_, _*_, _<_, _≤_}
 use mathlib.Core.List.{List}
 use lib.ListN.{length, getD}
 use Rattle.store_rules.specs.Store.{perLink}
+use Rattle.store_reader.specs.declared.LinkRows.{LinkRows}
 
 -- object i of these rows lies within n bytes
 pub record Inside (n : ℕ) (o : List ℕ) (i : ℕ) : Type 0 where
@@ -28,3 +29,16 @@ pub record FirstRow (l : List ℕ) (m key r : ℕ) : Type 0 where
   pub within : r ≤ m
   pub below : (k : ℕ) → k < r → rowKey l k < key
   pub above : (k : ℕ) → r ≤ k → k < m → key ≤ rowKey l k
+
+-- of the m rows, those of parent p
+pub record ParentRows (l : List ℕ) (m p : ℕ) (r : LinkRows) : Type 0 where
+  pub first : FirstRow l m (keyOf p 0) (r .first)
+  pub after : FirstRow l m (keyOf (p + 1) 0) (r .after)
+  pub rise : r .first ≤ r .after
+
+-- that row lies from lo to hi: the rows before lo stand before the key, those from hi on do not
+pub record Bracket (l : List ℕ) (m key lo hi : ℕ) : Type 0 where
+  pub lo-le : lo ≤ hi
+  pub hi-le : hi ≤ m
+  pub below : (k : ℕ) → k < lo → rowKey l k < key
+  pub above : (k : ℕ) → hi ≤ k → k < m → key ≤ rowKey l k

@@ -7,9 +7,9 @@ ghost use lib.Dec.{leb};
 ghost use Rattle.folds.specs.Folds.{all, before};
 ghost use Rattle.store_rules.specs.Store.{lent, perLink, bytesOf, objectFits, ascends, linkFits, sound, handedOut, childAt};
 ghost use Rattle.folds.specs.Moments.{came};
-ghost use Rattle.store_rules.specs.Moments.{storeCame};
-ghost use Rattle.store_reader.specs.Rows.{Inside, keyOf, rowKey, InOrder, FirstRow};
-ghost use Rattle.store_reader.specs.Children.{asChild};
+ghost use Rattle.store_rules.specs.Moments.{storeCameWith};
+ghost use Rattle.store_reader.specs.Rows.{Inside, keyOf, rowKey, InOrder, Bracket, FirstRow, ParentRows};
+ghost use Rattle.store_reader.specs.Children.{childFound};
 
 // The numbers of a link row, and where each stands in it.
 pub const PER_LINK: usize = 4;
@@ -28,6 +28,12 @@ pub enum Child {
     Nowhere,
 }
 
+// Link rows one behind the other: those from `first` on, before `after`.
+pub struct LinkRows {
+    pub first: usize,
+    pub after: usize,
+}
+
 // The tail of the object before object `i`, 0 before the first.
 fn tail_before(objects: &[u32], i: usize) -> u32
     requires { ⌜ 2 * i ≤ length (now objects) ⌝ }
@@ -41,9 +47,9 @@ fn tail_before(objects: &[u32], i: usize) -> u32
 }
 
 // Whether object row `i` fits: head ≤ tail ≤ data in use, and its head is at or after the tail before it.
-fn object_fits(objects: &[u32], counts: &[u32; 3], i: usize) -> bool
+fn object_fits(objects: &[u32], counts: [u32; 3], i: usize) -> bool
     requires { ⌜ 2 * i + 1 < length (now objects) ⌝ }
-    ensures { λ r. ⌜ ((b l : List ℕ) → r ≡ objectFits (lent b (came objects) l (came counts)) i) ⌝ }
+    ensures { λ r. ⌜ ((b l : List ℕ) → r ≡ objectFits (lent b (came objects) l counts) i) ⌝ }
 {
     let head = objects[2 * i];
     let tail = objects[2 * i + 1];
@@ -57,9 +63,9 @@ fn object_fits(objects: &[u32], counts: &[u32; 3], i: usize) -> bool
 }
 
 // Whether each object row in use fits.
-fn objects_fit(objects: &[u32], counts: &[u32; 3]) -> bool
-    requires { ⌜ 2 * getD (now counts) 1 0 ≤ length (now objects) ⌝ }
-    ensures { λ r. ⌜ ((b l : List ℕ) → r ≡ all (objectFits (lent b (came objects) l (came counts))) (getD (came counts) 1 0)) ⌝ }
+fn objects_fit(objects: &[u32], counts: [u32; 3]) -> bool
+    requires { ⌜ 2 * getD counts 1 0 ≤ length (now objects) ⌝ }
+    ensures { λ r. ⌜ ((b l : List ℕ) → r ≡ all (objectFits (lent b (came objects) l counts)) (getD counts 1 0)) ⌝ }
 {
     let count = counts[1] as usize;
     let mut i: usize = 0;
@@ -107,9 +113,9 @@ fn position_fits(objects: &[u32], i: usize, position: u32) -> bool
 }
 
 // Whether link row `k` fits: parent and child in use, width 2, position + 2 within the parent, and behind the row before it.
-fn link_fits(objects: &[u32], links: &[u32], counts: &[u32; 3], k: usize) -> bool
-    requires { ⌜ (2 * getD (now counts) 1 0 ≤ length (now objects)) × (perLink * k + 3 < length (now links)) ⌝ }
-    ensures { λ r. ⌜ ((b : List ℕ) → r ≡ linkFits (lent b (came objects) (came links) (came counts)) k) ⌝ }
+fn link_fits(objects: &[u32], links: &[u32], counts: [u32; 3], k: usize) -> bool
+    requires { ⌜ (2 * getD counts 1 0 ≤ length (now objects)) × (perLink * k + 3 < length (now links)) ⌝ }
+    ensures { λ r. ⌜ ((b : List ℕ) → r ≡ linkFits (lent b (came objects) (came links) counts) k) ⌝ }
 {
     let parent = links[PER_LINK * k + PARENT];
     if counts[1] <= parent {
@@ -128,9 +134,9 @@ fn link_fits(objects: &[u32], links: &[u32], counts: &[u32; 3], k: usize) -> boo
 }
 
 // Whether each link row in use fits.
-fn links_fit(objects: &[u32], links: &[u32], counts: &[u32; 3]) -> bool
-    requires { ⌜ (2 * getD (now counts) 1 0 ≤ length (now objects)) × (perLink * getD (now counts) 2 0 ≤ length (now links)) ⌝ }
-    ensures { λ r. ⌜ ((b : List ℕ) → r ≡ all (linkFits (lent b (came objects) (came links) (came counts))) (getD (came counts) 2 0)) ⌝ }
+fn links_fit(objects: &[u32], links: &[u32], counts: [u32; 3]) -> bool
+    requires { ⌜ (2 * getD counts 1 0 ≤ length (now objects)) × (perLink * getD counts 2 0 ≤ length (now links)) ⌝ }
+    ensures { λ r. ⌜ ((b : List ℕ) → r ≡ all (linkFits (lent b (came objects) (came links) counts)) (getD counts 2 0)) ⌝ }
 {
     let count = counts[2] as usize;
     let mut k: usize = 0;
@@ -154,8 +160,8 @@ fn count_fits(count: u32, length: usize, most: usize) -> bool
 }
 
 // Whether the lent store is sound.
-pub fn is_sound(data: &[u8], objects: &[u32], links: &[u32], counts: &[u32; 3]) -> bool
-    ensures { λ r. ⌜ r ≡ sound (storeCame «data» objects links counts) ⌝ }
+pub fn is_sound(data: &[u8], objects: &[u32], links: &[u32], counts: [u32; 3]) -> bool
+    ensures { λ r. ⌜ r ≡ sound (storeCameWith «data» objects links counts) ⌝ }
 {
     if !count_fits(counts[0], data.len(), 16777216) {
         return false;
@@ -195,10 +201,10 @@ pub fn object_bytes<'a>(
     data: &'a [u8],
     objects: &[u32],
     links: &[u32],
-    counts: &[u32; 3],
+    counts: [u32; 3],
     table: u32,
 ) -> &'a [u8]
-    ensures { λ r. ⌜ now r ≡ handedOut (storeCame «data» objects links counts) table ⌝ }
+    ensures { λ r. ⌜ now r ≡ handedOut (storeCameWith «data» objects links counts) table ⌝ }
 {
     if !is_sound(data, objects, links, counts) {
         return &data[0..0];
@@ -209,23 +215,59 @@ pub fn object_bytes<'a>(
     bytes_of(data, objects, table as usize)
 }
 
-// The first of the `count` link rows at or past `position` of `parent`, by halving; `count` where there is none.
+// The first of the `count` link rows at or past `position` of `parent`; `count` where there is none.
 pub fn first_row(links: &[u32], count: usize, parent: u32, position: u32) -> usize
     requires { ⌜ InOrder (now links) count ⌝ }
     ensures { λ r. ⌜ FirstRow (came links) count (keyOf parent position) r ⌝ }
 {
-    let key = key_of(parent, position);
-    let mut lo: usize = 0;
-    let mut hi = count;
-    while lo < hi {
-        let mid = lo + (hi - lo) / 2;
+    first_row_between(links, count, 0, count, key_of(parent, position))
+}
+
+// The first of the `count` link rows at or past `key`, by halving: it is known to be one from `lo` to `hi`.
+fn first_row_between(links: &[u32], count: usize, lo: usize, hi: usize, key: u64) -> usize
+    requires { ⌜ InOrder (now links) count × Bracket (now links) count key lo hi ⌝ }
+    ensures { λ r. ⌜ FirstRow (came links) count key r ⌝ }
+{
+    let mut from = lo;
+    let mut to = hi;
+    while from < to {
+        let mid = from + (to - from) / 2;
         if key_at(links, mid) < key {
-            lo = mid + 1;
+            from = mid + 1;
         } else {
-            hi = mid;
+            to = mid;
         }
     }
-    lo
+    from
+}
+
+// The first of the `count` link rows at or past `position` of `parent`, which is one from `lo` to `hi`. Row `lo + near` is looked at first:
+// where an object has a link at each of its slots, so many rows before the slot's own are those of the slots before it.
+pub fn row_near(
+    links: &[u32],
+    count: usize,
+    lo: usize,
+    hi: usize,
+    near: usize,
+    parent: u32,
+    position: u32,
+) -> usize
+    requires { ⌜ InOrder (now links) count × Bracket (now links) count (keyOf parent position) lo hi × (near < 4294967296) ⌝ }
+    ensures { λ r. ⌜ FirstRow (came links) count (keyOf parent position) r ⌝ }
+{
+    let key = key_of(parent, position);
+    let at = lo + near;
+    if hi <= at {
+        return first_row_between(links, count, lo, hi, key);
+    }
+    let found = key_at(links, at);
+    if found < key {
+        return first_row_between(links, count, at + 1, hi, key);
+    }
+    if key < found {
+        return first_row_between(links, count, lo, at, key);
+    }
+    at
 }
 
 // The same, row by row from `start` on, before which every row stands before that position of that parent.
@@ -244,14 +286,23 @@ pub fn next_row(links: &[u32], count: usize, start: usize, parent: u32, position
     row
 }
 
-// The child that the link at `position` of `parent` leads to.
-pub fn child_at(links: &[u32], counts: &[u32; 3], parent: u32, position: u32) -> Child
-    requires { ⌜ InOrder (now links) (getD (now counts) 2 0) ⌝ }
-    ensures { λ r. ⌜ ((b o : List ℕ) → r ≡ asChild (childAt (lent b o (came links) (came counts)) parent position)) ⌝ }
+// The rows of `parent` among the `count` link rows.
+pub fn rows_of(links: &[u32], count: usize, parent: u32) -> LinkRows
+    requires { ⌜ InOrder (now links) count ⌝ }
+    requires { ⌜ parent < 65536 ⌝ }
+    ensures { λ r. ⌜ ParentRows (came links) count parent r ⌝ }
 {
-    let count = counts[2] as usize;
-    let row = first_row(links, count, parent, position);
-    if count <= row {
+    let first = first_row(links, count, parent, 0);
+    let after = first_row(links, count, parent + 1, 0);
+    LinkRows { first, after }
+}
+
+// The child that the link at `position` of `parent` leads to, where `row` is the first row at or past it.
+fn child_in(links: &[u32], counts: [u32; 3], row: usize, parent: u32, position: u32) -> Child
+    requires { ⌜ InOrder (now links) (getD counts 2 0) × FirstRow (now links) (getD counts 2 0) (keyOf parent position) row ⌝ }
+    ensures { λ r. ⌜ ((b o : List ℕ) → childFound r ≡ childAt (lent b o (came links) counts) parent position) ⌝ }
+{
+    if (counts[2] as usize) <= row {
         return Child::Nowhere;
     }
     if links[PER_LINK * row + PARENT] != parent {
@@ -261,4 +312,37 @@ pub fn child_at(links: &[u32], counts: &[u32; 3], parent: u32, position: u32) ->
         return Child::Nowhere;
     }
     Child::Of(links[PER_LINK * row + CHILD])
+}
+
+// The child that the link at `position` of `parent` leads to.
+pub fn child_at(links: &[u32], counts: [u32; 3], parent: u32, position: u32) -> Child
+    requires { ⌜ InOrder (now links) (getD counts 2 0) ⌝ }
+    ensures { λ r. ⌜ ((b o : List ℕ) → childFound r ≡ childAt (lent b o (came links) counts) parent position) ⌝ }
+{
+    let row = first_row(links, counts[2] as usize, parent, position);
+    child_in(links, counts, row, parent, position)
+}
+
+// The same, where the rows of `parent` are known and its link is looked for near the one that stands so many rows behind the first.
+pub fn child_near(
+    links: &[u32],
+    counts: [u32; 3],
+    rows: LinkRows,
+    near: usize,
+    parent: u32,
+    position: u32,
+) -> Child
+    requires { ⌜ InOrder (now links) (getD counts 2 0) × ParentRows (now links) (getD counts 2 0) parent rows × (near < 4294967296) ⌝ }
+    ensures { λ r. ⌜ ((b o : List ℕ) → childFound r ≡ childAt (lent b o (came links) counts) parent position) ⌝ }
+{
+    let row = row_near(
+        links,
+        counts[2] as usize,
+        rows.first,
+        rows.after,
+        near,
+        parent,
+        position,
+    );
+    child_in(links, counts, row, parent, position)
 }

@@ -17,3 +17,4 @@ pub mod RowChild
 pub mod SameReach
 pub mod ItemSize
 pub mod SlotsCounted
+pub mod SlotLinks

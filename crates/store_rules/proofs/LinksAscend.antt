@@ -39,6 +39,12 @@ pub climb-upper : (ls : List Link) (p q e e′ : ℕ) → e ≤ e′ → Climb p
 climb-upper [] p q e e′ h c = ⊎-elim (λ a. inl (omega arith)) (λ (a, b). ⊎-elim (λ lt. inl (omega arith)) (λ ge. inr (omega arith, b)) (either e e′)) c
 climb-upper (l ∷ ls) p q e e′ h c = (c .0, climb-upper ls (l .parent) (l .position + 1) e e′ h (c .1))
 
+-- with children changed
+pub climb-map : (f : Link → Link) → ((l : Link) → f l .parent ≡ l .parent) → ((l : Link) → f l .position ≡ l .position) → (ls : List Link) (x y e : ℕ)
+    → Climb x y e ls → Climb x y e (map f ls)
+climb-map f a b [] x y e c = c
+climb-map f a b (l ∷ ls) x y e c = (rw (a l, b l) (c .0), rw (a l, b l) (climb-map f a b ls (l .parent) (l .position + 1) e (c .1)))
+
 pub climb-append : (xs ys : List Link) (p q m e : ℕ) → Climb p q m xs → Climb m 0 e ys → Climb p q e (xs ++ ys)
 climb-append [] ys p q m e a b = climb-lower ys p q m 0 e a b
 climb-append (x ∷ xs) ys p q m e a b = (a .0, climb-append xs ys (x .parent) (x .position + 1) m e (a .1) b)

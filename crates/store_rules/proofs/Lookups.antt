@@ -10,10 +10,10 @@ use native.Mathlib.Nat.{not-suc-le-zero, eq-or-lt-of-le, le-of-suc-le-suc}
 use lib.Dec.{eqb}
 use borrow.Author.Tests.{eqb-true, ne-eqb, eq-eqb}
 use Rattle.folds.specs.Folds.{orElse, flat, upto}
-use Rattle.folds.specs.Lists.{sift}
+use Rattle.folds.specs.Lists.{sift, isSome}
 use Rattle.folds.proofs.Tests.{and-both, true-false}
 use Rattle.folds.proofs.Each.{Each, each-moved}
-use Rattle.store_rules.specs.Store.{Link, lookup, Store, linkAt, parentOf, positionOf, childOf, childAt, linksOf, bytesOf, linkedBytes, ofParent}
+use Rattle.store_rules.specs.Store.{Link, lookup, Store, linkAt, parentOf, positionOf, childOf, childAt, linksOf, bytesOf, linkedAt, linkedBytes, ofParent}
 use Rattle.store_rules.specs.Reach.{onCycle, Reach}
 use Rattle.store_rules.proofs.Sound.{Fits}
 use Rattle.store_rules.proofs.Reached.{reached-all}
@@ -143,7 +143,14 @@ found-row s (suc n) p q c e = go (lookup (upto (linkAt s) n) p q) refl (found-ro
         let (k, l, a, b, x) = ih (h ∙ f) in (k, omega arith, a, b, x)
     go none h ih = last (eqb (parentOf s n) p && eqb (positionOf s n) q) refl (sym (lookup-append (upto (linkAt s) n) (linkAt s n ∷ []) p q ∙ rw h) ∙ e)
 
+some-of : (o : Option ℕ) → isSome o ≡ true → (c : ℕ) × (o ≡ some c)
+some-of (some c) h = (c, refl)
+some-of none h = true-false (sym h)
+
 module _ (s : Store) (t : ℕ) where
+  pub child-there : (q : ℕ) → isSome (childAt s t q) ≡ true → (c : ℕ) × (childAt s t q ≡ some c)
+  child-there q h = some-of (childAt s t q) h
+
   pub child-row : (q c : ℕ) → childAt s t q ≡ some c → (k : ℕ) × (k < s .linkCount) × (parentOf s k ≡ t) × (positionOf s k ≡ q) × (childOf s k ≡ c)
   unfolding childAt linksOf
   child-row q c e = found-row s (s .linkCount) t q c e
@@ -160,3 +167,14 @@ module _ (s : Store) (t : ℕ) where
 
   pub linked-some : (q c : ℕ) → childAt s t q ≡ some c → linkedBytes s t q ≡ bytesOf s c
   linked-some q c e = ap (λ (o : Option ℕ). bytesOf s (Option·getD o 0)) e
+
+  pub linked-is : (q c : ℕ) → childAt s t q ≡ some c → linkedAt s t q ≡ c
+  linked-is q c e = ap (λ (o : Option ℕ). Option·getD o 0) e
+
+  -- what is linked at q, the first object where nothing is
+  pub linked-used : Fits s → t < s .objectCount → (q : ℕ) → linkedAt s t q < s .objectCount
+  linked-used f used q = go (childAt s t q) refl
+    where
+      go : (o : Option ℕ) → childAt s t q ≡ o → Option·getD o 0 < s .objectCount
+      go none e = omega arith
+      go (some c) e = child-used f q c e

@@ -113,6 +113,9 @@ module _ (s : Store) (f : Fits s) where
   unfolding bytesOf
   size-bytes i h = let o = f .object i h in length-part (s .bytes) (headOf s i) (tailOf s i) (o .ordered) (omega (arith, f .bytesIn))
 
+  pub size-most : (i : ℕ) → i < s .objectCount → sizeOf s i ≤ 16777216
+  size-most i h = omega (arith, f .object i h .inside, f .bytesMost)
+
   -- objects do not overlap, so that the first k of them take no more bytes than there are up to the last one's tail
   sizes-before : (k : ℕ) → k ≤ s .objectCount → sum (sizeOf s) k ≤ before (tailOf s) k
   unfolding sum before

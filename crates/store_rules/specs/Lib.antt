@@ -2,4 +2,5 @@ pub mod Store
 pub mod Reach
 pub mod Appended
 pub mod Header
+pub mod SlotLinks
 pub mod Moments

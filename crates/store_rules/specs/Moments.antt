@@ -9,6 +9,10 @@ use Rattle.store_rules.specs.Store.{Store, lent}
 abbrev pub storeCame : Buffer → Buffer → Buffer → Buffer → Store
 storeCame d o l c = lent (came d) (came o) (came l) (came c)
 
+-- the same, where the counts are handed over by value
+abbrev pub storeCameWith : Buffer → Buffer → Buffer → List ℕ → Store
+storeCameWith d o l c = lent (came d) (came o) (came l) c
+
 -- the store as it is left
 abbrev pub storeLeft : Buffer → Buffer → Buffer → Buffer → Store
 storeLeft d o l c = lent (left d) (left o) (left l) (left c)
@@ -16,3 +20,7 @@ storeLeft d o l c = lent (left d) (left o) (left l) (left c)
 -- the store at a call, of which a function's needs speak
 abbrev pub storeNow : RefT (List ℕ) → RefT (List ℕ) → RefT (List ℕ) → RefT (List ℕ) → Store
 storeNow d o l c = lent (d .now) (o .now) (l .now) (c .now)
+
+-- the same, where the counts are handed over by value
+abbrev pub storeNowWith : RefT (List ℕ) → RefT (List ℕ) → RefT (List ℕ) → List ℕ → Store
+storeNowWith d o l c = lent (d .now) (o .now) (l .now) c

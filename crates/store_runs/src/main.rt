@@ -75,7 +75,7 @@ fn look(
     used: u32,
     walk: &mut [u32; 131072],
 ) -> Report {
-    look_at_first(data, objects, links, &[524288, 65536, used], walk)
+    look_at_first(data, objects, links, [524288, 65536, used], walk)
 }
 
 // Looks at object 0 of any store.
@@ -83,7 +83,7 @@ fn look_at_first(
     data: &[u8],
     objects: &[u32],
     links: &[u32],
-    counts: &[u32; 3],
+    counts: [u32; 3],
     walk: &mut [u32],
 ) -> Report {
     if !is_sound(data, objects, links, counts) {
@@ -115,7 +115,7 @@ fn hand_out(
     links: &[u32; 1048576],
     object: u32,
 ) {
-    let part = object_bytes(data, objects, links, &[524288, 65536, 262144], object);
+    let part = object_bytes(data, objects, links, [524288, 65536, 262144], object);
     io::write_all(STDOUT_FILENO, what);
     io::print_decimal(STDOUT_FILENO, part.len() as u64);
     io::write_all(STDOUT_FILENO, b" bytes handed out\n");
@@ -133,8 +133,8 @@ fn print(what: &[u8], r: Report) {
 }
 
 // The walk from object 0 of a sound store: it has a mark then if there is a way back.
-fn walk_from_first(objects: &[u32], links: &[u32], counts: &[u32; 3], walk: &mut [u32]) -> Report
-    requires { ⌜ Looks (now objects) (now links) (now counts) (now walk) ⌝ }
+fn walk_from_first(objects: &[u32], links: &[u32], counts: [u32; 3], walk: &mut [u32]) -> Report
+    requires { ⌜ Looks (now objects) (now links) counts (now walk) ⌝ }
 {
     prepare(links, counts, walk);
     let count = counts[2] as usize;

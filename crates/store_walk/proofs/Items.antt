@@ -10,13 +10,11 @@ use lib.Dec.{leb, ltb, eqb}
 use borrow.Author.Tests.{le-leb, lt-leb, le-ltb, lt-ltb}
 use Rattle.folds.proofs.Tests.{either, and-second}
 use Rattle.store_rules.specs.Store.{Store, Link, ofSpan, linkAt, parentOf, positionOf}
-use Rattle.store_rules.specs.Reach.{itemSize}
 use Rattle.store_rules.proofs.Sound.{Fits}
-use Rattle.store_rules.proofs.Reaching.{size-same}
 use Rattle.store_reader.specs.Rows.{keyOf, FirstRow}
 use Rattle.store_reader.proofs.Rows.{position-most, rows-between}
-use Rattle.store_walk.specs.Marks.{between, alsoBetween, Marks, Walked}
-use Rattle.store_walk.proofs.Marks.{marks-same, marks-after}
+use Rattle.store_walk.specs.Marks.{between, alsoBetween, Marks, Walked, Grown}
+use Rattle.store_walk.proofs.Grown.{grown-same, grown-walk}
 
 -- the links of the items lo up to hi of table t
 abbrev pub rowsAt : ℕ → (ℕ → ℕ) → ℕ → ℕ → Link → Bool
@@ -70,11 +68,6 @@ module _ {s : Store} {t : ℕ} {at : ℕ → ℕ} {i lo hi : ℕ} (f : Fits s) (
     rows-more k h = ap (λ (b : Bool). items s t at a i k || b) (item-rows k h) ∙ items-more s t at rise a i k from
 
     module _ {w′ : List ℕ} {total : ℕ} (d : Walked s (items s t at a i) lo hi e w w′ total) where
-      -- what the walk has added is S(i), where objects count as seen from item a on
-      pub item-size : total ≡ itemSize s (rowsAt t at) a i
-      unfolding itemSize
-      item-size = omega (arith, d .size, size-same s f (alsoBetween (items s t at a i) lo hi) (items s t at a (i + 1)) rows-more)
-
-      -- no cut: the item counts as seen
-      pub item-seen : Marks s (items s t at a (i + 1)) e w′
-      item-seen = marks-same f (marks-after f v d) rows-more
+      -- the walk has added the item's rows
+      pub item-grown : Grown s (items s t at a i) (items s t at a (i + 1)) e w′ total
+      item-grown = grown-same f rows-more (grown-walk f v d)

@@ -7,7 +7,8 @@ use mathlib.Core.Logic.{_⊎_}
 use mathlib.Core.Path.{_≡_}
 use lib.Dec.{leb, ltb, eqb}
 use lib.ListN.{length, getD, set}
-use Rattle.store_rules.specs.Store.{Store, lent, perLink, linkAt, sound, ofParent}
+use Rattle.folds.specs.Lists.{among}
+use Rattle.store_rules.specs.Store.{Store, lent, perLink, linkAt, positionOf, sound, ofParent}
 use Rattle.store_rules.specs.Reach.{marked, reached, reachSize}
 use Rattle.store_reader.specs.Rows.{keyOf, FirstRow}
 
@@ -22,6 +23,10 @@ noRow k = false
 -- row k is one of `from`, or from lo up to hi
 abbrev pub alsoBetween : (ℕ → Bool) → ℕ → ℕ → ℕ → Bool
 alsoBetween from lo hi k = from k || between lo hi k
+
+-- row k is one of `from`, or object p's at one of these positions
+abbrev pub alsoAt : Store → (ℕ → Bool) → ℕ → List ℕ → ℕ → Bool
+alsoAt s from p qs k = from k || ofParent p (linkAt s k) && among (positionOf s k) qs
 
 -- the scratch in epoch e, in which the rows of `from` have been walked
 pub record Marks (s : Store) (from : ℕ → Bool) (e : ℕ) (w : List ℕ) : Type 0 where
@@ -75,6 +80,11 @@ pub record Walked (s : Store) (from : ℕ → Bool) (lo hi e : ℕ) (w w′ : Li
 -- the same, whatever the bytes of the store and the rows that had been walked
 abbrev pub Walks : List ℕ → List ℕ → List ℕ → ℕ → ℕ → ℕ → List ℕ → List ℕ → ℕ → Type 0
 Walks o l c lo hi e w w′ r = (b : List ℕ) (from : ℕ → Bool) → Marks (lent b o l c) from e w → Walked (lent b o l c) from lo hi e w w′ r
+
+-- after some walks: the rows of `more` have been walked, where those of `from` had been before, and r is the length of what they have added
+pub record Grown (s : Store) (from more : ℕ → Bool) (e : ℕ) (w : List ℕ) (r : ℕ) : Type 0 where
+  pub marks : Marks s more e w
+  pub size : r + reachSize s from ≡ reachSize s more
 
 -- row k is table t's own, and stands before row `row`
 abbrev pub ownBefore : Store → ℕ → ℕ → ℕ → Bool

@@ -12,9 +12,9 @@ ghost use Rattle.folds.specs.Moments.{came, left};
 ghost use Rattle.store_walk.specs.Marks.{noRow, Blank, Lasts, Prepared, Ready, Walks, Begun};
 
 // Prepares the scratch, which may hold anything: no object has a mark, and the row where each object's rows end is at hand.
-pub fn prepare(links: &[u32], counts: &[u32; 3], walk: &mut [u32])
-    requires { ⌜ Blank (now links) (now counts) (now walk) ⌝ }
-    ensures { λ _. ⌜ Prepared (came links) (came counts) (left walk) ⌝ }
+pub fn prepare(links: &[u32], counts: [u32; 3], walk: &mut [u32])
+    requires { ⌜ Blank (now links) counts (now walk) ⌝ }
+    ensures { λ _. ⌜ Prepared (came links) counts (left walk) ⌝ }
 {
     clear_u32(walk);
     last_rows(links, counts, walk);
@@ -22,9 +22,9 @@ pub fn prepare(links: &[u32], counts: &[u32; 3], walk: &mut [u32])
 }
 
 // For each object one more than the last of its rows, 0 where it has none.
-fn last_rows(links: &[u32], counts: &[u32; 3], walk: &mut [u32])
-    requires { ⌜ Blank (now links) (now counts) (now walk) × (now walk ≡ replicate (length (now walk)) 0) ⌝ }
-    ensures { λ _. ⌜ Lasts (came links) (came counts) (left walk) ⌝ }
+fn last_rows(links: &[u32], counts: [u32; 3], walk: &mut [u32])
+    requires { ⌜ Blank (now links) counts (now walk) × (now walk ≡ replicate (length (now walk)) 0) ⌝ }
+    ensures { λ _. ⌜ Lasts (came links) counts (left walk) ⌝ }
 {
     let n = counts[1] as usize;
     let m = counts[2] as usize;
@@ -37,14 +37,14 @@ fn last_rows(links: &[u32], counts: &[u32; 3], walk: &mut [u32])
 }
 
 // Where each object's rows end: those of an object with none where those of the object before it do.
-fn row_ends(links: &[u32], counts: &[u32; 3], walk: &mut [u32])
-    requires { ⌜ Blank (now links) (now counts) (now walk) × Lasts (now links) (now counts) (now walk) ⌝ }
-    ensures { λ _. ⌜ Prepared (came links) (came counts) (left walk) ⌝ }
+fn row_ends(links: &[u32], counts: [u32; 3], walk: &mut [u32])
+    requires { ⌜ Blank (now links) counts (now walk) × Lasts (now links) counts (now walk) ⌝ }
+    ensures { λ _. ⌜ Prepared (came links) counts (left walk) ⌝ }
 {
-    let n = counts[1] as usize;
     let mut end: u32 = 0;
     let mut i: usize = 0;
-    while i < n {
+    while i < (counts[1] as usize) {
+        let n = counts[1] as usize;
         let last = walk[n + i];
         if end < last {
             end = last;
@@ -71,16 +71,15 @@ fn first_row_of(walk: &[u32], n: usize, i: usize) -> u32
 pub fn subgraph_size(
     objects: &[u32],
     links: &[u32],
-    counts: &[u32; 3],
+    counts: [u32; 3],
     lo: usize,
     hi: usize,
     epoch: u32,
     walk: &mut [u32],
 ) -> u64
-    requires { ⌜ (hi ≤ getD (now counts) 2 0) × ((from : ℕ → Bool) × Ready (now objects) (now links) (now counts) from epoch (now walk)) ⌝ }
-    ensures { λ r. ⌜ Walks (came objects) (came links) (came counts) lo hi epoch (came walk) (left walk) r ⌝ }
+    requires { ⌜ (hi ≤ getD counts 2 0) × ((from : ℕ → Bool) × Ready (now objects) (now links) counts from epoch (now walk)) ⌝ }
+    ensures { λ r. ⌜ Walks (came objects) (came links) counts lo hi epoch (came walk) (left walk) r ⌝ }
 {
-    let n = counts[1] as usize;
     let mut sum: u64 = 0;
     let mut row = lo;
     let mut stop = hi;
@@ -99,6 +98,7 @@ pub fn subgraph_size(
             if top == 0 {
                 return sum;
             }
+            let n = counts[1] as usize;
             let parent = (top - 1) as usize;
             top = walk[parent] - epoch - 1;
             walk[parent] = epoch;
@@ -113,13 +113,13 @@ pub fn subgraph_size(
 pub fn walk_before(
     objects: &[u32],
     links: &[u32],
-    counts: &[u32; 3],
+    counts: [u32; 3],
     table: u32,
     end: u32,
     walk: &mut [u32],
 )
-    requires { ⌜ (table < getD (now counts) 1 0) × Ready (now objects) (now links) (now counts) noRow 1 (now walk) ⌝ }
-    ensures { λ _. ⌜ ((b : List ℕ) → Begun (lent b (came objects) (came links) (came counts)) table end (left walk)) ⌝ }
+    requires { ⌜ (table < getD counts 1 0) × Ready (now objects) (now links) counts noRow 1 (now walk) ⌝ }
+    ensures { λ _. ⌜ ((b : List ℕ) → Begun (lent b (came objects) (came links) counts) table end (left walk)) ⌝ }
 {
     let n = counts[1] as usize;
     let m = counts[2] as usize;

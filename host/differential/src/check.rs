@@ -1,19 +1,29 @@
 //! What must hold of a call, each with the reason where it does not.
 
 mod agree;
+mod attachments;
 mod frame;
+mod marks;
 mod oracle;
 mod pairs;
 
-pub use agree::{all_agree, pair_agrees, plan_agrees, split_agrees};
+pub use agree::{
+    all_agree, attachment_agrees, marks_agree, pair_agrees, plan_agrees, split_agrees,
+};
+pub use attachments::{attachments_agree, attachments_stay};
 pub use frame::{again, frame};
+pub use marks::{another_format, marks_as_the_oracle, refused_or_marks_as_the_oracle};
 pub use oracle::{as_the_oracle, refused_or_as_the_oracle};
-pub use pairs::{pairs_agree, pairs_stay, MOST_TABLES};
+pub use pairs::{pairs_agree, pairs_stay};
 
 use crate::{
-    model::{answers, table::PairPos},
+    model::{
+        answers::{self, Opening},
+        marks::MarkBasePos,
+        table::PairPos,
+    },
     subject::differ,
-    Call, Subject,
+    Call, Splits,
 };
 use ::oracle::Store;
 use std::fmt::Debug;
@@ -36,12 +46,12 @@ pub struct Split {
 
 impl Split {
     /// Plans a split, and carries it out.
-    pub fn by(subject: &impl Subject, call: &Call<u32>) -> Self {
+    pub fn by(subject: &impl Splits, call: &Call<u32>) -> Self {
         let mut plan = call.to_plan();
-        subject.cut_plan(&mut plan);
+        subject.plan(&mut plan);
         let mut after = call.clone();
         Self {
-            answer: subject.split_pairpos(&mut after),
+            answer: subject.split(&mut after),
             before: call.clone(),
             after,
             places: plan.list[..plan.count as usize].to_vec(),
@@ -59,13 +69,39 @@ impl Split {
     }
 }
 
-/// A table that is readable by the model.
+/// A PairPos table that is readable by the model.
 fn opened(store: &Store, table: u32) -> Result<PairPos<'_>, String> {
-    match answers::open(store, table) {
-        Ok(Some(pairpos)) => Ok(pairpos),
+    readable(answers::open(store, table), table)
+}
+
+/// A MarkBasePos table that is readable by the model.
+fn opened_marks(store: &Store, table: u32) -> Result<MarkBasePos<'_>, String> {
+    readable(answers::open_marks(store, table), table)
+}
+
+fn readable<T>(opening: Opening<T>, table: u32) -> Result<T, String> {
+    match opening {
+        Ok(Some(opened)) => Ok(opened),
         Ok(None) => Err(format!("table {table} has another format")),
         Err(refusal) => Err(format!("table {table}: {refusal:?}")),
     }
+}
+
+/// Of more tables than this, some are read by another subject.
+pub const MOST_TABLES: usize = 64;
+
+/// How many of them, about.
+const SOME_TABLES: usize = 15;
+
+/// All of a few tables; of many, the kept one and others from the first to the last.
+fn some_tables(split: &Split) -> Vec<u32> {
+    let tables = split.tables();
+    if tables.len() <= MOST_TABLES {
+        return tables;
+    }
+    let step = tables.len() / SOME_TABLES;
+    let others = tables.into_iter().rev().step_by(step);
+    [split.before.table].into_iter().chain(others).collect()
 }
 
 fn same<N: Debug + PartialEq>(name: &str, ours: &[N], theirs: &[N]) -> Outcome {

@@ -1,11 +1,12 @@
 //! What is reachable from some tables, in a form that can be compared.
 //!
-//! Objects are renumbered in the order of a walk. A table's coverage and class definitions count
-//! by their meaning, all other objects by their bytes.
+//! Objects are renumbered in the order of a walk. What a split writes of coverage and class
+//! definitions counts by its meaning, all other objects by their bytes.
 
 use crate::model::{
     class_def, coverage,
     header::{CLASS_DEF1_POS, CLASS_DEF2_POS, COVERAGE_POS},
+    marks::MARK_COVERAGE_POS,
     numbers::u16_at,
 };
 use oracle::{Graph, Store};
@@ -75,6 +76,18 @@ enum Role {
 
 /// All that is reachable from some PairPos tables, in the order of a walk that starts with them.
 pub fn reachable<'a>(objects: &'a impl Objects, tables: &[u32]) -> Vec<Node<'a>> {
+    walk(objects, tables, part_of_pairs)
+}
+
+/// All that is reachable from some MarkBasePos tables, in the order of a walk that starts with them.
+pub fn reachable_marks<'a>(objects: &'a impl Objects, tables: &[u32]) -> Vec<Node<'a>> {
+    walk(objects, tables, part_of_marks)
+}
+
+/// What the object at a position of a table is taken for.
+type PartOf = fn(&[u8], u32) -> Role;
+
+fn walk<'a>(objects: &'a impl Objects, tables: &[u32], part_of: PartOf) -> Vec<Node<'a>> {
     let mut walk: Vec<_> = tables.iter().map(|&table| (table, Role::Table)).collect();
     let places = walk.iter().enumerate().map(|(place, &node)| (node, place));
     let mut places: HashMap<_, _> = places.collect();
@@ -83,7 +96,11 @@ pub fn reachable<'a>(objects: &'a impl Objects, tables: &[u32]) -> Vec<Node<'a>>
         let bytes = objects.bytes(object);
         let mut links = Vec::new();
         for (position, child) in objects.links(object) {
-            let node = (child, child_role(role, bytes, position));
+            let child_role = match role {
+                Role::Table => part_of(bytes, position),
+                _ => Role::Other,
+            };
+            let node = (child, child_role);
             let place = *places.entry(node).or_insert(walk.len());
             if place == walk.len() {
                 walk.push(node);
@@ -96,12 +113,19 @@ pub fn reachable<'a>(objects: &'a impl Objects, tables: &[u32]) -> Vec<Node<'a>>
     nodes
 }
 
-/// What the object at a position of another is taken for.
-fn child_role(parent: Role, bytes: &[u8], position: u32) -> Role {
-    let is_format2 = u16_at(bytes, 0) == Some(2);
-    match (parent, position as usize) {
-        (Role::Table, COVERAGE_POS) => Role::Coverage,
-        (Role::Table, CLASS_DEF1_POS | CLASS_DEF2_POS) if is_format2 => Role::ClassDef,
+fn part_of_pairs(table: &[u8], position: u32) -> Role {
+    let is_format2 = u16_at(table, 0) == Some(2);
+    match position as usize {
+        COVERAGE_POS => Role::Coverage,
+        CLASS_DEF1_POS | CLASS_DEF2_POS if is_format2 => Role::ClassDef,
+        _ => Role::Other,
+    }
+}
+
+/// Arrays count by their bytes; so does the base coverage, which stays.
+fn part_of_marks(_: &[u8], position: u32) -> Role {
+    match position as usize {
+        MARK_COVERAGE_POS => Role::Coverage,
         _ => Role::Other,
     }
 }

@@ -3,6 +3,7 @@
 //! All start from a call that is lent exactly what it needs and that no check refuses.
 
 mod links;
+mod marks;
 mod parts;
 mod room;
 mod scramble;
@@ -20,7 +21,7 @@ use crate::{Call, Random};
 pub struct Damage {
     /// What is wrong then.
     pub name: &'static str,
-    /// What a split, a cut plan and a pair reading answer.
+    /// What a split, a cut plan and a reading answer.
     pub answers: [u32; 3],
     apply: Apply,
 }
@@ -42,16 +43,36 @@ impl Damage {
     }
 }
 
-/// All damages, in order of the numbers by which they are refused.
+/// All damages of calls for PairPos tables, in order of the numbers by which they are refused.
 pub fn all() -> Vec<Damage> {
+    in_order([
+        table::LENGTHS,
+        parts::UNREADABLE,
+        parts::FEW_GLYPHS,
+        links::DAMAGES,
+    ])
+}
+
+/// All damages of calls for MarkBasePos tables, in the same order.
+pub fn marks() -> Vec<Damage> {
+    in_order([
+        marks::LENGTHS,
+        marks::UNREADABLE,
+        marks::FEW_GLYPHS,
+        marks::LINKS,
+    ])
+}
+
+/// The damages of a kind of table, which 3, 4, 5 and 7 refuse, among those of every call.
+fn in_order([lengths, unreadable, few_glyphs, links]: [&'static [Named]; 4]) -> Vec<Damage> {
     let groups: [([u32; 3], &[Named]); 9] = [
         ([1, 1, 1], soundness::DAMAGES),
         ([2, 2, 2], table::NUMBERS),
-        ([3, 3, 3], table::LENGTHS),
-        ([4, 4, 4], parts::UNREADABLE),
-        ([5, 5, 5], parts::FEW_GLYPHS),
+        ([3, 3, 3], lengths),
+        ([4, 4, 4], unreadable),
+        ([5, 5, 5], few_glyphs),
         ([6, 6, 0], scratch::SHORT),
-        ([7, 7, 0], links::DAMAGES),
+        ([7, 7, 0], links),
         ([8, 0, 0], room::STORE),
         ([8, 8, 0], room::LIST),
     ];

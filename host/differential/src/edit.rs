@@ -21,6 +21,12 @@ pub fn child_at(store: &Store, parent: u32, position: u32) -> Option<u32> {
     Some(links[place.ok()?][3])
 }
 
+/// Writes a number at a position of an object.
+pub fn set_word(store: &mut Store, object: u32, position: usize, word: u16) {
+    let at = head(store, object) + position;
+    store.data[at..at + 2].copy_from_slice(&word.to_be_bytes());
+}
+
 /// Gives an object other bytes; those behind it move. Links that no longer fit go.
 pub fn replace(store: &mut Store, object: u32, bytes: &[u8]) {
     let place = 2 * object as usize;

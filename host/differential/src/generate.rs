@@ -1,4 +1,4 @@
-//! Valid stores of both formats, each from its seed.
+//! Valid stores of PairPos tables, of both formats, and of MarkBasePos tables, each from its seed.
 
 mod draft;
 mod format1;
@@ -6,10 +6,15 @@ mod format2;
 mod glyphs;
 mod growth;
 pub mod large;
+mod marks;
 
 use crate::{
     edit,
-    model::{answers, cuts::weigh, values::ValueFormat},
+    model::{
+        answers::{self, Opening},
+        opened::Opened,
+        values::ValueFormat,
+    },
     Random,
 };
 use draft::Draft;
@@ -29,7 +34,7 @@ pub fn format1(seed: u64) -> Case {
     let mut random = Random::new(seed);
     let mut draft = Draft::default();
     let table = format1::draft(&mut draft, &mut random);
-    finish(draft, table, &mut random)
+    finish(draft, table, &mut random, pair_landing)
 }
 
 /// A format 2 table.
@@ -37,10 +42,21 @@ pub fn format2(seed: u64) -> Case {
     let mut random = Random::new(seed);
     let mut draft = Draft::default();
     let table = format2::draft(&mut draft, &mut random);
-    finish(draft, table, &mut random)
+    finish(draft, table, &mut random, pair_landing)
 }
 
-fn finish(mut draft: Draft, table: usize, random: &mut Random) -> Case {
+/// A MarkBasePos table.
+pub fn marks(seed: u64) -> Case {
+    let mut random = Random::new(seed);
+    let mut draft = Draft::default();
+    let table = marks::draft(&mut draft, &mut random);
+    finish(draft, table, &mut random, mark_landing)
+}
+
+/// An object below some item, and the length with which the item's total is next to the limit.
+type Landing = fn(&Case, &mut Random) -> Option<(u32, usize)>;
+
+fn finish(mut draft: Draft, table: usize, random: &mut Random, landing: Landing) -> Case {
     growth::surround(&mut draft, random);
     let (store, numbers) = draft.lay_out(random);
     let mut case = Case {
@@ -48,7 +64,9 @@ fn finish(mut draft: Draft, table: usize, random: &mut Random) -> Case {
         table: numbers[table],
     };
     if random.one_in(2) {
-        move_to_limit(&mut case, random);
+        if let Some((object, len)) = landing(&case, random) {
+            resize(&mut case.store, object, len);
+        }
     }
     case
 }
@@ -64,34 +82,36 @@ fn value_format(random: &mut Random) -> ValueFormat {
     })
 }
 
-/// Gives an object another length, so that the total at an item lands next to the limit.
-fn move_to_limit(case: &mut Case, random: &mut Random) {
-    if let Some((object, len)) = landing(case, random) {
-        let mut bytes = edit::bytes(&case.store, object).to_vec();
-        bytes.resize(len, 0xA5);
-        edit::replace(&mut case.store, object, &bytes);
-    }
+fn resize(store: &mut Store, object: u32, len: usize) {
+    let mut bytes = edit::bytes(store, object).to_vec();
+    bytes.resize(len, 0xA5);
+    edit::replace(store, object, &bytes);
 }
 
-/// An object below some item, and the length with which the item's total is on target.
-fn landing(case: &Case, random: &mut Random) -> Option<(u32, usize)> {
+fn pair_landing(case: &Case, random: &mut Random) -> Option<(u32, usize)> {
+    landing(answers::open(&case.store, case.table), random)
+}
+
+fn mark_landing(case: &Case, random: &mut Random) -> Option<(u32, usize)> {
+    landing(answers::open_marks(&case.store, case.table), random)
+}
+
+fn landing(opening: Opening<impl Opened>, random: &mut Random) -> Option<(u32, usize)> {
+    let table = opening.ok()??;
     let target = random.within(65_534..=65_537);
-    let pairpos = answers::open(&case.store, case.table).ok()??;
-    let objects = &pairpos.objects;
-    let offsets = pairpos.header.format.offsets().len();
-    let (parts, item_links) = pairpos.links().split_at(offsets);
-    let mut weighed = weigh(&pairpos);
-    weighed.retain(|weighed| !pairpos.item_links(weighed.item).is_empty());
-    if item_links.is_empty() {
+    let (objects, parts) = (table.objects(), table.parts());
+    let mut weighed = table.weigh();
+    weighed.retain(|weighed| !table.links_of_item(weighed.item).is_empty());
+    if weighed.is_empty() {
         return None;
     }
     (0..8).find_map(|_| {
         let here = weighed[random.below(weighed.len())];
-        let [_, _, _, object] = random.pick(pairpos.item_links(here.item));
+        let [_, _, _, object] = random.pick(&table.links_of_item(here.item));
         let len = (objects.bytes(object).len() + target).checked_sub(here.total)?;
         let last = objects.links_of(object).last();
         let least = last.map_or(0, |link| link[1] as usize + 2);
-        let is_part = parts.iter().any(|part| part[3] == object);
+        let is_part = parts.contains(&object);
         (!is_part && (least..70_000).contains(&len)).then_some((object, len))
     })
 }

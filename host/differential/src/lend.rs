@@ -1,7 +1,10 @@
 //! What a call is lent: scratch and room, exactly as much as is needed or more.
 
 use crate::{
-    model::{answers, cuts::cut_places, written::Written},
+    model::{
+        answers::{self, Opening},
+        opened::Opened,
+    },
     Call, Random, Scratch,
 };
 use oracle::Store;
@@ -22,57 +25,79 @@ pub struct Need {
 }
 
 impl Need {
-    /// The need of a split. A table that is refused by 1 to 5, or has another format, has none.
+    /// The need of a split of a PairPos table.
     pub fn of(store: &Store, table: u32) -> Self {
-        let Ok(Some(pairpos)) = answers::open(store, table) else {
+        Self::of_opened(store, answers::open(store, table))
+    }
+
+    /// The need of a split of a MarkBasePos table.
+    pub fn of_marks(store: &Store, table: u32) -> Self {
+        Self::of_opened(store, answers::open_marks(store, table))
+    }
+
+    /// A table that is refused by 1 to 5, or has another format, needs nothing.
+    fn of_opened(store: &Store, opening: Opening<impl Opened>) -> Self {
+        let Ok(Some(table)) = opening else {
             return Self::default();
         };
-        let cuts = cut_places(&pairpos);
-        let written = (!cuts.is_empty()).then(|| Written::new(&pairpos, &cuts));
+        let cuts = table.cut_places();
+        let written = (!cuts.is_empty()).then(|| table.write(&cuts));
         Self {
-            walk: 2 * pairpos.objects.count(),
-            glyphs: pairpos.parts.glyphs.len(),
-            items: pairpos.header.items,
+            walk: 2 * table.objects().count(),
+            glyphs: table.glyph_count(),
+            items: table.item_count(),
             room: written.map_or([0; 3], |written| written.need(store)),
             list: cuts.len(),
+        }
+    }
+
+    fn lend(&self, store: &Store, table: u32, random: &mut Random, spare: usize) -> Call<u32> {
+        let mut store = store.clone();
+        let [data, objects, links] = self.room;
+        let data: Vec<u8> = junk(random, data, spare);
+        let objects: Vec<u32> = junk(random, 2 * objects, spare);
+        let links: Vec<u32> = junk(random, 4 * links, spare);
+        store.data.extend(data);
+        store.objects.extend(objects);
+        store.links.extend(links);
+        Call {
+            store,
+            table,
+            scratch: Scratch {
+                walk: junk(random, self.walk, spare),
+                glyph_set: junk(random, 8_192, spare),
+                glyphs: junk(random, self.glyphs, spare),
+                classes: junk(random, self.glyphs, spare),
+                cuts: junk(random, self.items, spare),
+            },
+            list: junk(random, self.list, spare),
+            count: 0xFFFF,
         }
     }
 }
 
 /// A call that is lent exactly what it needs. Scratch, list and all that is not in use is junk.
 pub fn exactly(store: &Store, table: u32, random: &mut Random) -> Call<u32> {
-    lend(store, table, random, 0)
+    Need::of(store, table).lend(store, table, random, 0)
 }
 
 /// A call that is lent what it needs or somewhat more.
 pub fn amply(store: &Store, table: u32, random: &mut Random) -> Call<u32> {
-    lend(store, table, random, 9)
+    Need::of(store, table).lend(store, table, random, SPARE)
 }
 
-fn lend(store: &Store, table: u32, random: &mut Random, spare: usize) -> Call<u32> {
-    let need = Need::of(store, table);
-    let mut store = store.clone();
-    let [data, objects, links] = need.room;
-    let data: Vec<u8> = junk(random, data, spare);
-    let objects: Vec<u32> = junk(random, 2 * objects, spare);
-    let links: Vec<u32> = junk(random, 4 * links, spare);
-    store.data.extend(data);
-    store.objects.extend(objects);
-    store.links.extend(links);
-    Call {
-        store,
-        table,
-        scratch: Scratch {
-            walk: junk(random, need.walk, spare),
-            glyph_set: junk(random, 8_192, spare),
-            glyphs: junk(random, need.glyphs, spare),
-            classes: junk(random, need.glyphs, spare),
-            cuts: junk(random, need.items, spare),
-        },
-        list: junk(random, need.list, spare),
-        count: 0xFFFF,
-    }
+/// A call for a MarkBasePos table that is lent exactly what it needs.
+pub fn marks_exactly(store: &Store, table: u32, random: &mut Random) -> Call<u32> {
+    Need::of_marks(store, table).lend(store, table, random, 0)
 }
+
+/// A call for a MarkBasePos table that is lent what it needs or somewhat more.
+pub fn marks_amply(store: &Store, table: u32, random: &mut Random) -> Call<u32> {
+    Need::of_marks(store, table).lend(store, table, random, SPARE)
+}
+
+/// The most that an ample call is lent beyond its need, of each kind.
+const SPARE: usize = 9;
 
 /// At least so many numbers, and up to so many to spare.
 fn junk<N: From<u8>>(random: &mut Random, least: usize, spare: usize) -> Vec<N> {

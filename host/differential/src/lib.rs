@@ -1,20 +1,21 @@
 //! A plain model of the splitter's rules, and the runs that hold it and the proved functions against
 //! the oracle.
 //!
-//! The rules are written here a second time, in plain Rust and from document 01 alone: clear before
-//! fast. Whatever splits a store is a [`Subject`]; the [`Model`] is one, and the [`Archive`] is
-//! another. Two subjects agree if a call leaves the same answer and the same contents, to the last
-//! number.
+//! The rules are written here a second time, in plain Rust and from documents 01 and 02 alone: clear
+//! before fast. Whatever splits PairPos tables is a [`Subject`], and whatever splits MarkBasePos tables
+//! a [`MarkSubject`]; the [`Model`] is both, and the [`Archive`] is another subject. Two subjects agree
+//! if a call leaves the same answer and the same contents, to the last number.
 //!
 //! | module | holds |
 //! |---|---|
-//! | [`model`] | the rules: soundness, answers, cut places, what is written, pairs |
+//! | [`model`] | the rules: soundness, answers, cut places, what is written, pairs and attachments |
 //! | [`by_hand`] | small stores for figures |
-//! | [`generate`] | valid stores of both formats, each from its seed |
+//! | [`generate`] | valid stores of both formats, and of marks, each from its seed |
 //! | [`lend`] | scratch and room for a call, exact or ample |
 //! | [`damage`] | damaged calls, one for each edge of each refusal |
 //! | [`compare`] | what is reachable from tables, renumbered, parts by meaning |
 //! | [`product`] | where the 16-bit product of the crate's text shows |
+//! | [`kept_offsets`] | where the crate's text keeps old offsets |
 //! | [`check`] | what must hold of a split, against the oracle and against the model |
 //! | [`vectors`] | a sample of the answers, stored for the program `vectors` |
 //! | [`runs`] | all that is asked of the store of one seed |
@@ -38,6 +39,7 @@ pub mod compare;
 pub mod damage;
 pub mod edit;
 pub mod generate;
+pub mod kept_offsets;
 pub mod lend;
 pub mod model;
 pub mod product;
@@ -50,7 +52,7 @@ pub mod vectors;
 pub use archive::Archive;
 pub use model::Model;
 pub use random::Random;
-pub use subject::{Call, Pair, Scratch, Subject};
+pub use subject::{Attachment, Call, MarkSubject, Marks, Pair, Scratch, Splits, Subject};
 pub use tally::Tally;
 
 // Lengths, positions and sums are `usize`, and must not wrap.

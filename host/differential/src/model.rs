@@ -6,8 +6,10 @@ pub mod coverage;
 pub mod cuts;
 pub mod estimate;
 pub mod header;
+pub mod marks;
 pub mod numbers;
 pub mod objects;
+pub mod opened;
 pub mod pairs;
 pub mod ranges;
 pub mod reach;
@@ -16,9 +18,11 @@ pub mod table;
 pub mod values;
 pub mod written;
 
-use crate::{Call, Pair, Subject};
-use answers::Refusal;
+use crate::{Attachment, Call, MarkSubject, Pair, Subject};
+use answers::Opening;
+use opened::Opened;
 use oracle::Store;
+use written::Written;
 
 /// The rules as a subject.
 #[derive(Clone, Copy, Debug)]
@@ -26,35 +30,79 @@ pub struct Model;
 
 impl Subject for Model {
     fn split_pairpos(&self, call: &mut Call<u32>) -> u32 {
-        let outcome = answers::split(&call.store, call.table, &call.scratch, call.list.len());
-        settle(call, outcome, |call, written| {
-            written.carry_out(&mut call.store);
-            written.new_tables
-        })
+        let opening = answers::open(&call.store, call.table);
+        let outcome = split_outcome(call, opening);
+        settle_split(call, outcome)
     }
 
     fn cut_plan(&self, call: &mut Call<u16>) -> u32 {
-        let outcome = answers::plan(&call.store, call.table, &call.scratch, call.list.len());
+        let opening = answers::open(&call.store, call.table);
+        let outcome = answers::plan(opening, &call.scratch, call.list.len());
         settle(call, outcome, |_, places| places)
     }
 
     fn read_pair(&self, store: &Store, table: u32, glyphs: [u16; 2], pair: &mut Pair) -> u32 {
-        *pair = Pair::default();
-        match answers::open(store, table) {
-            Ok(Some(pairpos)) => {
-                *pair = pairs::read(&pairpos, glyphs);
-                0
-            }
-            Ok(None) => 0,
-            Err(refusal) => refusal as u32,
-        }
+        let reading = answers::open(store, table);
+        settle_reading(pair, reading, |pairpos| pairs::read(&pairpos, glyphs))
     }
+}
+
+impl MarkSubject for Model {
+    fn split_markbasepos(&self, call: &mut Call<u32>) -> u32 {
+        let opening = answers::open_marks(&call.store, call.table);
+        let outcome = split_outcome(call, opening);
+        settle_split(call, outcome)
+    }
+
+    fn cut_plan_markbasepos(&self, call: &mut Call<u16>) -> u32 {
+        let opening = answers::open_marks(&call.store, call.table);
+        let outcome = answers::plan(opening, &call.scratch, call.list.len());
+        settle(call, outcome, |_, places| places)
+    }
+
+    fn read_mark(
+        &self,
+        store: &Store,
+        table: u32,
+        [mark, base]: [u16; 2],
+        attachment: &mut Attachment,
+    ) -> u32 {
+        let reading = answers::open_marks(store, table);
+        settle_reading(attachment, reading, |marks| {
+            marks::attachments::read(&marks, mark, base)
+        })
+    }
+}
+
+fn split_outcome(call: &Call<u32>, opening: Opening<impl Opened>) -> Opening<Written> {
+    answers::split(opening, &call.store, &call.scratch, call.list.len())
+}
+
+fn settle_split(call: &mut Call<u32>, outcome: Opening<Written>) -> u32 {
+    settle(call, outcome, |call, written| {
+        written.carry_out(&mut call.store);
+        written.new_tables
+    })
+}
+
+/// Leaves what a reading gives: nothing where the table has another format or is refused.
+fn settle_reading<T, R: Default>(
+    place: &mut R,
+    opening: Opening<T>,
+    read: impl FnOnce(T) -> R,
+) -> u32 {
+    let (answer, reading) = match opening {
+        Ok(table) => (0, table.map_or(R::default(), read)),
+        Err(refusal) => (refusal as u32, R::default()),
+    };
+    *place = reading;
+    answer
 }
 
 /// Leaves a call as its outcome says: `carry_out` gives the list's first entries.
 fn settle<N: Copy, T>(
     call: &mut Call<N>,
-    outcome: Result<Option<T>, Refusal>,
+    outcome: Opening<T>,
     carry_out: impl FnOnce(&mut Call<N>, T) -> Vec<N>,
 ) -> u32 {
     call.scratch.clear();

@@ -1,9 +1,9 @@
-//! The three exported functions, as a seam.
+//! The exported functions, as a seam.
 
 use oracle::Store;
 use std::fmt::Debug;
 
-/// Something that splits tables, plans cuts and reads pairs.
+/// Something that splits PairPos tables, plans their cuts and reads pairs.
 ///
 /// Each function returns its answer number. What it is lent may hold anything at entry.
 pub trait Subject {
@@ -15,6 +15,59 @@ pub trait Subject {
 
     /// Reads the values of two glyphs, the first before the second.
     fn read_pair(&self, store: &Store, table: u32, glyphs: [u16; 2], pair: &mut Pair) -> u32;
+}
+
+/// Something that splits MarkBasePos tables, plans their cuts and reads attachments.
+///
+/// Each function returns its answer number. What it is lent may hold anything at entry.
+pub trait MarkSubject {
+    /// Splits a table; the list takes the new tables.
+    fn split_markbasepos(&self, call: &mut Call<u32>) -> u32;
+
+    /// Says where a table would be cut; the list takes the places. The store is only read.
+    fn cut_plan_markbasepos(&self, call: &mut Call<u16>) -> u32;
+
+    /// Reads the anchors of a mark glyph and of a base glyph.
+    fn read_mark(
+        &self,
+        store: &Store,
+        table: u32,
+        glyphs: [u16; 2],
+        attachment: &mut Attachment,
+    ) -> u32;
+}
+
+/// A split and a cut plan, of whichever kind of table.
+pub trait Splits {
+    /// Splits a table.
+    fn split(&self, call: &mut Call<u32>) -> u32;
+
+    /// Says where a table would be cut.
+    fn plan(&self, call: &mut Call<u16>) -> u32;
+}
+
+impl<S: Subject> Splits for S {
+    fn split(&self, call: &mut Call<u32>) -> u32 {
+        self.split_pairpos(call)
+    }
+
+    fn plan(&self, call: &mut Call<u16>) -> u32 {
+        self.cut_plan(call)
+    }
+}
+
+/// What a subject does with MarkBasePos tables.
+#[derive(Clone, Copy, Debug)]
+pub struct Marks<'a, S>(pub &'a S);
+
+impl<S: MarkSubject> Splits for Marks<'_, S> {
+    fn split(&self, call: &mut Call<u32>) -> u32 {
+        self.0.split_markbasepos(call)
+    }
+
+    fn plan(&self, call: &mut Call<u16>) -> u32 {
+        self.0.cut_plan_markbasepos(call)
+    }
 }
 
 /// All that a split or a cut plan is lent.
@@ -43,7 +96,7 @@ pub struct Scratch {
     pub glyphs: Vec<u16>,
     /// One entry per covered glyph.
     pub classes: Vec<u16>,
-    /// One entry per pair set or class-1 row.
+    /// One entry per pair set, class-1 row or mark class.
     pub cuts: Vec<u16>,
 }
 
@@ -64,6 +117,15 @@ pub struct Pair {
     /// Eight numbers for the first glyph, then eight for the second.
     pub values: [i32; 16],
     /// 1 where there is a pair, else 0.
+    pub found: u32,
+}
+
+/// What an attachment reading gives.
+#[derive(Clone, Copy, Debug, Default, PartialEq, Eq)]
+pub struct Attachment {
+    /// The anchor objects of mark and base, each as its number plus one.
+    pub anchors: [u32; 2],
+    /// 1 where there is an attachment, else 0.
     pub found: u32,
 }
 

@@ -16,25 +16,26 @@ pub struct Tally {
     pub cuts_at_0: usize,
     /// Totals of 65,534 to 65,537.
     pub at_limit: [usize; 4],
-    /// Splits in which the 16-bit product wraps and does not show, and in which it shows.
-    pub products: [usize; 2],
-    /// Pairs that were read before and after a split.
-    pub pairs: usize,
+    /// Splits in which what the text does otherwise could show and does not, and in which it shows:
+    /// a 16-bit product that wraps, or old offsets in a kept array.
+    pub differences: [usize; 2],
+    /// Pairs or attachments that were read before and after a split.
+    pub readings: usize,
     /// Those of them that were found.
-    pub pairs_found: usize,
+    pub found: usize,
 }
 
 impl Tally {
-    /// Counts a split by its answer, by the items looked at, and by whether the product shows.
-    pub fn add(&mut self, answer: u32, weighed: &[Weighed], product_shows: Option<bool>) {
+    /// Counts a split by its answer, by the items looked at, and by whether a difference shows.
+    pub fn add(&mut self, answer: u32, weighed: &[Weighed], shows: Option<bool>) {
         let mut cuts = weighed.iter().filter(|weighed| weighed.is_cut());
         let count = cuts.clone().count();
         self.answers[answer as usize] += 1;
         self.cut_counts[cut_class(count)] += 1;
         self.new_tables += count;
         self.cuts_at_0 += usize::from(cuts.any(|cut| cut.item == 0));
-        if let Some(shows) = product_shows {
-            self.products[usize::from(shows)] += 1;
+        if let Some(shows) = shows {
+            self.differences[usize::from(shows)] += 1;
         }
         for weighed in weighed {
             if let total @ 65_534..=65_537 = weighed.total {
@@ -55,14 +56,14 @@ fn cut_class(count: usize) -> usize {
 
 impl Display for Tally {
     fn fmt(&self, f: &mut Formatter) -> fmt::Result {
-        let [hidden, shown] = self.products;
+        let [hidden, shown] = self.differences;
         writeln!(f, "answers 0 to 8: {:?}", self.answers)?;
         let cut_counts = self.cut_counts;
         writeln!(f, "cuts 0, 1, 2, 3.., 10.., 100..: {cut_counts:?}")?;
         let (new_tables, cuts_at_0) = (self.new_tables, self.cuts_at_0);
         writeln!(f, "new tables {new_tables}, cuts at 0 {cuts_at_0}")?;
         writeln!(f, "totals of 65,534 to 65,537: {:?}", self.at_limit)?;
-        writeln!(f, "products that wrap: hidden {hidden}, shown {shown}")?;
-        write!(f, "pairs read {}, found {}", self.pairs, self.pairs_found)
+        writeln!(f, "differences: hidden {hidden}, shown {shown}")?;
+        write!(f, "readings {}, found {}", self.readings, self.found)
     }
 }

@@ -3,17 +3,18 @@
 mod common;
 
 use common::run;
-use differential::{check::all_agree, generate, lend, Archive, Random};
+use differential::{check::all_agree, generate, lend, runs, Archive, Random};
 
 #[test]
 fn format_1_is_split_as_the_oracle_splits_it() {
-    assert_eq!(run(&Archive, generate::format1).products, [0; 2]);
+    let tally = run(|seed, tally| runs::whole(&Archive, &generate::format1(seed), seed, tally));
+    assert_eq!(tally.differences, [0; 2]);
 }
 
 #[test]
 fn format_2_is_split_as_the_oracle_splits_it() {
-    let tally = run(&Archive, generate::format2);
-    assert!(tally.products.iter().all(|&count| count > 100));
+    let tally = run(|seed, tally| runs::whole(&Archive, &generate::format2(seed), seed, tally));
+    assert!(tally.differences.iter().all(|&count| count > 100));
 }
 
 /// Each object as the table, whatever its bytes are.

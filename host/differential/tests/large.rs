@@ -1,17 +1,24 @@
 //! Large stores are what they are said to be.
 
 use differential::{
+    check::{marks_as_the_oracle, Outcome, Split},
     generate::{
-        large::{self, Order},
+        large::{self, Fill, Order},
         Case,
     },
-    lend::Need,
+    lend::{self, Need},
     model::soundness::MAXIMA,
+    Marks, Model, Random, Tally,
 };
+use oracle::Store;
 
 /// Objects and links in use, and cuts. After the split all is within the maxima.
 fn figures(case: &Case) -> [usize; 3] {
-    let need = Need::of(&case.store, case.table);
+    figures_by(Need::of, case)
+}
+
+fn figures_by(need: fn(&Store, u32) -> Need, case: &Case) -> [usize; 3] {
+    let need = need(&case.store, case.table);
     let [data, objects, links] = case.store.counts.map(|count| count as usize);
     println!("{data} bytes, {objects} objects, {links} links, {need:?}");
     for (i, in_use) in [data, objects, links].into_iter().enumerate() {
@@ -52,4 +59,27 @@ fn few_objects_have_many_links() {
     let [objects, links, cuts] = figures(&large::few_objects(0));
     assert_eq!([objects, links], [300, 33_003]);
     assert!(cuts >= 2);
+}
+
+/// A thousand anchors and ten thousand, beside five other objects. Both fills have about as many links.
+#[test]
+fn anchors_grow_with_their_classes() {
+    for fill in [Fill::Full, Fill::Sparse] {
+        let figures = |anchors| {
+            let case = large::marks(anchors, fill, Order::Any, 0);
+            assert_eq!(as_the_oracle(&case), Ok(()));
+            figures_by(Need::of_marks, &case)
+        };
+        let [thousand, ten_thousand] = [1_000, 10_000].map(figures);
+        assert_eq!([thousand[0], ten_thousand[0]], [1_005, 10_005]);
+        assert!((1_500..1_800).contains(&thousand[1]));
+        assert!((9..=11).contains(&(ten_thousand[1] / thousand[1])));
+        assert!(thousand[2] >= 3 && (9..=13).contains(&(ten_thousand[2] / thousand[2])));
+    }
+}
+
+fn as_the_oracle(case: &Case) -> Outcome {
+    let call = lend::marks_exactly(&case.store, case.table, &mut Random::new(0));
+    let split = Split::by(&Marks(&Model), &call);
+    marks_as_the_oracle(&split, &mut Tally::default())
 }

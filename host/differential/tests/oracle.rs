@@ -3,15 +3,22 @@
 mod common;
 
 use common::run;
-use differential::{generate, Model};
+use differential::{generate, runs, Model};
 
 #[test]
 fn format_1_is_split_as_the_oracle_splits_it() {
-    assert_eq!(run(&Model, generate::format1).products, [0; 2]);
+    let tally = run(|seed, tally| runs::whole(&Model, &generate::format1(seed), seed, tally));
+    assert_eq!(tally.differences, [0; 2]);
 }
 
 #[test]
 fn format_2_is_split_as_the_oracle_splits_it() {
-    let tally = run(&Model, generate::format2);
-    assert!(tally.products.iter().all(|&count| count > 100));
+    let tally = run(|seed, tally| runs::whole(&Model, &generate::format2(seed), seed, tally));
+    assert!(tally.differences.iter().all(|&count| count > 100));
+}
+
+#[test]
+fn marks_are_split_as_the_oracle_splits_them() {
+    let tally = run(|seed, tally| runs::marks_whole(&Model, &generate::marks(seed), seed, tally));
+    assert!(tally.differences.iter().all(|&count| count > 100));
 }

@@ -39,7 +39,7 @@ fn the_product_shows_at_its_edges() {
         assert_eq!(split.places, [109, 218]);
         assert_eq!(frame(&split), Ok(()));
         assert_eq!(as_the_oracle(&split, &mut tally), Ok(()), "record {record}");
-        let count: usize = tally.products.iter().sum();
-        assert_eq!(tally.products[0], count.min(hidden.len()));
+        let count: usize = tally.differences.iter().sum();
+        assert_eq!(tally.differences[0], count.min(hidden.len()));
     }
 }

@@ -30,7 +30,7 @@ fn all_that_is_to_be_replayed_occurs() {
     assert!(tally.cut_counts[..5].iter().all(|&count| count > 0));
     assert!(tally.at_limit.iter().all(|&count| count > 1));
     assert!(tally.cuts_at_0 > 1);
-    assert!(tally.products[0] > 0);
-    assert_eq!(tally.products[1], 0);
+    assert!(tally.differences[0] > 0);
+    assert_eq!(tally.differences[1], 0);
     assert!(found > 100 && with_device > 20);
 }

@@ -95,23 +95,35 @@ impl Graph {
         pairpos_graph::split_pairpos(self, table_idx)
     }
 
+    /// Splits a MarkBasePos table, and gives the new tables. A failure may leave the graph changed.
+    pub fn split_markbase_pos(&mut self, table_idx: ObjIdx) -> Result<Vec<ObjIdx>, RepackError> {
+        markbasepos_graph::split_markbase_pos(self, table_idx)
+    }
+
     /// Finds where a PairPos table is to be cut, and says whether it is to be cut at all.
     ///
-    /// This is a split that ends where it would add its first new table: nothing is changed.
+    /// This is a split that ends where it would add its first new object: nothing is changed.
     pub fn plan_pairpos(&mut self, table_idx: ObjIdx) -> Result<bool, RepackError> {
+        self.plan(|graph| graph.split_pairpos(table_idx))
+    }
+
+    /// Finds where a MarkBasePos table is to be cut, and says whether it is to be cut at all.
+    pub fn plan_markbase_pos(&mut self, table_idx: ObjIdx) -> Result<bool, RepackError> {
+        self.plan(|graph| graph.split_markbase_pos(table_idx))
+    }
+
+    fn plan(
+        &mut self,
+        split: impl FnOnce(&mut Self) -> Result<Vec<ObjIdx>, RepackError>,
+    ) -> Result<bool, RepackError> {
         self.is_closed = true;
-        let outcome = self.split_pairpos(table_idx);
+        let outcome = split(self);
         self.is_closed = false;
         match outcome {
             Ok(_) => Ok(false),
             Err(RepackError::ErrorRepackSerialize) => Ok(true),
             Err(error) => Err(error),
         }
-    }
-
-    /// Splits a MarkBasePos table, and gives the new tables. A failure may leave the graph changed.
-    pub fn split_markbase_pos(&mut self, table_idx: ObjIdx) -> Result<Vec<ObjIdx>, RepackError> {
-        markbasepos_graph::split_markbase_pos(self, table_idx)
     }
 
     /// A copy that has room for so many more bytes and objects, and need not move to take them.
@@ -201,12 +213,17 @@ impl Graph {
 
     /// Adds an object of so many zeros.
     fn new_vertex(&mut self, size: usize) -> Result<ObjIdx, RepackError> {
-        if self.is_closed {
-            return Err(RepackError::ErrorRepackSerialize);
-        }
+        self.ensure_open()?;
         let head = self.data.len();
         self.data.resize(head + size, 0);
         Ok(self.push_vertex(head..head + size))
+    }
+
+    fn ensure_open(&self) -> Result<(), RepackError> {
+        match self.is_closed {
+            true => Err(RepackError::ErrorRepackSerialize),
+            false => Ok(()),
+        }
     }
 
     fn push_vertex(&mut self, range: Range<usize>) -> ObjIdx {
@@ -248,6 +265,7 @@ impl Graph {
             .vertex(child_idx)
             .ok_or(RepackError::GraphErrorInvalidObjIndex)?
             .clone();
+        self.ensure_open()?;
         let head = self.data.len();
         self.data.extend_from_within(child.range());
         let copy_idx = self.push_vertex(head..self.data.len());

@@ -10,7 +10,7 @@ use std::{
 };
 
 /// The crates whose every definition has to be believed.
-const BELIEVED: [&str; 8] = [
+const BELIEVED: [&str; 10] = [
     "folds",
     "ot_layouts",
     "store_rules",
@@ -18,7 +18,9 @@ const BELIEVED: [&str; 8] = [
     "glyph_rules",
     "call_rules",
     "pair_rules",
+    "mark_rules",
     "promise_pairs",
+    "promise_marks",
 ];
 
 fn root() -> PathBuf {

@@ -1,30 +1,23 @@
 //! A MarkBasePos table, cut between its two mark classes.
 
-use oracle::{
-    split_markbase,
-    write::{self, words},
-    ObjIdx, Store,
-};
+#[path = "helpers/marks.rs"]
+mod marks;
 
-const TABLE: ObjIdx = 0;
+use marks::{push_anchor, Marks, BASE_ARRAY, MARK_ARRAY, TABLE};
+use oracle::{split_markbase, write::words, Store};
 
 /// One mark of each class and one base, with an anchor of this length for each of the four.
 ///
-/// The coverages are objects 1 and 2, the arrays 3 and 4, the anchors of marks 5 and 6, and those
-/// of the base 7 and 8.
+/// The anchors of marks are objects 5 and 6, and those of the base 7 and 8.
 fn store(anchor_len: usize) -> Store {
-    let mut store = Store::default();
-    store.push_object(&words([1, 0, 0, 2, 0, 0]));
-    store.push_object(&write::coverage(&[10, 20]));
-    store.push_object(&write::coverage(&[30]));
-    store.push_object(&words([2, 0, 0, 1, 0]));
-    store.push_object(&words([1, 0, 0]));
-    for (position, child) in [(2, 1), (4, 2), (8, 3), (10, 4)] {
-        store.push_link(TABLE, position, child);
-    }
-    for (array, position) in [(3, 4), (3, 8), (4, 2), (4, 4)] {
-        let anchor = store.push_object(&vec![0; anchor_len]);
-        store.push_link(array, position, anchor);
+    let mut store = Marks::new(2, &[0, 1], 1).store();
+    for (array, position) in [
+        (MARK_ARRAY, 4),
+        (MARK_ARRAY, 8),
+        (BASE_ARRAY, 2),
+        (BASE_ARRAY, 4),
+    ] {
+        push_anchor(&mut store, array, position, anchor_len);
     }
     store
 }
@@ -64,8 +57,11 @@ fn each_class_takes_its_anchors_along_and_the_old_arrays_stay() {
     assert_eq!(bytes_and_links(14), expect(&[1, 0], &[(2, 8)]));
 
     assert_eq!(
-        bytes_and_links(3),
+        bytes_and_links(MARK_ARRAY),
         expect(&[2, 0, 0, 1, 0], &[(4, 5), (8, 6)])
     );
-    assert_eq!(bytes_and_links(4), expect(&[1, 0, 0], &[(2, 7), (4, 8)]));
+    assert_eq!(
+        bytes_and_links(BASE_ARRAY),
+        expect(&[1, 0, 0], &[(2, 7), (4, 8)])
+    );
 }

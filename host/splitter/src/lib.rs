@@ -12,6 +12,7 @@
 //! | see where it would be cut | [`cut_plan`], or [`cut_plan_into`] |
 //! | read what a table says of two glyphs | [`read_pair`] |
 //! | keep a store in a file, for the command `splitter` | [`store_file`] |
+//! | take tables out of a font | [`font`] |
 //!
 //! ```
 //! use splitter::{cut_plan, read_pair, split, Refusal, Scratch, Store};
@@ -43,6 +44,7 @@
 
 #![deny(missing_docs, unsafe_code)]
 
+pub mod font;
 mod need;
 mod pair;
 mod plan;

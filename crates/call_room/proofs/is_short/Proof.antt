@@ -8,58 +8,58 @@ use Rattle.call_room.proofs.is_short.Tie as tie
 
 cast-if1 : tie.Need-cast-if1
 unfolding objectRoom
-cast-if1 c = let start = c .before .before .before in omega (arith, start .pre .objects)
+cast-if1 c = let start = c .before .before in omega (arith, start .pre .objects)
 
 sub-if1 : tie.Need-sub-if1
 unfolding objectRoom
-sub-if1 c = let start = c .before .before .before in omega (arith, start .pre .objects)
+sub-if1 c = let start = c .before .before in omega (arith, start .pre .objects)
 
 returns : tie.Need-returns
 unfolding objectRoom
 returns c =
-    let start = c .before .before .before .before .before in
+    let start = c .before .before .before .before in
     few-objects (start .pre) (start .args .needs) (omega arith)
 
 cast-if2 : tie.Need-cast-if2
 unfolding linkRoom
 cast-if2 c =
-    let place = c .before .before .before .before .before .before .before .before in
-    let start = place in omega (arith, start .pre .links)
+    let start = c .before .before .before .before .before .before in
+    omega (arith, start .pre .links)
 
 sub-if2 : tie.Need-sub-if2
 unfolding linkRoom
 sub-if2 c =
-    let place = c .before .before .before .before .before .before .before .before in
-    let start = place in omega (arith, start .pre .links)
+    let start = c .before .before .before .before .before .before in
+    omega (arith, start .pre .links)
 
 returns-2 : tie.Need-returns-2
 unfolding objectRoom linkRoom
 returns-2 c =
-    let start = c .before .before .before .before .before .before .before .before .before .before in
+    let start = c .before .before .before .before .before .before .before .before in
     few-links (start .pre) (start .args .needs) (omega arith) (omega arith)
 
 cast-if3 : tie.Need-cast-if3
 unfolding byteRoom
 cast-if3 c =
-    let place = c .before .before .before .before .before .before .before .before .before .before .before .before in
-    let start = place in omega (arith, start .pre .bytes)
+    let start = c .before .before .before .before .before .before .before .before .before in
+    omega (arith, start .pre .bytes)
 
 sub-if3 : tie.Need-sub-if3
 unfolding byteRoom
 sub-if3 c =
-    let place = c .before .before .before .before .before .before .before .before .before .before .before .before in
-    let start = place in omega (arith, start .pre .bytes)
+    let start = c .before .before .before .before .before .before .before .before .before in
+    omega (arith, start .pre .bytes)
 
 returns-3 : tie.Need-returns-3
 unfolding objectRoom linkRoom byteRoom
 returns-3 c =
-    let start = c .before .before .before .before .before .before .before .before .before .before .before .before .before .before in
+    let start = c .before .before .before .before .before .before .before .before .before .before .before in
     few-bytes (start .pre) (start .args .needs) (omega arith) (omega arith) (omega arith)
 
 returns-4 : tie.Need-returns-4
 unfolding objectRoom linkRoom byteRoom
 returns-4 c =
-    let start = c .before .before .before .before .before .before .before .before .before .before .before .before .before .before .before .before in
+    let start = c .before .before .before .before .before .before .before .before .before .before .before .before .before in
     by-list (start .pre) (start .args .needs) (omega arith) (omega arith) (omega arith)
 
 pub is-short-spec : {M : Type 1} → statement M

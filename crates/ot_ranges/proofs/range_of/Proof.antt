@@ -7,7 +7,7 @@ use native.Mathlib.Omega.{arith}
 use Rattle.folds.proofs.Halving.{Between, begin, up, down, passed, met}
 use Rattle.ot_layouts.specs.Coverage.{startAt, endAt}
 use Rattle.ot_layouts.proofs.RangesRead.{RangesRead, ranges-read}
-use Rattle.ot_ranges.specs.Ranges.{found, rangeOf}
+use Rattle.ot_ranges.specs.Ranges.{rangeFound, rangeOf}
 use Rattle.ot_ranges.proofs.Place.{range-at, range-none}
 use Rattle.ot_ranges.specs.declared.Found.the-variants.{At, Nowhere}
 use Rattle.ot_ranges.proofs.range_of.Statement.{statement}
@@ -18,11 +18,11 @@ record Inv (part : List ℕ) (count glyph lo hi : ℕ) : Type 0 where
   between : Between (startAt part) (endAt part) count glyph lo hi
 
 module _ {part : List ℕ} {count g lo hi : ℕ} (i : Inv part count g lo hi) where
-  hit : {b e : ℕ} (m : ℕ) → m < hi → b ≡ startAt part m → e ≡ endAt part m → b ≤ g → g ≤ e → At m ≡ found (rangeOf part count g)
+  hit : {b e : ℕ} (m : ℕ) → m < hi → b ≡ startAt part m → e ≡ endAt part m → b ≤ g → g ≤ e → rangeFound (At m) ≡ rangeOf part count g
   hit {b} {e} m l pb pe h o =
       rw (range-at part count g m (omega (arith, i .between .hi-n)) (passed (i .read .rising) (i .between) m l (omega arith)) (omega arith) (omega arith))
 
-  miss : hi ≤ lo → Nowhere ≡ found (rangeOf part count g)
+  miss : hi ≤ lo → rangeFound Nowhere ≡ rangeOf part count g
   miss l = rw (range-none part count g (met (i .between) l))
 
 abbrev Inv-loop : tie.InvT-loop

@@ -8,42 +8,42 @@ use Rattle.pair_links.proofs.part_between.Statement.{statement}
 use Rattle.pair_links.proofs.part_between.Tie as tie
 
 add-first-kept : tie.Need-add-first-kept
-add-first-kept c = omega (arith, ready _ _ _ _ _ _ _ (c .before .before .before .before .before .pre))
+add-first-kept c = omega (arith, ready _ _ _ _ _ _ _ (c .before .before .before .pre))
 
 mul-first-kept : tie.Need-mul-first-kept
-mul-first-kept c = omega (arith, ready _ _ _ _ _ _ _ (c .before .before .before .before .before .pre))
+mul-first-kept c = omega (arith, ready _ _ _ _ _ _ _ (c .before .before .before .pre))
 
 add-first-kept-2 : tie.Need-add-first-kept-2
-add-first-kept-2 c = omega (arith, ready _ _ _ _ _ _ _ (c .before .before .before .before .before .pre))
+add-first-kept-2 c = omega (arith, ready _ _ _ _ _ _ _ (c .before .before .before .pre))
 
 part-rows-requires : tie.Need-part-rows-requires
-part-rows-requires c κs = let r = ready _ _ _ _ _ _ _ (c .before .before .before .before .before .before .pre) in (r .fits, ((r .ends, r .used, r .room), (r .order, r .bottom)))
+part-rows-requires c κs = let r = ready _ _ _ _ _ _ _ (c .before .before .before .before .pre) in (r .fits, ((r .ends, r .used, r .room), (r .order, r .bottom)))
 
-cast-keep-rows : tie.Need-cast-keep-rows
-cast-keep-rows c =
-    let start = c .before .before .before .before .before .before .before .before .before .before in
+cast-keep-table : tie.Need-cast-keep-table
+cast-keep-table c =
+    let start = c .before .before .before .before .before .before .before .before in
     omega (arith, ready _ _ _ _ _ _ _ (start .pre))
 
-keep-rows-requires : tie.Need-keep-rows-requires
-keep-rows-requires c κs =
-    let start = c .before .before .before .before .before .before .before .before .before .before in
-    let r = ready _ _ _ _ _ _ _ (start .pre) in (omega (arith, r), r .numbers)
+keep-table-requires : tie.Need-keep-table-requires
+keep-table-requires c κs =
+    let start = c .before .before .before .before .before .before .before .before in
+    let r = ready _ _ _ _ _ _ _ (start .pre) in (start .pre .known .numbered, omega (arith, r), r .numbers)
 
 mul-result : tie.Need-mul-result
 mul-result c =
-    let start = c .before .before .before .before .before .before .before .before .before .before .before .before .before .before in
+    let start = c .before .before .before .before .before .before .before .before .before .before .before .before in
     omega (arith, ready _ _ _ _ _ _ _ (start .pre))
 
 add-result : tie.Need-add-result
 add-result c =
-    let start = c .before .before .before .before .before .before .before .before .before .before .before .before .before .before in
+    let start = c .before .before .before .before .before .before .before .before .before .before .before .before in
     omega (arith, ready _ _ _ _ _ _ _ (start .pre))
 
 returns : tie.Need-returns
 returns c =
     let after-part-rows = c .before .before .before .before .before .before .before in
-    let start = after-part-rows .before .before .before .before .before .before .before in
-    parted-call _ (start .args .counts .now) _ _ _ _ _ _ (start .pre) _ _ (after-part-rows .part-rows .ensures) (c .before .before .before .keep-rows .ensures)
+    let start = after-part-rows .before .before .before .before .before in
+    parted-call _ (start .args .t2) _ _ _ _ _ _ (start .pre) _ _ (after-part-rows .part-rows .ensures) (c .before .before .before .keep-table .ensures)
 
 pub part-between-spec : {M : Type 1} → statement M
 part-between-spec =
@@ -59,8 +59,8 @@ part-between-spec =
     part-rows-requires
     (λ c. search needs)
     (λ c. search needs)
-    cast-keep-rows
-    keep-rows-requires
+    cast-keep-table
+    keep-table-requires
     mul-result
     add-result
     (λ c. search needs)

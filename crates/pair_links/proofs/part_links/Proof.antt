@@ -9,19 +9,19 @@ cast-start : tie.Need-cast-start
 cast-start c = omega (arith, c .shared-slice-known2 .given 0)
 
 mul-start : tie.Need-mul-start
-mul-start c = omega (arith, start-short _ _ _ _ _ (c .before .before .before .before .before .pre))
+mul-start c = omega (arith, start-short _ _ _ _ _ (c .before .before .before .before .pre))
 
 add-start : tie.Need-add-start
-add-start c = omega (arith, start-short _ _ _ _ _ (c .before .before .before .before .before .before .pre))
+add-start c = omega (arith, start-short _ _ _ _ _ (c .before .before .before .before .before .pre))
 
 cast-first-row : tie.Need-cast-first-row
 cast-first-row c =
-    let start = c .before .before .before .before .before .before .before .before .before .before in
+    let start = c .before .before .before .before .before .before .before .before .before in
     omega (arith, start-short _ _ _ _ _ (start .pre))
 
 part-between-requires : tie.Need-part-between-requires
 part-between-requires c κs =
-    let after-slice-known = c .before .before .before .before .before .before .before .before .before .before .before .before .before in
+    let after-slice-known = c .before .before .before .before .before .before .before .before .before .before .before .before in
     let start = after-slice-known .before in
     between _ _ _ _ _ (start .pre) _ _ (λ i. after-slice-known .slice-known .given i .fits) (c .before .before .before .first-row .ensures) (c .before .first-row2 .ensures)
 

@@ -2,6 +2,7 @@
 use Prim.Native.Nat.{_*_, _≤_}
 use lib.ListN.{length}
 use native.Mathlib.Omega.{arith}
+use Rattle.store_rules.specs.Store.{perLink}
 use Rattle.pair_links.proofs.Joining.{ordered-there, floor-there, parted-done}
 use borrow.Author.Needs.{needs}
 use Rattle.pair_links.proofs.part_rows.Statement.{statement}
@@ -11,7 +12,7 @@ spread-requires : tie.Need-spread-requires
 spread-requires c κs =
     let start = c .before .before .before .before .before .before .before in
     let pre = start .pre in
-    let l : 4 * start .args .m ≤ length (start .args .links .now) = omega (arith, pre) in (
+    let l : perLink * start .args .m ≤ length (start .args .links .now) = omega (arith, pre) in (
       pre .0,
       (
         omega (arith, pre),
@@ -26,7 +27,7 @@ returns : tie.Need-returns
 returns c =
     let start = c .before .before .before .before .before .before .before .before .before .before in
     let pre = start .pre in
-    let l : 4 * start .args .m ≤ length (start .args .links .now) = omega (arith, pre) in
+    let l : perLink * start .args .m ≤ length (start .args .links .now) = omega (arith, pre) in
     parted-done _ _ _ _ (pre .1 .0 .0) (pre .1 .0 .1) l _ (c .before .before .before .before .before .before .rotate-rows .ensures) _ _ (pre .1 .0 .2) (c .before .before .spread .ensures)
 
 pub part-rows-spec : {M : Type 1} → statement M

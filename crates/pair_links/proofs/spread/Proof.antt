@@ -71,7 +71,7 @@ put-heads-requires : tie.Need-put-heads-requires Inv-loop μ-loop
 put-heads-requires c κs =
     let place = c .before .before .before .before .before .before .before .before .before .before in
     let now = turn (place) in
-    (omega (arith, now, now .numbered .heads-is, c .before .before .before .before .move-up .ensures .few), omega (arith, now, now .numbered .own-is))
+    (now .numbered, omega (arith, now, c .before .before .before .before .move-up .ensures .few), omega (arith, now))
 
 loop-again : tie.Need-loop-again Inv-loop μ-loop
 loop-again c =

@@ -4,7 +4,8 @@ use native.Mathlib.Omega.{arith}
 use Prim.Native.Nat.{_-_}
 use mathlib.Core.Path.{refl}
 use lib.ListN.{length}
-use Rattle.pair_new_objects.proofs.Planning.{same-part, kept-beside}
+use Rattle.cut_parts.proofs.TableParts.{same-part}
+use Rattle.pair_new_objects.proofs.Planning.{kept-beside}
 use Rattle.pair_new_objects.proofs.Lengths.{Total, total-start, total-turn, total-stop, next-few, turn-ready, turn-items, rows-small, turn-small, turn-fits}
 use Rattle.pair_new_objects.proofs.new_length.Statement.{statement}
 use Rattle.pair_new_objects.proofs.new_length.Tie as tie
@@ -18,7 +19,7 @@ abbrev μ-loop : tie.MeasureT-loop
 parts-length-requires : tie.Need-parts-length-requires Inv-loop μ-loop
 parts-length-requires c κs =
     let start = c .before .before .before .before .before .before .before in
-    (same-part _ _ _ _ (start .pre) 0 _ (omega arith) (c .before .before .part-end .ensures .inside), kept-beside _ _ _ _ (start .pre) _ (c .before .before .part-end .ensures))
+    (same-part _ _ _ _ (start .pre .parts) 0 _ (omega arith) (c .before .before .part-end .ensures .inside), kept-beside _ _ _ _ (start .pre) _ (c .before .before .part-end .ensures))
 
 loop-holds : tie.Need-loop-holds Inv-loop μ-loop
 loop-holds c =

@@ -4,7 +4,7 @@ use native.Mathlib.Omega.{arith}
 use Prim.Native.Nat.{_-_}
 use mathlib.Core.Path.{refl}
 use lib.ListN.{length}
-use Rattle.pair_new_objects.proofs.Looping.{Tables, tables-start, tables-stop, row-fits, next-few, old-now, turn-same, turn-beside, turn-items, turn-room, tables-turn}
+use Rattle.pair_new_objects.proofs.Looping.{Tables, tables-start, tables-stop, row-small, next-few, old-now, turn-same, turn-beside, turn-items, turn-room, tables-turn}
 use Rattle.pair_new_objects.proofs.write_tables.Statement.{statement}
 use Rattle.pair_new_objects.proofs.write_tables.Tie as tie
 
@@ -47,14 +47,14 @@ add-row c =
     let in-loop = c .before .before .before .before .before .before .before .before .before .before .before .before .before in
     let at-loop = in-loop .before in
     let start = at-loop .before .before .before .before .before .before in
-    omega (arith, row-fits _ _ _ _ _ _ _ _ _ _ _ _ _ _ _ (at-loop .loop .inv) (in-loop .loop-test .taken), start .good)
+    omega (arith, row-small _ _ _ _ _ _ _ _ _ _ _ _ _ _ _ (at-loop .loop .inv) (in-loop .loop-test .taken), start .good)
 
 add-row-2 : tie.Need-add-row-2 Inv-loop μ-loop
 add-row-2 c =
     let in-loop = c .before .before .before .before .before .before .before .before .before .before .before .before .before in
     let at-loop = in-loop .before in
     let start = at-loop .before .before .before .before .before .before in
-    omega (arith, row-fits _ _ _ _ _ _ _ _ _ _ _ _ _ _ _ (at-loop .loop .inv) (in-loop .loop-test .taken), start .good)
+    omega (arith, row-small _ _ _ _ _ _ _ _ _ _ _ _ _ _ _ (at-loop .loop .inv) (in-loop .loop-test .taken), start .good)
 
 add-j : tie.Need-add-j Inv-loop μ-loop
 add-j c =
@@ -72,10 +72,10 @@ loop-again c =
     (c .before .before .before .before .before .write-table-objects .ensures)
 
 same-length : tie.Need-same-length Inv-loop μ-loop
-same-length c = c .before .loop .inv .same-data
+same-length c = c .before .loop .inv .rounds .same-data
 
 same-length-2 : tie.Need-same-length-2 Inv-loop μ-loop
-same-length-2 c = c .before .loop .inv .same-rows
+same-length-2 c = c .before .loop .inv .rounds .same-rows
 
 returns : tie.Need-returns Inv-loop μ-loop
 returns c = tables-stop _ _ _ _ _ _ _ _ _ _ _ _ _ _ _ (c .before .loop .inv) (c .loop-test .left)

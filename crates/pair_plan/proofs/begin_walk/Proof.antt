@@ -16,7 +16,7 @@ walk-before-requires c κs =
     let first = c .before .before .before .before in
     let start = first .before .before .before .before .before .before in
     let a = start .args in
-    can-walk (start .pre .0 .0) (now (a .objects)) (now (a .links)) (now (a .counts)) (start .pre .0 .1) (first .prepare .ensures)
+    can-walk (start .pre .0 .0) (now (a .objects)) (now (a .links)) (a .counts) (start .pre .0 .1) (first .prepare .ensures)
 
 pub begin-walk-spec : {M : Type 1} → statement M
 begin-walk-spec = tie.close

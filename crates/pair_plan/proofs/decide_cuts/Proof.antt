@@ -14,14 +14,14 @@ begin-walk-requires : tie.Need-begin-walk-requires
 begin-walk-requires c κs =
     let start = c .before .before .before .before .before .before .before .before .before in
     let a = start .args in
-    can-begin (a .«data» .now) (a .objects .now) (a .links .now) (a .counts .now) (a .table) (scratch start) (a .opened) (start .pre)
+    can-begin (a .«data» .now) (a .objects .now) (a .links .now) (a .counts) (a .table) (scratch start) (a .opened) (start .pre)
 
 cut-table-requires : tie.Need-cut-table-requires
 cut-table-requires c κs =
     let begun = c .before .before .before .before .before .before .before in
     let start = begun .before .before .before .before .before .before .before .before .before .before in
     let a = start .args in
-    can-cut (a .«data» .now) (a .objects .now) (a .links .now) (a .counts .now) (a .table) (scratch start) (a .opened) (start .pre) (begun .begin-walk .ensures (a .«data» .now))
+    can-cut (a .«data» .now) (a .objects .now) (a .links .now) (a .counts) (a .table) (scratch start) (a .opened) (start .pre) (begun .begin-walk .ensures (a .«data» .now))
 
 slice-read-if1 : tie.Need-slice-read-if1
 slice-read-if1 c =
@@ -29,21 +29,21 @@ slice-read-if1 c =
     let begun = cut .before .before .before .before .before .before .before .before in
     let start = begun .before .before .before .before .before .before .before .before .before .before .before in
     let a = start .args in
-    omega (arith, table-marked (a .«data» .now) (a .objects .now) (a .links .now) (a .counts .now) (a .table) (scratch start) (a .opened) (start .pre), begun .walk .given, cut .walk2 .given)
+    omega (arith, table-marked (a .«data» .now) (a .objects .now) (a .links .now) (a .counts) (a .table) (scratch start) (a .opened) (start .pre), begun .walk .given, cut .walk2 .given)
 
 returns : tie.Need-returns
 returns c =
     let cut = c .before .before .before .before .before .before .before .before .before .before .before .before in
     let start = cut .before .before .before .before .before .before .before .before .before .before .before .before .before .before .before .before .before .before in
     let a = start .args in
-    decided-cycle (a .«data» .now) (a .objects .now) (a .links .now) (a .counts .now) (a .table) (scratch start) (a .opened) (start .pre) (cut .cut-table .ensures .1) (c .if1 .taken)
+    decided-cycle (a .«data» .now) (a .objects .now) (a .links .now) (a .counts) (a .table) (scratch start) (a .opened) (start .pre) (cut .cut-table .ensures .1) (c .if1 .taken)
 
 returns-2 : tie.Need-returns-2
 returns-2 c =
     let cut = c .before .before .before .before .before .before .before .before .before .before .before .before in
     let start = cut .before .before .before .before .before .before .before .before .before .before .before .before .before .before .before .before .before .before in
     let a = start .args in
-    decided-cut (a .«data» .now) (a .objects .now) (a .links .now) (a .counts .now) (a .table) (scratch start) (a .opened) (start .pre) (cut .cut-table .ensures .1) (c .if1 .left) (cut .cut-table .ensures .0)
+    decided-cut (a .«data» .now) (a .objects .now) (a .links .now) (a .counts) (a .table) (scratch start) (a .opened) (start .pre) (cut .cut-table .ensures .1) (c .if1 .left) (cut .cut-table .ensures .0)
 
 pub decide-cuts-spec : {M : Type 1} → statement M
 decide-cuts-spec =

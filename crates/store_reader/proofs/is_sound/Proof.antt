@@ -13,44 +13,44 @@ use Rattle.store_reader.proofs.is_sound.Tie as tie
 returns : tie.Need-returns
 unfolding byteRoom
 returns c =
-    let a = c .before .before .before .before .before .before .args in
-    bytes-over (lent (now (a .«data»)) (now (a .objects)) (now (a .links)) (now (a .counts))) (c .before .count-fits .ensures) (c .if1 .taken)
+    let a = c .before .before .before .before .before .args in
+    bytes-over (lent (now (a .«data»)) (now (a .objects)) (now (a .links)) (a .t4)) (c .before .count-fits .ensures) (c .if1 .taken)
 
 returns-2 : tie.Need-returns-2
 unfolding objectRoom
 returns-2 c =
-    let start = c .before .before .before .before .before .before .before .before .before in
+    let start = c .before .before .before .before .before .before .before in
     let a = start .args in
-    objects-over (lent (now (a .«data»)) (now (a .objects)) (now (a .links)) (now (a .counts))) (c .before .count-fits2 .ensures) (c .if2 .taken)
+    objects-over (lent (now (a .«data»)) (now (a .objects)) (now (a .links)) (a .t4)) (c .before .count-fits2 .ensures) (c .if2 .taken)
 
 returns-3 : tie.Need-returns-3
 unfolding linkRoom
 returns-3 c =
-    let start = c .before .before .before .before .before .before .before .before .before .before .before .before in
+    let start = c .before .before .before .before .before .before .before .before .before in
     let a = start .args in
-    links-over (lent (now (a .«data»)) (now (a .objects)) (now (a .links)) (now (a .counts))) (c .before .count-fits3 .ensures) (c .if3 .taken)
+    links-over (lent (now (a .«data»)) (now (a .objects)) (now (a .links)) (a .t4)) (c .before .count-fits3 .ensures) (c .if3 .taken)
 
 objects-fit-requires : tie.Need-objects-fit-requires
 objects-fit-requires c κs =
-    let d = c .before .before .before in
-    let a = d .before .before .before .before .before .before .before .before .before .args in
-    omega (arith, count-in (getD (now (a .counts)) 1 0) (min (length (now (a .objects)) / 2) 65536) (d .before .count-fits2 .ensures) (d .if2 .left))
+    let d = c .before .before in
+    let a = d .before .before .before .before .before .before .before .args in
+    omega (arith, count-in (getD (a .t4) 1 0) (min (length (now (a .objects)) / 2) 65536) (d .before .count-fits2 .ensures) (d .if2 .left))
 
 returns-4 : tie.Need-returns-4
 returns-4 c =
-    let start = c .before .before .before .before .before .before .before .before .before .before .before .before .before .before in
+    let start = c .before .before .before .before .before .before .before .before .before .before .before in
     let a = start .args in
-    objects-unfit (lent (now (a .«data»)) (now (a .objects)) (now (a .links)) (now (a .counts))) (c .before .objects-fit .ensures (now (a .«data»)) (now (a .links))) (c .if4 .taken)
+    objects-unfit (lent (now (a .«data»)) (now (a .objects)) (now (a .links)) (a .t4)) (c .before .objects-fit .ensures (now (a .«data»)) (now (a .links))) (c .if4 .taken)
 
 links-fit-requires : tie.Need-links-fit-requires
 links-fit-requires c κs =
     let e = c .before .before in
-    let d = e .before .before .before in
-    let a = d .before .before .before .before .before .before .before .before .before .args in
+    let d = e .before .before in
+    let a = d .before .before .before .before .before .before .before .args in
     omega (
       arith,
-      count-in (getD (now (a .counts)) 1 0) (min (length (now (a .objects)) / 2) 65536) (d .before .count-fits2 .ensures) (d .if2 .left),
-      count-in (getD (now (a .counts)) 2 0) (min (length (now (a .links)) / 4) 262144) (e .before .count-fits3 .ensures) (e .if3 .left),
+      count-in (getD (a .t4) 1 0) (min (length (now (a .objects)) / 2) 65536) (d .before .count-fits2 .ensures) (d .if2 .left),
+      count-in (getD (a .t4) 2 0) (min (length (now (a .links)) / 4) 262144) (e .before .count-fits3 .ensures) (e .if3 .left),
     )
 
 returns-5 : tie.Need-returns-5
@@ -58,11 +58,11 @@ unfolding byteRoom objectRoom linkRoom
 returns-5 c =
     let f = c .before in
     let e = f .before .before in
-    let d = e .before .before .before in
-    let b = d .before .before .before in
-    let a = b .before .before .before .before .before .before .args in
+    let d = e .before .before in
+    let b = d .before .before in
+    let a = b .before .before .before .before .before .args in
     c .links-fit .ensures (now (a .«data»))
-    ∙ links-decide (lent (now (a .«data»)) (now (a .objects)) (now (a .links)) (now (a .counts)))
+    ∙ links-decide (lent (now (a .«data»)) (now (a .objects)) (now (a .links)) (a .t4))
     (b .before .count-fits .ensures) (b .if1 .left) (d .before .count-fits2 .ensures) (d .if2 .left) (e .before .count-fits3 .ensures) (e .if3 .left)
     (f .before .objects-fit .ensures (now (a .«data»)) (now (a .links))) (f .if4 .left)
 

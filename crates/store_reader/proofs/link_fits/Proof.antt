@@ -9,34 +9,34 @@ use Rattle.store_reader.proofs.link_fits.Tie as tie
 
 returns : tie.Need-returns
 returns c =
-    let a = c .before .before .before .before .before .args in
-    λ b. link-parent (lent b (now (a .objects)) (now (a .links)) (now (a .counts))) (a .k) (c .if1 .taken)
+    let a = c .before .before .before .before .args in
+    λ b. link-parent (lent b (now (a .objects)) (now (a .links)) (a .t3)) (a .k) (c .if1 .taken)
 
 returns-2 : tie.Need-returns-2
 returns-2 c =
-    let start = c .before .before .before .before .before .before .before .before in
+    let start = c .before .before .before .before .before .before in
     let a = start .args in
-    λ b. link-child (lent b (now (a .objects)) (now (a .links)) (now (a .counts))) (a .k) (c .if2 .taken)
+    λ b. link-child (lent b (now (a .objects)) (now (a .links)) (a .t3)) (a .k) (c .if2 .taken)
 
 returns-3 : tie.Need-returns-3
 returns-3 c =
-    let start = c .before .before .before .before .before .before .before .before .before .before in
+    let start = c .before .before .before .before .before .before .before .before in
     let a = start .args in
-    λ b. link-width (lent b (now (a .objects)) (now (a .links)) (now (a .counts))) (a .k) (c .if3 .taken)
+    λ b. link-width (lent b (now (a .objects)) (now (a .links)) (a .t3)) (a .k) (c .if3 .taken)
 
 returns-4 : tie.Need-returns-4
 returns-4 c =
-    let start = c .before .before .before .before .before .before .before .before .before .before .before .before .before in
+    let start = c .before .before .before .before .before .before .before .before .before .before .before in
     let a = start .args in
-    λ b. link-place (lent b (now (a .objects)) (now (a .links)) (now (a .counts))) (a .k) (c .before .position-fits .ensures) (c .if4 .taken)
+    λ b. link-place (lent b (now (a .objects)) (now (a .links)) (a .t3)) (a .k) (c .before .position-fits .ensures) (c .if4 .taken)
 
 returns-5 : tie.Need-returns-5
 returns-5 c =
     let d = c .before .before .before .before .before .before in
-    let a = d .before .before .before .before .before .before .before .before .args in
+    let a = d .before .before .before .before .before .before .args in
     λ b.
-    c .row-ascends .ensures b (now (a .objects)) (now (a .counts))
-    ∙ link-rest (lent b (now (a .objects)) (now (a .links)) (now (a .counts))) (a .k) (d .before .before .before .if1 .left) (d .if2 .left)
+    c .row-ascends .ensures b (now (a .objects)) (a .t3)
+    ∙ link-rest (lent b (now (a .objects)) (now (a .links)) (a .t3)) (a .k) (d .before .before .if1 .left) (d .if2 .left)
     (c .before .before .before .before .if3 .left) (c .before .before .position-fits .ensures) (c .before .if4 .left)
 
 pub link-fits-spec : {M : Type 1} → statement M

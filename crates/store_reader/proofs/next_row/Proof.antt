@@ -2,8 +2,8 @@
 use Prim.Native.Nat.{_-_}
 use native.Mathlib.Omega.{arith}
 use borrow.Author.Needs.{needs}
-use Rattle.store_reader.specs.Rows.{keyOf}
-use Rattle.store_reader.proofs.Rows.{Bracket, rest, up, down, found}
+use Rattle.store_reader.specs.Rows.{keyOf, Bracket}
+use Rattle.store_reader.proofs.Rows.{rest, up, down, found}
 use Rattle.store_reader.proofs.next_row.Statement.{statement}
 use Rattle.store_reader.proofs.next_row.Tie as tie
 

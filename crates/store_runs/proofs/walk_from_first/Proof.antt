@@ -11,22 +11,22 @@ prepare-requires c κs = blank (c .before .before .before .before .pre)
 
 cast-count : tie.Need-cast-count
 cast-count c =
-    let start = c .before .before .before .before .before .before .before .before in
+    let start = c .before .before .before .before .before .before .before in
     omega (arith, links-few (start .pre))
 
 first-row-requires : tie.Need-first-row-requires
 first-row-requires c κs =
-    let start = c .before .before .before .before .before .before .before .before in
+    let start = c .before .before .before .before .before .before .before in
     rows-sorted (start .pre)
 
 first-row-requires-2 : tie.Need-first-row-requires-2
 first-row-requires-2 c κs =
-    let start = c .before .before .before .before .before .before .before .before .before in
+    let start = c .before .before .before .before .before .before .before .before in
     rows-sorted (start .pre)
 
 subgraph-size-requires : tie.Need-subgraph-size-requires
 subgraph-size-requires c κs =
-    let first = c .before .before .before .before .before .before in
+    let first = c .before .before .before .before .before in
     (c .before .first-row2 .ensures .within, (noRow, ready (first .before .before .before .before .before .pre) (first .prepare .ensures)))
 
 pub walk-from-first-spec : {M : Type 1} → statement M

@@ -11,30 +11,29 @@ use Rattle.store_walk.proofs.last_rows.Statement.{statement}
 use Rattle.store_walk.proofs.last_rows.Tie as tie
 
 abbrev Inv-loop : tie.InvT-loop
-Inv-loop links counts walk₀ n m k₀ walk k = Passed links (getD counts 2 0) (getD counts 1 0) walk₀ walk k
+Inv-loop links walk₀ n m k₀ walk k = Passed links m n walk₀ walk k
 
 abbrev μ-loop : tie.MeasureT-loop
-μ-loop links counts walk₀ n m k₀ walk k = getD counts 2 0 - k
+μ-loop links walk₀ n m k₀ walk k = m - k
 
 -- the function's start, from the loop's head
 abbrev begin : tie.At-loop Inv-loop μ-loop → tie.Start Inv-loop μ-loop
-begin a = a .before .before .before
+begin a = a .before
 
 -- what the store has, as it is sound
-fit : (s : tie.Start Inv-loop μ-loop) → Fits (lent (s .pre .0 .bytes) (s .pre .0 .objects) (now (s .args .links)) (now (s .args .counts)))
-fit s = sound-fits (lent (s .pre .0 .bytes) (s .pre .0 .objects) (now (s .args .links)) (now (s .args .counts))) (s .pre .0 .is-sound)
+fit : (s : tie.Start Inv-loop μ-loop) → Fits (lent (s .pre .0 .bytes) (s .pre .0 .objects) (now (s .args .links)) (s .args .t2))
+fit s = sound-fits (lent (s .pre .0 .bytes) (s .pre .0 .objects) (now (s .args .links)) (s .args .t2)) (s .pre .0 .is-sound)
 
 -- the row's parent is an object
-parent : (c : tie.In-loop Inv-loop μ-loop) → getD (now (begin (c .before) .args .links)) (perLink * c .before .loop .k + 0) 0 < getD (now (begin (c .before) .args .counts)) 1 0
+parent : (c : tie.In-loop Inv-loop μ-loop) → getD (now (begin (c .before) .args .links)) (perLink * c .before .loop .k + 0) 0 < getD (begin (c .before) .args .t2) 1 0
 parent c = fit (begin (c .before)) .link (c .before .loop .k) (c .loop-test .taken) .parentUsed
 
 cast-m : tie.Need-cast-m Inv-loop μ-loop
-cast-m c = omega (arith, fit (c .before .before) .linksMost)
+cast-m c = omega (arith, fit c .linksMost)
 
 loop-holds : tie.Need-loop-holds Inv-loop μ-loop
 loop-holds c =
-    let s = c .before .before in
-    none-passed (s .pre .1) (s .pre .0 .room)
+    none-passed (c .pre .1) (c .pre .0 .room)
 
 mul-parent : tie.Need-mul-parent Inv-loop μ-loop
 mul-parent c = omega (arith, fit (begin (c .before)) .linksMost)

@@ -17,29 +17,29 @@ use Rattle.store_walk.proofs.row_ends.Statement.{statement}
 use Rattle.store_walk.proofs.row_ends.Tie as tie
 
 abbrev Inv-loop : tie.InvT-loop
-Inv-loop links counts walk₀ n end₀ i₀ walk end i = Ended links (getD counts 2 0) (getD counts 1 0) walk₀ walk end i
+Inv-loop links walk₀ counts end₀ i₀ walk end i = Ended links (getD counts 2 0) (getD counts 1 0) walk₀ walk end i
 
 abbrev μ-loop : tie.MeasureT-loop
-μ-loop links counts walk₀ n end₀ i₀ walk end i = getD counts 1 0 - i
+μ-loop links walk₀ counts end₀ i₀ walk end i = getD counts 1 0 - i
 
 -- the function's start, from the loop's head
 abbrev begin : tie.At-loop Inv-loop μ-loop → tie.Start Inv-loop μ-loop
-begin a = a .before .before
+begin a = a .before
 
 -- what the store has, as it is sound
-fit : (s : tie.Start Inv-loop μ-loop) → Fits (lent (s .pre .0 .bytes) (s .pre .0 .objects) (now (s .args .links)) (now (s .args .counts)))
-fit s = sound-fits (lent (s .pre .0 .bytes) (s .pre .0 .objects) (now (s .args .links)) (now (s .args .counts))) (s .pre .0 .is-sound)
+fit : (s : tie.Start Inv-loop μ-loop) → Fits (lent (s .pre .0 .bytes) (s .pre .0 .objects) (now (s .args .links)) (s .args .t2))
+fit s = sound-fits (lent (s .pre .0 .bytes) (s .pre .0 .objects) (now (s .args .links)) (s .args .t2)) (s .pre .0 .is-sound)
 
 -- the row where the next object's rows start
-next : (c : tie.Joined1 Inv-loop μ-loop) → (let a = c .before .before .before in let x = begin a .args in FirstRow (now (x .links)) (getD (now (x .counts)) 2 0) (keyOf (a .loop .i + 1) 0) (c .if1 .end))
+next : (c : tie.Joined1 Inv-loop μ-loop) → (let a = c .before .before .before in let x = begin a .args in FirstRow (now (x .links)) (getD (x .t2) 2 0) (keyOf (a .loop .i + 1) 0) (c .if1 .end))
 next c =
     let a = c .before .before .before in
     let s = begin a in
     let l = now (s .args .links) in
-    let n = getD (now (s .args .counts)) 1 0 in
-    let m = getD (now (s .args .counts)) 2 0 in
+    let n = getD (s .args .t2) 1 0 in
+    let m = getD (s .args .t2) 2 0 in
     let i = a .loop .i in
-    let x = lent (s .pre .0 .bytes) (s .pre .0 .objects) l (now (s .args .counts)) in
+    let x = lent (s .pre .0 .bytes) (s .pre .0 .objects) l (s .args .t2) in
     let h = c .before .before .loop-test .taken in
     let v = a .loop .inv in
     let last : LastOf l m i (getD (a .loop .walk) (n + i) 0) = subst (LastOf l m i) (sym (v .rest i (omega arith) h)) (s .pre .1 .lasts i h) in
@@ -93,7 +93,7 @@ returns c b o sounds =
     let a = c .before in
     let v = a .loop .inv in
     let s = begin a in
-    marks-fresh (sound-fits (lent b o (now (s .args .links)) (now (s .args .counts))) sounds) (omega (arith, s .pre .0 .room, v .long))
+    marks-fresh (sound-fits (lent b o (now (s .args .links)) (s .args .t2)) sounds) (omega (arith, s .pre .0 .room, v .long))
     (λ i h. omega (arith, v .marks i h ∙ s .pre .1 .unmarked i h))
     (λ i h. v .ends i (omega (arith, c .loop-test .left)))
 
@@ -103,9 +103,11 @@ row-ends-spec =
     (tie.spec
     Inv-loop
     μ-loop
-    (λ c. search needs)
-    (λ c. search needs)
     loop-holds
+    (λ c. search needs)
+    (λ c. search needs)
+    (λ c. search needs)
+    (λ c. search needs)
     add-last
     mul-last
     slice-read-last

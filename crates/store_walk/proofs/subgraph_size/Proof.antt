@@ -18,24 +18,24 @@ use Rattle.store_walk.proofs.subgraph_size.Statement.{statement}
 use Rattle.store_walk.proofs.subgraph_size.Tie as tie
 
 abbrev Inv-loop : tie.InvT-loop
-Inv-loop objects links counts lo hi epoch walk₀ n sum₀ row₀ stop₀ top₀ walk sum row stop top = Inv objects links (getD counts 1 0) (getD counts 2 0) lo hi epoch walk₀ walk sum row stop top
+Inv-loop objects links lo hi epoch walk₀ counts sum₀ row₀ stop₀ top₀ walk sum row stop top = Inv objects links (getD counts 1 0) (getD counts 2 0) lo hi epoch walk₀ walk sum row stop top
 
 abbrev μ-loop : tie.MeasureT-loop
-μ-loop objects links counts lo hi epoch walk₀ n sum₀ row₀ stop₀ top₀ walk sum row stop top = count (unread epoch walk) (getD counts 1 0) * (getD counts 2 0 + 1) + (stop - row)
+μ-loop objects links lo hi epoch walk₀ counts sum₀ row₀ stop₀ top₀ walk sum row stop top = count (unread epoch walk) (getD counts 1 0) * (getD counts 2 0 + 1) + (stop - row)
 
 -- the function's start, from the loop's head
 abbrev begin : tie.At-loop Inv-loop μ-loop → tie.Start Inv-loop μ-loop
-begin a = a .before .before .before .before .before
+begin a = a .before .before .before .before
 
 -- what the store has, as it is sound
-fit : (s : tie.Start Inv-loop μ-loop) → Fits (lent (s .pre .1 .1 .bytes) (now (s .args .objects)) (now (s .args .links)) (now (s .args .counts)))
-fit s = sound-fits (lent (s .pre .1 .1 .bytes) (now (s .args .objects)) (now (s .args .links)) (now (s .args .counts))) (s .pre .1 .1 .is-sound)
+fit : (s : tie.Start Inv-loop μ-loop) → Fits (lent (s .pre .1 .1 .bytes) (now (s .args .objects)) (now (s .args .links)) (s .args .t3))
+fit s = sound-fits (lent (s .pre .1 .1 .bytes) (now (s .args .objects)) (now (s .args .links)) (s .args .t3)) (s .pre .1 .1 .is-sound)
 
-use-of : (s : tie.Start Inv-loop μ-loop) → Used (now (s .args .links)) (getD (now (s .args .counts)) 2 0) (getD (now (s .args .counts)) 1 0)
-use-of s = used (lent (s .pre .1 .1 .bytes) (now (s .args .objects)) (now (s .args .links)) (now (s .args .counts))) (fit s)
+use-of : (s : tie.Start Inv-loop μ-loop) → Used (now (s .args .links)) (getD (s .args .t3) 2 0) (getD (s .args .t3) 1 0)
+use-of s = used (lent (s .pre .1 .1 .bytes) (now (s .args .objects)) (now (s .args .links)) (s .args .t3)) (fit s)
 
 -- the row's child is an object
-child : (c : tie.Then1 Inv-loop μ-loop) → rowChild (now (begin (c .before) .args .links)) (c .before .loop .row) < getD (now (begin (c .before) .args .counts)) 1 0
+child : (c : tie.Then1 Inv-loop μ-loop) → rowChild (now (begin (c .before) .args .links)) (c .before .loop .row) < getD (begin (c .before) .args .t3) 1 0
 child c = use-of (begin (c .before)) .children (c .before .loop .row) (omega arith)
 
 abbrev then1 : tie.Then2 Inv-loop μ-loop → tie.Then1 Inv-loop μ-loop
@@ -43,7 +43,7 @@ then1 c = c .before .before .before
 
 -- what holds once the row's child, which was not found yet, stands in the stack
 entered : (c : tie.Then2 Inv-loop μ-loop) → (let a = then1 c .before in let x = begin a .args in let d = rowChild (now (x .links)) (a .loop .row) in
-    Inv (now (x .objects)) (now (x .links)) (getD (now (x .counts)) 1 0) (getD (now (x .counts)) 2 0) (x .lo) (x .hi) (x .epoch) (now (x .walk))
+    Inv (now (x .objects)) (now (x .links)) (getD (x .t3) 1 0) (getD (x .t3) 2 0) (x .lo) (x .hi) (x .epoch) (now (x .walk))
     (set (a .loop .walk) d (x .epoch + 1 + a .loop .top)) (a .loop .sum + sizeAt (now (x .objects)) d) (a .loop .row + 1) (a .loop .stop) (d + 1))
 entered c =
     let t = then1 c in
@@ -52,11 +52,11 @@ entered c =
     push (s .pre .1 .1 .marks .latest) (a .loop .inv) (use-of s) (s .pre .1 .1 .marks .room) (t .if1 .taken) (c .if2 .taken)
 
 -- the lengths of all objects add up to no more than the data
-sizes : (s : tie.Start Inv-loop μ-loop) → sum (sizeAt (now (s .args .objects))) (getD (now (s .args .counts)) 1 0) ≤ 16777216
-sizes s = sizes-most (lent (s .pre .1 .1 .bytes) (now (s .args .objects)) (now (s .args .links)) (now (s .args .counts))) (fit s)
+sizes : (s : tie.Start Inv-loop μ-loop) → sum (sizeAt (now (s .args .objects))) (getD (s .args .t3) 1 0) ≤ 16777216
+sizes s = sizes-most (lent (s .pre .1 .1 .bytes) (now (s .args .objects)) (now (s .args .links)) (s .args .t3)) (fit s)
 
 -- the stack's last object
-parent-used : (c : tie.Else3 Inv-loop μ-loop) → (let a = c .before .before in a .loop .top - 1 < getD (now (begin a .args .counts)) 1 0)
+parent-used : (c : tie.Else3 Inv-loop μ-loop) → (let a = c .before .before in a .loop .top - 1 < getD (begin a .args .t3) 1 0)
 parent-used c =
     let a = c .before .before in
     let m = begin a .pre .1 .1 .marks in
@@ -70,7 +70,7 @@ parent-high c =
 
 -- its rows end where the scratch says, with its own mark set
 ends : (c : tie.Else3 Inv-loop μ-loop) → (let a = c .before .before in let x = begin a .args in
-    (i : ℕ) → i < getD (now (x .counts)) 1 0 → FirstRow (now (x .links)) (getD (now (x .counts)) 2 0) (keyOf (i + 1) 0) (getD (set (a .loop .walk) (a .loop .top - 1) (x .epoch)) (getD (now (x .counts)) 1 0 + i) 0))
+    (i : ℕ) → i < getD (x .t3) 1 0 → FirstRow (now (x .links)) (getD (x .t3) 2 0) (keyOf (i + 1) 0) (getD (set (a .loop .walk) (a .loop .top - 1) (x .epoch)) (getD (x .t3) 1 0 + i) 0))
 ends c =
     let a = c .before .before in
     let m = begin a .pre .1 .1 .marks in
@@ -78,17 +78,17 @@ ends c =
 
 -- and start where those of the object before it end
 starts : (c : tie.After-first-row-of Inv-loop μ-loop) → (let a = c .before .before .before .before .before in let x = begin a .args in
-    FirstRow (now (x .links)) (getD (now (x .counts)) 2 0) (keyOf (a .loop .top - 1) 0) (c .first-row-of .result))
+    FirstRow (now (x .links)) (getD (x .t3) 2 0) (keyOf (a .loop .top - 1) 0) (c .first-row-of .result))
 starts c =
     let b = c .before .before .before in
     let a = b .before .before in
     let x = begin a .args in
     rw (c .first-row-of .ensures)
-    (rows-start (now (x .links)) (getD (now (x .counts)) 2 0) (getD (now (x .counts)) 1 0) (set (a .loop .walk) (a .loop .top - 1) (x .epoch)) (ends b) (a .loop .top - 1) (parent-used b))
+    (rows-start (now (x .links)) (getD (x .t3) 2 0) (getD (x .t3) 1 0) (set (a .loop .walk) (a .loop .top - 1) (x .epoch)) (ends b) (a .loop .top - 1) (parent-used b))
 
 loop-holds : tie.Need-loop-holds Inv-loop μ-loop
 loop-holds c =
-    let s = c .before .before .before .before in
+    let s = c .before .before .before in
     start (s .pre .1 .1 .marks .latest) (s .pre .0) (marks-closed (fit s) (s .pre .1 .1 .marks))
 
 mul-child : tie.Need-mul-child Inv-loop μ-loop
@@ -150,7 +150,7 @@ loop-less c =
     let t = then1 (c .before) in
     let a = t .before in
     let s = begin a in
-    let m = getD (now (s .args .counts)) 2 0 in
+    let m = getD (s .args .t3) 2 0 in
     omega (arith, ap (λ (x : ℕ). x * (m + 1)) (push-unread (s .pre .1 .1 .marks .latest) (a .loop .inv) (use-of s) (s .pre .1 .1 .marks .room) (t .if1 .taken) (c .before .if2 .taken)))
 
 loop-again : tie.Need-loop-again Inv-loop μ-loop
@@ -173,7 +173,7 @@ returns c =
     let s = begin a in
     let o = now (s .args .objects) in
     let l = now (s .args .links) in
-    let k = now (s .args .counts) in
+    let k = s .args .t3 in
     λ b from v.
     walked-bytes (s .pre .1 .1 .bytes) b o l k
     (walked (fit s) (marks-bytes b (s .pre .1 .1 .bytes) o l k v) (done (s .pre .1 .1 .marks .latest) (a .loop .inv) (use-of s) (s .pre .0) (c .before .if1 .left) (c .if3 .taken)))
@@ -235,9 +235,9 @@ loop-less-3 c =
     let a = b .before .before in
     let x = begin a .args in
     let p = begin a .pre .1 .1 .marks in
-    let n = getD (now (x .counts)) 1 0 in
+    let n = getD (x .t3) 1 0 in
     let w = set (a .loop .walk) (a .loop .top - 1) (x .epoch) in
-    falls (getD (now (x .counts)) 2 0) (count (unread (x .epoch) (a .loop .walk)) n) (count (unread (x .epoch) w) n) (c .before .first-row-of .result) (getD w (n + (a .loop .top - 1)) 0) (a .loop .stop - a .loop .row)
+    falls (getD (x .t3) 2 0) (count (unread (x .epoch) (a .loop .walk)) n) (count (unread (x .epoch) w) n) (c .before .first-row-of .result) (getD w (n + (a .loop .top - 1)) 0) (a .loop .stop - a .loop .row)
     (pop-unread (p .latest) (a .loop .inv) (use-of (begin a)) (p .room) (omega arith)) (ends b (a .loop .top - 1) (parent-used b) .within)
 
 loop-again-3 : tie.Need-loop-again-3 Inv-loop μ-loop
@@ -253,8 +253,6 @@ subgraph-size-spec =
     (tie.spec
     Inv-loop
     μ-loop
-    (λ c. search needs)
-    (λ c. search needs)
     loop-holds
     mul-child
     add-child
@@ -278,6 +276,8 @@ subgraph-size-spec =
     loop-again-2
     same-length
     returns
+    (λ c. search needs)
+    (λ c. search needs)
     sub-parent
     cast-parent
     mul-top

@@ -1,13 +1,18 @@
 //! Runs of the splitter against the model and the oracle, over as many seeds as one likes.
 //!
 //! ```text
-//! runs --seeds A..B [--subject archive|model] [--format 1|2]
+//! runs --seeds A..B [--subject archive|model] [--kind pairs|marks] [--format 1|2]
 //! ```
 //!
-//! Each seed makes a store of each format, which is split whole and damaged. The first difference
-//! ends the run, with the seed. Otherwise it ends with how often each case occurred.
+//! Each seed makes a store of each format of PairPos, or one with a MarkBasePos table, which is split
+//! whole and damaged. The first difference ends the run, with the seed. Otherwise it ends with how
+//! often each case occurred. Marks are split by the model alone.
 
-use differential::{check::Outcome, generate, runs, Archive, Model, Subject, Tally};
+use differential::{
+    check::Outcome,
+    generate::{self, Case},
+    runs, Archive, Model, Subject, Tally,
+};
 use std::{
     env,
     ops::Range,
@@ -16,7 +21,8 @@ use std::{
     time::{Duration, Instant},
 };
 
-const USAGE: &str = "runs --seeds A..B [--subject archive|model] [--format 1|2]";
+const USAGE: &str =
+    "runs --seeds A..B [--subject archive|model] [--kind pairs|marks] [--format 1|2]";
 
 /// How often it says how far it is.
 const PROGRESS: Duration = Duration::from_secs(5);
@@ -25,7 +31,15 @@ const PROGRESS: Duration = Duration::from_secs(5);
 struct Args {
     seeds: Range<u64>,
     is_model: bool,
-    formats: Vec<u8>,
+    kinds: &'static [Kind],
+}
+
+/// A kind of table.
+#[derive(Clone, Copy, Debug, PartialEq, Eq)]
+enum Kind {
+    Format1,
+    Format2,
+    Marks,
 }
 
 fn main() -> ExitCode {
@@ -51,7 +65,7 @@ impl Args {
         let mut args = Self {
             seeds: 0..0,
             is_model: false,
-            formats: vec![1, 2],
+            kinds: &[Kind::Format1, Kind::Format2],
         };
         while let Some(name) = words.next() {
             let word = words.next()?;
@@ -62,12 +76,15 @@ impl Args {
                 }
                 ("--subject", "archive") => args.is_model = false,
                 ("--subject", "model") => args.is_model = true,
-                ("--format", "1") => args.formats = vec![1],
-                ("--format", "2") => args.formats = vec![2],
+                ("--kind", "pairs") => args.kinds = &[Kind::Format1, Kind::Format2],
+                ("--kind", "marks") => args.kinds = &[Kind::Marks],
+                ("--format", "1") => args.kinds = &[Kind::Format1],
+                ("--format", "2") => args.kinds = &[Kind::Format2],
                 _ => return None,
             }
         }
-        (!args.seeds.is_empty()).then_some(args)
+        let has_subject = args.is_model || !args.kinds.contains(&Kind::Marks);
+        (has_subject && !args.seeds.is_empty()).then_some(args)
     }
 }
 
@@ -77,9 +94,9 @@ fn run(subject: &impl Subject, args: &Args) -> Outcome {
     let mut tally = Tally::default();
     let mut stores = 0;
     for seed in args.seeds.clone() {
-        for &format in &args.formats {
-            let outcome = check(subject, format, seed, &mut tally);
-            outcome.map_err(|reason| format!("format {format}, seed {seed}: {reason}"))?;
+        for &kind in args.kinds {
+            let outcome = check(subject, kind, seed, &mut tally);
+            outcome.map_err(|reason| format!("{kind:?}, seed {seed}: {reason}"))?;
             stores += 1;
         }
         if said.elapsed() >= PROGRESS {
@@ -97,16 +114,23 @@ fn run(subject: &impl Subject, args: &Args) -> Outcome {
 }
 
 /// The store of a seed, whole and damaged. A panic is a difference too.
-fn check(subject: &impl Subject, format: u8, seed: u64, tally: &mut Tally) -> Outcome {
-    let checked = catch_unwind(AssertUnwindSafe(|| {
-        let case = match format {
-            1 => generate::format1(seed),
-            _ => generate::format2(seed),
-        };
-        runs::whole(subject, &case, seed, tally)?;
-        runs::damaged(subject, &case, seed, tally)
+fn check(subject: &impl Subject, kind: Kind, seed: u64, tally: &mut Tally) -> Outcome {
+    let checked = catch_unwind(AssertUnwindSafe(|| match kind {
+        Kind::Format1 => check_pairs(subject, &generate::format1(seed), seed, tally),
+        Kind::Format2 => check_pairs(subject, &generate::format2(seed), seed, tally),
+        Kind::Marks => check_marks(&generate::marks(seed), seed, tally),
     }));
     checked.unwrap_or(Err("panicked".into()))
+}
+
+fn check_pairs(subject: &impl Subject, case: &Case, seed: u64, tally: &mut Tally) -> Outcome {
+    runs::whole(subject, case, seed, tally)?;
+    runs::damaged(subject, case, seed, tally)
+}
+
+fn check_marks(case: &Case, seed: u64, tally: &mut Tally) -> Outcome {
+    runs::marks_whole(&Model, case, seed, tally)?;
+    runs::marks_damaged(&Model, case, seed, tally)
 }
 
 fn rate(stores: u64, start: Instant) -> u64 {

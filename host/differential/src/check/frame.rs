@@ -1,7 +1,7 @@
 //! What a split leaves as it was.
 
 use super::{ensure, same, Outcome, Split};
-use crate::{edit, model::soundness::sound, Subject};
+use crate::{edit, model::soundness::sound, Splits};
 use oracle::Store;
 
 /// A split leaves scratch zero, and changes nothing but what it must.
@@ -53,7 +53,7 @@ fn others_stay(old: &Store, new: &Store, table: u32) -> Outcome {
 }
 
 /// Splitting the kept table again, with scratch enough, changes nothing.
-pub fn again(subject: &impl Subject, split: &Split) -> Outcome {
+pub fn again(subject: &impl Splits, split: &Split) -> Outcome {
     let mut call = split.after.clone();
     call.scratch
         .walk

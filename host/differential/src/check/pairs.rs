@@ -1,6 +1,6 @@
 //! Pairs before and after a split.
 
-use super::{ensure, opened, Outcome, Split};
+use super::{ensure, opened, some_tables, Outcome, Split};
 use crate::{
     model::{pairs::read, table::PairPos},
     Pair, Random, Subject, Tally,
@@ -18,8 +18,8 @@ pub fn pairs_stay(split: &Split, random: &mut Random, tally: &mut Tally) -> Outc
         for &second in &seconds {
             let before = read(&old, [first, second]);
             let after = first_pair(&new, [first, second]);
-            tally.pairs += 1;
-            tally.pairs_found += before.found as usize;
+            tally.readings += 1;
+            tally.found += before.found as usize;
             ensure(before == after, || {
                 format!("glyphs {first}, {second}: {after:?}, not {before:?}")
             })?;
@@ -45,8 +45,8 @@ pub fn pairs_agree(
             let mut ours = Pair::default();
             let answer = subject.read_pair(store, table, glyphs, &mut ours);
             let theirs = read(&pairpos, glyphs);
-            tally.pairs += 1;
-            tally.pairs_found += theirs.found as usize;
+            tally.readings += 1;
+            tally.found += theirs.found as usize;
             ensure(answer == 0, || format!("table {table}: answer {answer}"))?;
             ensure(ours == theirs, || {
                 format!("table {table}, glyphs {glyphs:?}: {ours:?}, not {theirs:?}")
@@ -55,27 +55,10 @@ pub fn pairs_agree(
         Ok(())
     };
     reads_agree(&before.store, before.table)?;
-    let tables = some_tables(split.tables(), split.before.table);
-    tables
+    some_tables(split)
         .into_iter()
         .try_for_each(|table| reads_agree(&after.store, table))
 }
-
-/// All of a few tables; of many, the kept one and others from the first to the last.
-fn some_tables(tables: Vec<u32>, kept: u32) -> Vec<u32> {
-    if tables.len() <= MOST_TABLES {
-        return tables;
-    }
-    let step = tables.len() / SOME_TABLES;
-    let others = tables.into_iter().rev().step_by(step);
-    [kept].into_iter().chain(others).collect()
-}
-
-/// Of more tables than this, some are read by another subject.
-pub const MOST_TABLES: usize = 64;
-
-/// How many of them, about.
-const SOME_TABLES: usize = 15;
 
 /// How many pairs of a table are read by another subject.
 const PAIRS: usize = 24;

@@ -7,10 +7,15 @@ use super::{
     draft::Draft,
     format1::{pair_set, table},
     format2::{link_parts, Plan},
+    marks::{Parts, Shape},
     Case,
 };
 use crate::{
-    model::{class_def, coverage, values::ValueFormat},
+    model::{
+        class_def, coverage,
+        marks::{base_slot, mark_slot},
+        values::ValueFormat,
+    },
     Random,
 };
 use std::ops::RangeInclusive;
@@ -22,6 +27,15 @@ pub enum Order {
     Made,
     /// In any order, so that neighbours have nothing to do with each other.
     Any,
+}
+
+/// How much of a base array has anchors.
+#[derive(Clone, Copy, Debug, PartialEq, Eq)]
+pub enum Fill {
+    /// Every slot.
+    Full,
+    /// One slot in three.
+    Sparse,
 }
 
 /// How many objects [`format1`] may have, so that a split has room for its own: near 65,536.
@@ -98,6 +112,51 @@ pub fn few_objects(seed: u64) -> Case {
     )
 }
 
+/// A MarkBasePos table with so many anchors, of which slots of both arrays share those near to them.
+///
+/// There is a class for a hundred of them, and a mark for eight. Whatever the fill, there are about as
+/// many links: a sparse array has three times the bases.
+pub fn marks(anchors: usize, fill: Fill, order: Order, seed: u64) -> Case {
+    let mut random = Random::new(seed);
+    let mut draft = Draft::default();
+    let bases = match fill {
+        Fill::Full => 150,
+        Fill::Sparse => 450,
+    };
+    let shape = Shape {
+        classes: anchors / 100,
+        marks: anchors / 8,
+        bases,
+    };
+    let table = draft.object(shape.table(&mut random));
+    let mark_classes = shape.mark_classes(&mut random);
+    let parts = Parts {
+        mark_coverage: draft.object(coverage::write(&glyphs(shape.marks))),
+        base_coverage: draft.object(coverage::write(&glyphs(bases))),
+        mark_array: draft.object(shape.mark_array(&mut random, &mark_classes)),
+        base_array: draft.object(shape.base_array(&mut random)),
+    };
+    parts.link(&mut draft, table);
+
+    let anchors = devices(&mut draft, &mut random, anchors, 205..=235);
+    let near = |class: usize, place: usize, count: usize| {
+        let columns = shape.classes * count;
+        &anchors[(class * count + place) * (anchors.len() - NEAR) / columns..][..NEAR]
+    };
+    for (mark, &class) in mark_classes.iter().enumerate() {
+        let anchor = random.pick(near(class.into(), mark, shape.marks));
+        draft.link(parts.mark_array, mark_slot(mark), anchor);
+    }
+    for slot in 0..bases * shape.classes {
+        if fill == Fill::Full || random.one_in(3) {
+            let (base, class) = (slot / shape.classes, slot % shape.classes);
+            let anchor = random.pick(near(class, base, bases));
+            draft.link(parts.base_array, base_slot(slot), anchor);
+        }
+    }
+    laid_out(&draft, table, order, &mut random)
+}
+
 /// A format 2 table each of whose records has its devices, from among those near to it.
 fn class_table(
     plan: Plan,
@@ -129,7 +188,7 @@ fn class_table(
     laid_out(&draft, table, order, random)
 }
 
-/// From among how many devices an item takes its own.
+/// From among how many devices or anchors an item takes its own.
 const NEAR: usize = 40;
 
 fn devices(

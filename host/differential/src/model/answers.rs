@@ -1,10 +1,11 @@
 //! The answer numbers: a call is refused by the first that applies.
 
 use super::{
-    cuts::cut_places,
     header::{Format, Header},
+    marks::MarkBasePos,
     numbers::u16_at,
     objects::Objects,
+    opened::Opened,
     reach::reaches_itself,
     table::{PairPos, Parts},
     written::Written,
@@ -21,26 +22,24 @@ pub enum Refusal {
     NoTable,
     /// The table is not as long as it says.
     BadTable,
-    /// Coverage or a class definition is not linked, or unreadable.
+    /// Coverage, a class definition or an array is not linked, or unreadable.
     BadParts,
-    /// Format 1 has fewer covered glyphs than sets.
+    /// Fewer glyphs are covered than there are pair sets, or marks.
     FewGlyphs,
     /// A scratch is too short.
     ShortScratch,
-    /// A link of the table stands at no slot, or the table can be reached from itself.
+    /// A link of the table, or of an array, stands at no slot, or the table can be reached from itself.
     BadLinks,
     /// There is no room for what a split adds.
     NoRoom,
 }
 
-/// The table by checks 1 to 5; nothing where it has another format.
-pub fn open(store: &Store, table: u32) -> Result<Option<PairPos<'_>>, Refusal> {
-    let objects = Objects::of(store).ok_or(Refusal::Unsound)?;
-    if table as usize >= objects.count() {
-        return Err(Refusal::NoTable);
-    }
-    let bytes = objects.bytes(table);
-    let format = u16_at(bytes, 0).ok_or(Refusal::BadTable)?;
+/// A table by checks 1 to 5; nothing where it has another format.
+pub type Opening<T> = Result<Option<T>, Refusal>;
+
+/// A PairPos table.
+pub fn open(store: &Store, table: u32) -> Opening<PairPos<'_>> {
+    let (objects, bytes, format) = start(store, table)?;
     let Some(format) = Format::of(format) else {
         return Ok(None);
     };
@@ -57,49 +56,70 @@ pub fn open(store: &Store, table: u32) -> Result<Option<PairPos<'_>>, Refusal> {
     }))
 }
 
-/// The table and its cut places by checks 1 to 7.
-fn cut<'a>(
-    store: &'a Store,
-    table: u32,
-    scratch: &Scratch,
-) -> Result<Option<(PairPos<'a>, Vec<usize>)>, Refusal> {
-    let Some(pairpos) = open(store, table)? else {
+/// A MarkBasePos table.
+pub fn open_marks(store: &Store, table: u32) -> Opening<MarkBasePos<'_>> {
+    let (objects, bytes, format) = start(store, table)?;
+    if format != 1 {
         return Ok(None);
-    };
-    if !scratch_suffices(&pairpos, scratch) {
-        return Err(Refusal::ShortScratch);
     }
-    let at_slot = |link: &[u32; 4]| pairpos.header.is_slot(link[1] as usize);
-    if !pairpos.links().iter().all(at_slot) || reaches_itself(pairpos.objects, table) {
-        return Err(Refusal::BadLinks);
+    if bytes.len() != MarkBasePos::LEN {
+        return Err(Refusal::BadTable);
     }
-    let cuts = cut_places(&pairpos);
-    Ok(Some((pairpos, cuts)))
+    let marks = MarkBasePos::read(objects, table).ok_or(Refusal::BadParts)?;
+    if marks.mark_glyphs.len() < marks.mark_classes.len() {
+        return Err(Refusal::FewGlyphs);
+    }
+    Ok(Some(marks))
 }
 
-fn scratch_suffices(pairpos: &PairPos, scratch: &Scratch) -> bool {
-    let glyphs = pairpos.parts.glyphs.len();
-    scratch.walk.len() >= 2 * pairpos.objects.count()
+/// The store's objects, the table's bytes and its format.
+fn start(store: &Store, table: u32) -> Result<(Objects<'_>, &[u8], u16), Refusal> {
+    let objects = Objects::of(store).ok_or(Refusal::Unsound)?;
+    if table as usize >= objects.count() {
+        return Err(Refusal::NoTable);
+    }
+    let bytes = objects.bytes(table);
+    let format = u16_at(bytes, 0).ok_or(Refusal::BadTable)?;
+    Ok((objects, bytes, format))
+}
+
+/// A table and its cut places by checks 1 to 7.
+fn cut<T: Opened>(opening: Opening<T>, scratch: &Scratch) -> Opening<(T, Vec<usize>)> {
+    let Some(table) = opening? else {
+        return Ok(None);
+    };
+    if !scratch_suffices(&table, scratch) {
+        return Err(Refusal::ShortScratch);
+    }
+    if !table.links_are_at_slots() || reaches_itself(table.objects(), table.number()) {
+        return Err(Refusal::BadLinks);
+    }
+    let cuts = table.cut_places();
+    Ok(Some((table, cuts)))
+}
+
+fn scratch_suffices(table: &impl Opened, scratch: &Scratch) -> bool {
+    scratch.walk.len() >= 2 * table.objects().count()
         && scratch.glyph_set.len() >= 8_192
-        && scratch.glyphs.len() >= glyphs
-        && scratch.classes.len() >= glyphs
-        && scratch.cuts.len() >= pairpos.header.items
+        && scratch.glyphs.len() >= table.glyph_count()
+        && scratch.classes.len() >= table.glyph_count()
+        && scratch.cuts.len() >= table.item_count()
 }
 
 /// What a split writes; nothing where there is nothing to split.
 pub fn split(
+    opening: Opening<impl Opened>,
     store: &Store,
-    table: u32,
     scratch: &Scratch,
     list_len: usize,
-) -> Result<Option<Written>, Refusal> {
-    let Some((pairpos, cuts)) = cut(store, table, scratch)? else {
+) -> Opening<Written> {
+    let Some((table, cuts)) = cut(opening, scratch)? else {
         return Ok(None);
     };
     if cuts.is_empty() {
         return Ok(None);
     }
-    let written = Written::new(&pairpos, &cuts);
+    let written = table.write(&cuts);
     if !written.fits(store) || list_len < cuts.len() {
         return Err(Refusal::NoRoom);
     }
@@ -108,12 +128,11 @@ pub fn split(
 
 /// The places of a cut plan; nothing where the table has another format.
 pub fn plan(
-    store: &Store,
-    table: u32,
+    opening: Opening<impl Opened>,
     scratch: &Scratch,
     list_len: usize,
-) -> Result<Option<Vec<u16>>, Refusal> {
-    let Some((_, cuts)) = cut(store, table, scratch)? else {
+) -> Opening<Vec<u16>> {
+    let Some((_, cuts)) = cut(opening, scratch)? else {
         return Ok(None);
     };
     if list_len < cuts.len() {

@@ -12,7 +12,7 @@ const LIMIT: usize = 65_536;
 /// An item as it was looked at.
 #[derive(Clone, Copy, Debug, PartialEq, Eq)]
 pub struct Weighed {
-    /// The pair set or class-1 row.
+    /// The pair set, class-1 row or mark class.
     pub item: usize,
     /// The total with it, which decides.
     pub total: usize,
@@ -23,13 +23,6 @@ impl Weighed {
     pub fn is_cut(&self) -> bool {
         self.total >= LIMIT
     }
-}
-
-/// The places at which a table is cut.
-pub fn cut_places(pairpos: &PairPos) -> Vec<usize> {
-    let weighed = weigh(pairpos);
-    let cuts = weighed.iter().filter(|weighed| weighed.is_cut());
-    cuts.map(|weighed| weighed.item).collect()
 }
 
 /// All items that are looked at, in order.

@@ -3,8 +3,11 @@
 use super::{
     class_def::{self, ClassDef},
     coverage,
+    cuts::{weigh, Weighed},
     header::{Format, Header, CLASS_DEF1_POS, CLASS_DEF2_POS, COVERAGE_POS},
     objects::{Link, Objects},
+    opened::Opened,
+    written::{pairs, Written},
 };
 use std::ops::Range;
 
@@ -102,5 +105,46 @@ impl<'a> PairPos<'a> {
             None => (glyph, place),
             Some(class_defs) => (glyph, class_defs.first.class_of(glyph).into()),
         })
+    }
+}
+
+impl Opened for PairPos<'_> {
+    fn objects(&self) -> Objects<'_> {
+        self.objects
+    }
+
+    fn number(&self) -> u32 {
+        self.table
+    }
+
+    fn glyph_count(&self) -> usize {
+        self.parts.glyphs.len()
+    }
+
+    fn item_count(&self) -> usize {
+        self.header.items
+    }
+
+    fn links_are_at_slots(&self) -> bool {
+        let at_slot = |link: &Link| self.header.is_slot(link[1] as usize);
+        self.links().iter().all(at_slot)
+    }
+
+    fn links_of_item(&self, item: usize) -> Vec<Link> {
+        self.item_links(item).to_vec()
+    }
+
+    fn parts(&self) -> Vec<u32> {
+        let offsets = self.header.format.offsets().len();
+        let parts = self.links()[..offsets].iter();
+        parts.map(|link| link[3]).collect()
+    }
+
+    fn weigh(&self) -> Vec<Weighed> {
+        weigh(self)
+    }
+
+    fn write(&self, cuts: &[usize]) -> Written {
+        pairs::write(self, cuts)
     }
 }

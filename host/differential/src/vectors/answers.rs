@@ -2,7 +2,7 @@
 
 use crate::{
     check::{as_the_oracle, frame, Outcome, Split},
-    model::{answers, cuts::cut_places, pairs::read, table::PairPos},
+    model::{answers, opened::Opened, pairs::read, table::PairPos},
     product, Call, Model, Pair, Scratch, Subject, Tally,
 };
 
@@ -146,7 +146,7 @@ fn stored_pairs(split: &Split) -> Vec<([u16; 2], u32, Pair)> {
 
 /// Of the first and the last item, and of those at a cut, a pair with values if there is one.
 fn found_pairs(pairpos: &PairPos) -> Vec<[u16; 2]> {
-    let cuts = cut_places(pairpos);
+    let cuts = pairpos.cut_places();
     let at_cuts = cuts
         .iter()
         .take(2)

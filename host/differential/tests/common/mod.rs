@@ -1,16 +1,15 @@
 //! Runs over the stores of fixed seeds.
 
-use differential::{generate::Case, runs, Subject, Tally};
+use differential::{check::Outcome, Tally};
 
 const STORES: usize = 2_600;
 
-/// A subject beside the model and the oracle. No store is refused, and all cases occur, with totals
-/// of 65,534 to 65,537 among them.
-pub fn run(subject: &impl Subject, generate: fn(u64) -> Case) -> Tally {
+/// A subject beside the model and the oracle, on the whole store of each seed. No store is refused,
+/// and all cases occur, with totals of 65,534 to 65,537 among them.
+pub fn run(whole: impl Fn(u64, &mut Tally) -> Outcome) -> Tally {
     let mut tally = Tally::default();
     for seed in 0..STORES as u64 {
-        let outcome = runs::whole(subject, &generate(seed), seed, &mut tally);
-        assert_eq!(outcome, Ok(()), "seed {seed}");
+        assert_eq!(whole(seed, &mut tally), Ok(()), "seed {seed}");
     }
     println!("{tally}");
     assert_eq!(tally.answers[0], STORES);
@@ -18,6 +17,6 @@ pub fn run(subject: &impl Subject, generate: fn(u64) -> Case) -> Tally {
     assert!(many_cuts > 10 && cuts.iter().all(|&count| count > 100));
     assert!(tally.at_limit.iter().all(|&count| count > 100));
     assert!(tally.cuts_at_0 > 100);
-    assert!(tally.pairs_found > 5_000);
+    assert!(tally.found > 5_000);
     tally
 }

@@ -1,11 +1,5 @@
 //! `splitter font`: the pair tables of a font.
 
-mod bytes;
-mod directory;
-mod error;
-mod lengths;
-mod lookups;
-mod subtable;
 #[cfg(test)]
 mod tests;
 
@@ -18,25 +12,26 @@ use super::{
     screen::Screen,
     text::{counted, grouped, listed, or_dash, wrapped},
 };
-use bytes::Bytes;
-use error::FontError;
-use lookups::{Lookups, Subtable};
-use splitter::{cut_plan, Refusal, Scratch};
+use splitter::{
+    cut_plan,
+    font::{find_gpos, load_pairs, Bytes, FontError, Kind, Lookups, Subtable, TABLE},
+    Refusal, Scratch,
+};
 
 /// Shows the pair tables of a font.
 pub fn run(request: &Font, screen: &mut Screen) -> Result<(), Failure> {
     let file = files::read_font(&request.file)?;
     let bad = |error: FontError| files::about(&request.file, error);
     let name = request.file.display();
-    let Some(gpos) = directory::find_gpos(&file).map_err(bad)? else {
+    let Some(gpos) = find_gpos(&file).map_err(bad)? else {
         return screen.line(&format!("{name} has no GPOS table, and so no pair tables."));
     };
-    let lookups = Lookups::read(gpos).map_err(bad)?;
+    let lookups = Lookups::read(gpos, Kind::Pairs).map_err(bad)?;
     screen.heading(&format!("{name}"))?;
     screen.line(&format!(
         "{} in GPOS, {} for pairs, with {}",
         counted(lookups.count, "lookup"),
-        lookups.for_pairs,
+        lookups.of_kind,
         counted(lookups.subtables.len(), "subtable"),
     ))?;
     if lookups.subtables.is_empty() {
@@ -73,10 +68,10 @@ fn see_all(gpos: Bytes, subtables: &[Subtable], scratch: &mut Scratch) -> Vec<Se
 }
 
 fn see(gpos: Bytes, subtable: Subtable, scratch: &mut Scratch) -> Seen {
-    let (look, cuts) = match subtable::load(gpos, subtable.start) {
+    let (look, cuts) = match load_pairs(gpos, subtable.start) {
         Ok(store) => {
-            let look = Look::at(store.view(), subtable::TABLE);
-            let cuts = cut_plan(&store, subtable::TABLE, scratch);
+            let look = Look::at(store.view(), TABLE);
+            let cuts = cut_plan(&store, TABLE, scratch);
             (look, cuts.map_err(FontError::Store))
         }
         Err(error) => (None, Err(error)),

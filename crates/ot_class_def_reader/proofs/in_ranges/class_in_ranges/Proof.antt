@@ -1,7 +1,7 @@
 -- `ot_class_def_reader::in_ranges::class_in_ranges` meets its contract: the class beside the range that has the glyph. Assumes nothing.
 use borrow.Author.Needs.{needs}
 use Prim.Native.Nat.{ℕ, _+_, _*_, _<_}
-use mathlib.Core.Path.{_≡_, sym, _∙_}
+use mathlib.Core.Path.{_≡_, sym, ap, _∙_}
 use mathlib.Core.Bool.{true}
 use mathlib.Core.List.{List}
 use mathlib.Core.Option.{some}
@@ -10,18 +10,17 @@ use lib.ListN.{length}
 use Rattle.folds.proofs.First.{first-below}
 use Rattle.ot_layouts.specs.Coverage.{besideAt, rangesFit}
 use Rattle.ot_layouts.proofs.RangesRead.{ranges-read}
-use Rattle.ot_ranges.specs.Ranges.{found, inRange, rangeOf}
+use Rattle.ot_ranges.specs.Ranges.{rangeFound, inRange, rangeOf}
 use Rattle.ot_ranges.specs.declared.Found.{Found}
 use Rattle.ot_ranges.specs.declared.Found.the-variants.{At, Nowhere}
-use Rattle.ot_ranges.proofs.Place.{found-some, found-none}
 use Rattle.ot_class_def_reader.specs.Lookup.{rangeClass}
 use Rattle.ot_class_def_reader.proofs.in_ranges.class_in_ranges.Statement.{statement}
 use Rattle.ot_class_def_reader.proofs.in_ranges.class_in_ranges.Tie as tie
 
-module _ (part : List ℕ) (count g : ℕ) {r : Found} (e : r ≡ found (rangeOf part count g)) where
+module _ (part : List ℕ) (count g : ℕ) {r : Found} (e : rangeFound r ≡ rangeOf part count g) where
   module _ {k : ℕ} (q : r ≡ At k) where
     which : rangeOf part count g ≡ some k
-    which = found-some (rangeOf part count g) k (sym q ∙ e)
+    which = sym e ∙ ap rangeFound q
 
     inside : rangesFit part count ≡ true → 8 + 6 * k + 1 < length part
     inside f = omega (arith, first-below (inRange part g) count k which, ranges-read part count f .long)
@@ -30,7 +29,7 @@ module _ (part : List ℕ) (count g : ℕ) {r : Found} (e : r ≡ found (rangeOf
     beside = rw which
 
   unnamed : r ≡ Nowhere → 0 ≡ rangeClass part count g
-  unnamed q = rw (found-none (rangeOf part count g) (sym q ∙ e))
+  unnamed q = rw (sym e ∙ ap rangeFound q)
 
 mul-u16-at : tie.Need-mul-u16-at
 mul-u16-at c = let h = inside (c .before .before .before .before .before .args .part .now) (c .before .before .before .before .before .args .count)

@@ -1,6 +1,6 @@
 -- `in_ranges::place_in_ranges` meets its contract: the range that has the glyph is numbered by the glyphs before it. Assumes nothing.
 use borrow.Author.Needs.{needs}
-use mathlib.Core.Path.{_≡_, refl, sym, _∙_}
+use mathlib.Core.Path.{_≡_, refl, sym, ap, _∙_}
 use mathlib.Core.Bool.{true}
 use mathlib.Core.List.{List}
 use mathlib.Core.Option.{some}
@@ -10,11 +10,10 @@ use lib.ListN.{length}
 use Rattle.ot_layouts.specs.Coverage.{startAt, besideAt, rangesFit, coverPlace}
 use Rattle.ot_layouts.proofs.RangesRead.{ranges-fit}
 use Rattle.ot_layouts.proofs.CoverageRead.{Ranged, header-ranges}
-use Rattle.ot_ranges.specs.Ranges.{found, rangeOf}
+use Rattle.ot_ranges.specs.Ranges.{rangeFound, rangeOf}
 use Rattle.ot_ranges.specs.declared.Found.{Found}
 use Rattle.ot_ranges.specs.declared.Found.the-variants as Found
-use Rattle.ot_ranges.proofs.Place.{found-some, found-none}
-use Rattle.ot_coverage_reader.specs.Coverage.{AsRanges, placeOf}
+use Rattle.ot_coverage_reader.specs.Coverage.{AsRanges, placeFound}
 use Rattle.ot_coverage_reader.specs.declared.Place.the-variants.{At, Nowhere}
 use Rattle.ot_coverage_reader.proofs.Places.{has, place-at, place-none}
 use Rattle.ot_coverage_reader.proofs.in_ranges.place_in_ranges.Statement.{statement}
@@ -32,19 +31,19 @@ module _ (part : List ℕ) (count g : ℕ) (a : AsRanges part count) where
   fit : rangesFit part count ≡ true
   fit = ranges-fit part count (ranged .read)
 
-  module _ {f : Found} (e : f ≡ found (rangeOf part count g)) where
+  module _ {f : Found} (e : rangeFound f ≡ rangeOf part count g) where
     module _ {k : ℕ} (q : f ≡ Found.At k) where
       which : rangeOf part count g ≡ some k
-      which = found-some (rangeOf part count g) k (sym q ∙ e)
+      which = sym e ∙ ap rangeFound q
 
       inside : Inside part g k
       inside = let h = has part g count k which in record { long = omega (arith, ranged .read .long); starts = h .starts }
 
-      hit : {b x : ℕ} → b ≡ startAt part k → x ≡ besideAt part k → At (x + (g - b)) ≡ placeOf (coverPlace part g)
+      hit : {b x : ℕ} → b ≡ startAt part k → x ≡ besideAt part k → placeFound (At (x + (g - b))) ≡ coverPlace part g
       hit {b} {x} pb px = rw (pb, px, place-at ranged g k which)
 
-    miss : f ≡ Found.Nowhere → Nowhere ≡ placeOf (coverPlace part g)
-    miss q = rw (place-none ranged g (found-none (rangeOf part count g) (sym q ∙ e)))
+    miss : f ≡ Found.Nowhere → placeFound Nowhere ≡ coverPlace part g
+    miss q = rw (place-none ranged g (sym e ∙ ap rangeFound q))
 
 abbrev here : (c : tie.After-known-told) → Inside (c .before .before .before .before .before .args .part .now) (c .before .before .before .before .before .args .glyph) (c .before .found .given .0 .0)
 here c = inside _ (c .before .before .before .before .before .args .count) _ (c .before .before .before .before .before .pre) (c .before .before .before .range-of .ensures) (c .before .found .given .1)

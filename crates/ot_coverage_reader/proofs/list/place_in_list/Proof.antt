@@ -14,7 +14,7 @@ use Rattle.folds.proofs.Find.{find-at, find-no, find-one, find-other}
 use Rattle.folds.proofs.Halving.{Between, begin, up, down, passed, met}
 use Rattle.ot_layouts.specs.Coverage.{glyphAt, coverPlace}
 use Rattle.ot_layouts.proofs.CoverageRead.{Listed, header-list}
-use Rattle.ot_coverage_reader.specs.Coverage.{AsList, placeOf}
+use Rattle.ot_coverage_reader.specs.Coverage.{AsList, placeFound}
 use Rattle.ot_coverage_reader.specs.declared.Place.the-variants.{At, Nowhere}
 use Rattle.ot_coverage_reader.proofs.list.place_in_list.Statement.{statement}
 use Rattle.ot_coverage_reader.proofs.list.place_in_list.Tie as tie
@@ -33,7 +33,7 @@ module _ {part : List ℕ} {count g lo hi : ℕ} (i : Inv part count g lo hi) wh
   lower : (m : ℕ) → m < hi → lo ≤ m → g < glyphAt part m → Inv part count g lo m
   lower m l n h = record { listed = i .listed; between = down (i .listed .read .rising) (i .between) m l n h }
 
-  hit : (m : ℕ) → m < hi → glyphAt part m ≡ g → At m ≡ placeOf (coverPlace part g)
+  hit : (m : ℕ) → m < hi → glyphAt part m ≡ g → placeFound (At m) ≡ coverPlace part g
   unfolding coverPlace
   hit m l e =
       let z : length (upto (glyphAt part) m) + 0 ≡ m = omega (arith, length-upto (glyphAt part) m) in
@@ -43,7 +43,7 @@ module _ {part : List ℕ} {count g lo hi : ℕ} (i : Inv part count g lo hi) wh
       (find-one (glyphAt part m) g e) in
       rw (i .listed .glyphs, f, z)
 
-  miss : hi ≤ lo → Nowhere ≡ placeOf (coverPlace part g)
+  miss : hi ≤ lo → placeFound Nowhere ≡ coverPlace part g
   unfolding coverPlace
   miss l =
       let f : find (upto (glyphAt part) count) g ≡ none

@@ -10,16 +10,16 @@ use Rattle.pair_points.proofs.format1.compute_format1_split_points.Stat
 use Rattle.pair_points.proofs.format1.compute_format1_split_points.Tie as tie
 
 abbrev Inv-loop : tie.InvT-loop
-Inv-loop objects links counts info walk₀ cuts₀ count sets₀ i₀ walk cuts sets i = Going1 objects links counts info walk₀ cuts₀ i sets walk cuts
+Inv-loop objects links info walk₀ cuts₀ counts count sets₀ i₀ walk cuts sets i = Going1 objects links counts info walk₀ cuts₀ i sets walk cuts
 
 abbrev μ-loop : tie.MeasureT-loop
-μ-loop objects links counts info walk₀ cuts₀ count sets₀ i₀ walk cuts sets i = info .count - i
+μ-loop objects links info walk₀ cuts₀ counts count sets₀ i₀ walk cuts sets i = info .count - i
 
 cast-count : tie.Need-cast-count Inv-loop μ-loop
-cast-count c = omega (arith, sound-fits _ (c .before .before .before .before .before .pre .1 .table .described .is-sound) .linksMost)
+cast-count c = omega (arith, sound-fits _ (c .before .before .before .before .pre .1 .table .described .is-sound) .linksMost)
 
 first-row-requires : tie.Need-first-row-requires Inv-loop μ-loop
-first-row-requires c κs = in-order _ (sound-fits _ (c .before .before .before .before .before .before .pre .1 .table .described .is-sound))
+first-row-requires c κs = in-order _ (sound-fits _ (c .before .before .before .before .before .pre .1 .table .described .is-sound))
 
 loop-holds : tie.Need-loop-holds Inv-loop μ-loop
 loop-holds c =
@@ -32,7 +32,7 @@ loop-holds c =
 
 weigh-set-requires : tie.Need-weigh-set-requires Inv-loop μ-loop
 weigh-set-requires c κs =
-    let s = c .before .before .before .before .before .before .before .before .before .before .before .before in
+    let s = c .before .before .before .before .before .before .before .before .before .before .before in
     (c .before .before .if1 .taken, (s .pre .0, _, c .before .before .before .before .loop .inv .below (s .pre .0) (s .pre .1)))
 
 loop-again : tie.Need-loop-again Inv-loop μ-loop

@@ -10,19 +10,19 @@ use Rattle.pair_points.proofs.format2.compute_format2_split_points.Stat
 use Rattle.pair_points.proofs.format2.compute_format2_split_points.Tie as tie
 
 abbrev Inv-loop : tie.InvT-loop
-Inv-loop objects links counts info glyphs classes walk₀ set₀ cuts₀ count rows₀ i₀ walk set cuts rows i = Going2 objects links counts info glyphs classes walk₀ set₀ cuts₀ i rows walk set cuts
+Inv-loop objects links info glyphs classes walk₀ set₀ cuts₀ counts count rows₀ i₀ walk set cuts rows i = Going2 objects links counts info glyphs classes walk₀ set₀ cuts₀ i rows walk set cuts
 
 abbrev μ-loop : tie.MeasureT-loop
-μ-loop objects links counts info glyphs classes walk₀ set₀ cuts₀ count rows₀ i₀ walk set cuts rows i = info .count - i
+μ-loop objects links info glyphs classes walk₀ set₀ cuts₀ counts count rows₀ i₀ walk set cuts rows i = info .count - i
 
 cast-count : tie.Need-cast-count Inv-loop μ-loop
 cast-count c =
-    let start = c .before .before .before .before .before .before .before .before in
+    let start = c .before .before .before .before .before .before .before in
     omega (arith, sound-fits _ (start .pre .1 .table .described .is-sound) .linksMost)
 
 first-row-requires : tie.Need-first-row-requires Inv-loop μ-loop
 first-row-requires c κs =
-    let start = c .before .before .before .before .before .before .before .before .before in
+    let start = c .before .before .before .before .before .before .before .before in
     in-order _ (sound-fits _ (start .pre .1 .table .described .is-sound))
 
 loop-holds : tie.Need-loop-holds Inv-loop μ-loop
@@ -37,7 +37,7 @@ loop-holds c =
 
 weigh-row-requires : tie.Need-weigh-row-requires Inv-loop μ-loop
 weigh-row-requires c κs =
-    let s = c .before .before .before .before .before .before .before .before .before .before .before .before .before .before .before .before .before in
+    let s = c .before .before .before .before .before .before .before .before .before .before .before .before .before .before .before .before in
     (c .before .before .before .if1 .taken, (s .pre .0, _, c .before .before .before .before .before .loop .inv .below (s .pre .0) (s .pre .1)))
 
 loop-again : tie.Need-loop-again Inv-loop μ-loop

@@ -2,7 +2,7 @@
 -- the estimate with the row's class. Assumes nothing.
 use mathlib.Core.Path.{_∙_}
 use native.Mathlib.Omega.{arith}
-use Rattle.pair_points.proofs.Turns.{cuts-room}
+use Rattle.pair_points.proofs.Turns.{cut-room}
 use Rattle.pair_row_classes.proofs.ClassesHeld.{held-small}
 use Rattle.pair_points.proofs.ClassRows.{linked-most, beside-most, row-ends, row-most, row-added, row-cut}
 use borrow.Author.Needs.{needs}
@@ -18,7 +18,7 @@ measure-requires : tie.Need-measure-requires
 measure-requires c κs =
     let s = c .before .before .before .before .before .before .before .before .before .before .before .before in
     let v = s .pre .1 .2 in
-    (omega (arith, v .table .described .epochs, v .filled .few, s .pre .0), (s .pre .1 .0, _, _, s .args .i, c .before .item-end .ensures ∙ row-ends v (s .pre .0) .0, v .filled .at))
+    (omega (arith, v .table .described .epochs, v .filled .few, s .pre .0), (s .pre .1 .0, _, _, s .args .i, c .before .item-end .ensures ∙ row-ends v (s .pre .0) .0, v .at))
 
 add-requires : tie.Need-add-requires
 add-requires c κs =
@@ -38,7 +38,7 @@ add-weigh c =
     let m = c .before .before .before .before .before .before .before .before .before in
     let s = m .before .before .before .before .before .before .before .before .before .before .before .before .before in
     let v = s .pre .1 .2 in
-    let y = m .measure .ensures (s .pre .1 .0) _ _ (s .args .i) (m .before .before .item-end .ensures ∙ row-ends v (s .pre .0) .0) (v .filled .at) in
+    let y = m .measure .ensures (s .pre .1 .0) _ _ (s .args .i) (m .before .before .item-end .ensures ∙ row-ends v (s .pre .0) .0) (v .at) in
     omega (arith, y .most, row-most v (s .pre .0))
 
 weigh-requires : tie.Need-weigh-requires
@@ -46,9 +46,9 @@ weigh-requires c κs =
     let m = c .before .before .before .before .before .before .before .before .before .before in
     let s = m .before .before .before .before .before .before .before .before .before .before .before .before .before in
     let v = s .pre .1 .2 in
-    let y = m .measure .ensures (s .pre .1 .0) _ _ (s .args .i) (m .before .before .item-end .ensures ∙ row-ends v (s .pre .0) .0) (v .filled .at) in
+    let y = m .measure .ensures (s .pre .1 .0) _ _ (s .args .i) (m .before .before .item-end .ensures ∙ row-ends v (s .pre .0) .0) (v .at) in
     let (h, e) = c .before .before .before .before .before .before .add .ensures _ _ (v .filled .first) (v .table .ordered) (v .held) in
-    (omega (arith, v .filled .small), omega (arith, y .most, row-most v (s .pre .0)), rw (c .before .before .beside .ensures) (beside-most _ _ (held-small (v .table .ordered) h) (omega (arith, v .table .class2, linked-most (v .table .described) 10))), omega arith, cuts-room (v .filled) (s .pre .0))
+    (omega (arith, v .filled .small), omega (arith, y .most, row-most v (s .pre .0)), rw (c .before .before .beside .ensures) (beside-most _ _ (held-small (v .table .ordered) h) (omega (arith, v .table .class2, linked-most (v .table .described) 10))), omega arith, cut-room (v .table .described) (v .filled) (s .pre .0))
 
 restart-requires : tie.Need-restart-requires
 restart-requires c κs =
@@ -68,7 +68,7 @@ returns c =
     let m = a .before .before .before .before in
     let s = m .before .before .before .before .before .before .before .before .before .before .before .before .before in
     λ b d v.
-    let y = m .measure .ensures b _ _ (s .args .i) (m .before .before .item-end .ensures ∙ row-ends v (s .pre .0) .0) (v .filled .at) in
+    let y = m .measure .ensures b _ _ (s .args .i) (m .before .before .item-end .ensures ∙ row-ends v (s .pre .0) .0) (v .at) in
     let (h, e) = a .add .ensures _ _ (v .filled .first) (v .table .ordered) (v .held) in
     row-cut v (s .pre .0) y h (g .before .before .before .beside .ensures) (g .weigh .ensures) (c .before .before .before .before .if1 .taken) (c .before .before .restart .ensures _ _ _ (v .filled .first) (v .table .ordered) h e)
 
@@ -79,7 +79,7 @@ returns-2 c =
     let m = a .before .before .before .before in
     let s = m .before .before .before .before .before .before .before .before .before .before .before .before .before in
     λ b d v.
-    let y = m .measure .ensures b _ _ (s .args .i) (m .before .before .item-end .ensures ∙ row-ends v (s .pre .0) .0) (v .filled .at) in
+    let y = m .measure .ensures b _ _ (s .args .i) (m .before .before .item-end .ensures ∙ row-ends v (s .pre .0) .0) (v .at) in
     let (h, e) = a .add .ensures _ _ (v .filled .first) (v .table .ordered) (v .held) in
     row-added v (s .pre .0) y h (g .before .before .before .beside .ensures) (g .weigh .ensures) (c .if1 .left)
 

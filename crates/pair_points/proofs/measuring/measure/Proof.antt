@@ -6,17 +6,17 @@ use Rattle.pair_points.proofs.measuring.measure.Statement.{statement}
 use Rattle.pair_points.proofs.measuring.measure.Tie as tie
 
 cast-count : tie.Need-cast-count
-cast-count c = omega (arith, at-fits (c .before .before .before .before .pre .1 .5) .linksMost)
+cast-count c = omega (arith, at-fits (c .before .before .before .pre .1 .5) .linksMost)
 
 next-row-requires : tie.Need-next-row-requires
 next-row-requires c κs =
-    let s = c .before .before .before .before in
+    let s = c .before .before .before in
     let x = s .pre .1 .5 in
     (at-in-order x, x .first .within, rows-before x (s .pre .1 .4))
 
 subgraph-size-requires : tie.Need-subgraph-size-requires
 subgraph-size-requires c κs =
-    let s = c .before .before .before .before .before .before in
+    let s = c .before .before .before .before .before in
     let x = s .pre .1 .5 in
     (c .before .next-row .ensures .within, (_, record { bytes = s .pre .1 .0; is-sound = x .is-sound; marks = x .marks; early = s .pre .0 }))
 

@@ -1,6 +1,7 @@
 -- `find_spot::spot_by_set` meets its contract: by the count of sets, and by the link at the slot. Assumes nothing.
+use Rattle.store_reader.proofs.Rows.{rows-in-order}
 use Rattle.store_rules.specs.Store.{lent}
-use Rattle.pair_reading.proofs.Finding.{links-ordered, no-set, no-link, set-inside, in-linked-set}
+use Rattle.pair_reading.proofs.Finding.{no-set, no-link, set-inside, in-linked-set}
 use borrow.Author.Needs.{needs}
 use Rattle.pair_reading.proofs.find_spot.spot_by_set.Statement.{statement}
 use Rattle.pair_reading.proofs.find_spot.spot_by_set.Tie as tie
@@ -9,25 +10,25 @@ returns : tie.Need-returns
 returns c =
     let start = c .before .before .before .before .before in
     let a = start .args in
-    no-set (lent (a .«data» .now) (a .objects .now) (a .links .now) (a .counts .now)) (a .table) (a .layout) (a .second) (a .k) (c .if1 .taken)
+    no-set (lent (a .«data» .now) (a .objects .now) (a .links .now) (a .counts)) (a .table) (a .layout) (a .second) (a .k) (c .if1 .taken)
 
 child-at-requires : tie.Need-child-at-requires
 child-at-requires c κs =
     let start = c .before .before .before .before .before in
     let a = start .args in
-    links-ordered (lent (a .«data» .now) (a .objects .now) (a .links .now) (a .counts .now)) (start .pre)
+    rows-in-order (lent (a .«data» .now) (a .objects .now) (a .links .now) (a .counts)) (start .pre)
 
 returns-2 : tie.Need-returns-2
 returns-2 c =
     let start = c .before .before .before .before .before .before .before .before in
     let a = start .args in
-    no-link (lent (a .«data» .now) (a .objects .now) (a .links .now) (a .counts .now)) (a .table) (a .layout) (a .second) (a .k) (c .before .before .before .if1 .left) (c .before .before .child-at .ensures (a .«data» .now) (a .objects .now)) (c .enum-told .given .1)
+    no-link (lent (a .«data» .now) (a .objects .now) (a .links .now) (a .counts)) (a .table) (a .layout) (a .second) (a .k) (c .before .before .before .if1 .left) (c .before .before .child-at .ensures (a .«data» .now) (a .objects .now)) (c .enum-told .given .1)
 
 spot-in-set-requires : tie.Need-spot-in-set-requires
 spot-in-set-requires c κs =
     let start = c .before .before .before .before .before .before .before .before .before .before in
     let a = start .args in (
-      set-inside (lent (a .«data» .now) (a .objects .now) (a .links .now) (a .counts .now)) (a .table) (a .layout) (a .second) (a .k)
+      set-inside (lent (a .«data» .now) (a .objects .now) (a .links .now) (a .counts)) (a .table) (a .layout) (a .second) (a .k)
           (c .before .before .before .before .before .if1 .left)
           (c .before .before .before .before .child-at .ensures (a .«data» .now) (a .objects .now)) (c .before .before .child .given .1) (start .pre),
       c .record-size .ensures .1,
@@ -37,10 +38,10 @@ returns-3 : tie.Need-returns-3
 returns-3 c =
     let start = c .before .before .before .before .before .before .before .before .before .before .before in
     let a = start .args in
-    in-linked-set (lent (a .«data» .now) (a .objects .now) (a .links .now) (a .counts .now)) (a .table) (a .layout) (a .second) (a .k)
+    in-linked-set (lent (a .«data» .now) (a .objects .now) (a .links .now) (a .counts)) (a .table) (a .layout) (a .second) (a .k)
     (c .before .before .before .before .before .before .if1 .left)
     (c .before .before .before .before .before .child-at .ensures (a .«data» .now) (a .objects .now)) (c .before .before .before .child .given .1)
-    (c .before .record-size .ensures .0) (c .spot-in-set .ensures (a .links .now) (a .counts .now))
+    (c .before .record-size .ensures .0) (c .spot-in-set .ensures (a .links .now) (a .counts))
 
 pub spot-by-set-spec : {M : Type 1} → statement M
 spot-by-set-spec =

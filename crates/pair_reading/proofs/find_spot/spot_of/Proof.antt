@@ -10,34 +10,34 @@ place-in-requires : tie.Need-place-in-requires
 place-in-requires c κs =
     let start = c .before .before .before .before in
     let a = start .args in
-    coverage-part (opens (lent (a .«data» .now) (a .objects .now) (a .links .now) (a .counts .now)) (a .table) (a .opened) (start .pre))
+    coverage-part (opens (lent (a .«data» .now) (a .objects .now) (a .links .now) (a .counts)) (a .table) (a .opened) (start .pre))
 
 returns : tie.Need-returns
 returns c =
     let start = c .before .before .before .before .before .before .before in
     let a = start .args in
-    not-covered (opens (lent (a .«data» .now) (a .objects .now) (a .links .now) (a .counts .now)) (a .table) (a .opened) (start .pre)) (a .first) (a .second) (c .before .before .place-in .ensures (a .links .now) (a .counts .now)) (c .enum-told .given .1)
+    not-covered (opens (lent (a .«data» .now) (a .objects .now) (a .links .now) (a .counts)) (a .table) (a .opened) (start .pre)) (a .first) (a .second) (c .before .before .place-in .ensures (a .links .now) (a .counts)) (c .enum-told .given .1)
 
 spot-by-set-requires : tie.Need-spot-by-set-requires
 spot-by-set-requires c κs =
     let start = c .before .before .before .before .before .before .before .before .before .before .before in
     let a = start .args in
-    opens (lent (a .«data» .now) (a .objects .now) (a .links .now) (a .counts .now)) (a .table) (a .opened) (start .pre) .reads .sounds
+    opens (lent (a .«data» .now) (a .objects .now) (a .links .now) (a .counts)) (a .table) (a .opened) (start .pre) .reads .sounds
 
 returns-2 : tie.Need-returns-2
 returns-2 c =
     let after-place-in = c .before .before .before .before .before .before .before in
     let start = after-place-in .before .before .before .before .before in
     let a = start .args in
-    by-its-set (opens (lent (a .«data» .now) (a .objects .now) (a .links .now) (a .counts .now)) (a .table) (a .opened) (start .pre)) (a .first)
-    (a .second) (after-place-in .place-in .ensures (a .links .now) (a .counts .now)) (c .before .before .before .before .before .place .given .1)
+    by-its-set (opens (lent (a .«data» .now) (a .objects .now) (a .links .now) (a .counts)) (a .table) (a .opened) (start .pre)) (a .first)
+    (a .second) (after-place-in .place-in .ensures (a .links .now) (a .counts)) (c .before .before .before .before .before .place .given .1)
     (c .before .if1 .taken) (c .spot-by-set .ensures)
 
 spot-by-classes-requires : tie.Need-spot-by-classes-requires
 spot-by-classes-requires c κs =
     let start = c .before .before .before .before .before .before .before .before .before .before .before in
     let a = start .args in
-    let o = opens (lent (a .«data» .now) (a .objects .now) (a .links .now) (a .counts .now)) (a .table) (a .opened) (start .pre) in
+    let o = opens (lent (a .«data» .now) (a .objects .now) (a .links .now) (a .counts)) (a .table) (a .opened) (start .pre) in
     (unit-small o (c .if1 .left), (class1-part o (c .if1 .left), class2-part o (c .if1 .left)))
 
 returns-3 : tie.Need-returns-3
@@ -45,9 +45,9 @@ returns-3 c =
     let after-place-in = c .before .before .before .before .before .before .before in
     let start = after-place-in .before .before .before .before .before in
     let a = start .args in
-    by-its-classes (opens (lent (a .«data» .now) (a .objects .now) (a .links .now) (a .counts .now)) (a .table) (a .opened) (start .pre)) (a .first)
-    (a .second) (after-place-in .place-in .ensures (a .links .now) (a .counts .now)) (c .before .before .before .before .before .place .given .1)
-    (c .before .if1 .left) (c .spot-by-classes .ensures (a .links .now) (a .counts .now))
+    by-its-classes (opens (lent (a .«data» .now) (a .objects .now) (a .links .now) (a .counts)) (a .table) (a .opened) (start .pre)) (a .first)
+    (a .second) (after-place-in .place-in .ensures (a .links .now) (a .counts)) (c .before .before .before .before .before .place .given .1)
+    (c .before .if1 .left) (c .spot-by-classes .ensures (a .links .now) (a .counts))
 
 pub spot-of-spec : {M : Type 1} → statement M
 spot-of-spec =

@@ -60,7 +60,7 @@ u16-at-requires c κs =
     let a = start .args in
     omega (
       arith,
-      ap (λ (b : List ℕ). length b) (c .bytes-of .ensures (a .links .now) (a .counts .now)),
+      ap (λ (b : List ℕ). length b) (c .bytes-of .ensures (a .links .now) (a .counts)),
       field-within (start .pre .0) (a .j)
           (start .pre .1) (c .before .before .before .before .before .has-field .ensures) (c .before .before .before .before .if1 .left),
       c .before .before .before .position .ensures,
@@ -75,7 +75,7 @@ returns-3 c =
     ∙ plain (start .pre .0) (a .j) (start .pre .1) (after-has-field .has-field .ensures)
     (c .before .before .before .before .before .before .if1 .left) (c .before .before .before .before .before .position .ensures)
     (c .before .before .before .before .field-at .ensures) (c .before .before .before .if2 .left)
-    (c .before .before .bytes-of .ensures (a .links .now) (a .counts .now)) (c .before .u16-at .ensures) (c .signed .ensures)
+    (c .before .before .bytes-of .ensures (a .links .now) (a .counts)) (c .before .u16-at .ensures) (c .signed .ensures)
 
 pub number-at-spec : {M : Type 1} → statement M
 number-at-spec =

@@ -22,13 +22,13 @@ numbers-at-requires-2 : tie.Need-numbers-at-requires-2
 numbers-at-requires-2 c κs =
     let start = c .before .before .before .before .before in
     let a = start .args in
-    subst (λ (n : ℕ). ValueRecord (lent (a .«data» .now) (a .objects .now) (a .links .now) (a .counts .now)) (a .object) (a .at + 2 * n) (a .layout .value2)) (sym (c .field-count .ensures)) (start .pre .1)
+    subst (λ (n : ℕ). ValueRecord (lent (a .«data» .now) (a .objects .now) (a .links .now) (a .counts)) (a .object) (a .at + 2 * n) (a .layout .value2)) (sym (c .field-count .ensures)) (start .pre .1)
 
 returns : tie.Need-returns
 returns c =
     let start = c .before .before .before .before .before .before in
     let a = start .args in
-    let second = c .numbers-at2 .ensures ∙ ap (λ (n : ℕ). upto (numberOf (lent (a .«data» .now) (a .objects .now) (a .links .now) (a .counts .now)) (a .object) (a .at + 2 * n) (a .layout .value2)) 8) (c .before .field-count .ensures) in
+    let second = c .numbers-at2 .ensures ∙ ap (λ (n : ℕ). upto (numberOf (lent (a .«data» .now) (a .objects .now) (a .links .now) (a .counts)) (a .object) (a .at + 2 * n) (a .layout .value2)) 8) (c .before .field-count .ensures) in
     λ i. record { found = true; first = c .before .before .numbers-at .ensures i; second = second i }
 
 pub pair-at-spec : {M : Type 1} → statement M

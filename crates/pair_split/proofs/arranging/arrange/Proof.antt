@@ -16,8 +16,8 @@ glyphs-into-requires c κs =
     let (l, n, t, k) = start .pre in
     glyphs-ready k (c .before .bytes-of .ensures l n)
 
-number-places-requires : tie.Need-number-places-requires
-number-places-requires c κs =
+number-u16-requires : tie.Need-number-u16-requires
+number-u16-requires c κs =
     let glyphs = c .before .before .before in
     let coverage = glyphs .before .before in
     let (l, n, t, k) = coverage .before .before .before .before .before .before .before .before .before .before .before .pre in
@@ -36,7 +36,7 @@ returns c l n t k =
     let coverage = glyphs .before .before in
     let start = coverage .before .before .before .before .before .before .before .before .before .before in
     by-place k (coverage .bytes-of .ensures l n) (glyphs .glyphs-into .ensures) (coverage .before .before .before .if1 .taken)
-    (λ i. start .shared-slice-known .given i .fits) (places .number-places .ensures)
+    (λ i. start .shared-slice-known .given i .fits) (places .number-u16 .ensures)
 
 order-parts-requires : tie.Need-order-parts-requires
 order-parts-requires c κs =
@@ -64,7 +64,7 @@ arrange-spec =
     (λ c. search needs)
     bytes-of-requires
     glyphs-into-requires
-    number-places-requires
+    number-u16-requires
     same-length
     same-length-2
     returns

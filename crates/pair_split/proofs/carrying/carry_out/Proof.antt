@@ -1,7 +1,7 @@
 -- `carrying::carry_out` meets its contract: bytes, object rows, link rows and list are those after the split, and then the counts. Assumes nothing.
 use borrow.Author.Needs.{needs}
 use native.Mathlib.Omega.{arith}
-use Rattle.pair_split.proofs.StoreAfter.{bytes-asked, links-asked, links-then, list-asked, bytes-fit, objects-fit, links-fit, carried}
+use Rattle.pair_split.proofs.StoreAfter.{own-few, bytes-asked, links-asked, links-then, list-asked, bytes-fit, objects-fit, links-fit, carried}
 use Rattle.pair_split.proofs.carrying.carry_out.Statement.{statement}
 use Rattle.pair_split.proofs.carrying.carry_out.Tie as tie
 
@@ -17,11 +17,17 @@ part-links-requires c κs =
     let start = wrote .before .before .before .before .before .before .before .before .before .before .before .before .before in
     links-asked (start .args .counts .now) (start .pre)
 
+add-number-tables : tie.Need-add-number-tables
+add-number-tables c =
+    let wrote = c .before .before .before .before .before .before .before .before .before .before .before .before in
+    let start = wrote .before .before .before .before .before .before .before .before .before .before .before .before .before in
+    omega (arith, own-few (start .pre))
+
 number-tables-requires : tie.Need-number-tables-requires
 number-tables-requires c κs =
     let wrote = c .before .before .before .before .before .before .before .before .before .before .before .before in
     let start = wrote .before .before .before .before .before .before .before .before .before .before .before .before .before in
-    list-asked (start .pre) _ (c .objects-per-table .ensures)
+    list-asked (start .pre)
 
 cast-byte-count : tie.Need-cast-byte-count
 cast-byte-count c =
@@ -58,7 +64,7 @@ returns c =
     let start = known .before in
     carried (start .pre) (wrote .write-bytes .ensures _ (bytes-asked (start .pre) (λ i. known .slice-known .given i .fits)))
     (links-then (start .args .counts .now) (start .pre) (parted .part-links .ensures))
-    (numbered .before .objects-per-table .ensures) (numbered .number-tables .ensures)
+    (numbered .number-tables .ensures)
 
 pub carry-out-spec : {M : Type 1} → statement M
 carry-out-spec =
@@ -67,7 +73,7 @@ carry-out-spec =
     write-bytes-requires
     part-links-requires
     (λ c. search needs)
-    (λ c κs. search needs)
+    add-number-tables
     number-tables-requires
     cast-byte-count
     (λ c. search needs)

@@ -12,13 +12,13 @@ cast-head c = omega (arith, c .slice-known3 .given (2 * c .before .before .befor
 
 write-objects-requires : tie.Need-write-objects-requires
 write-objects-requires c κs =
-    let start = c .before .before .before .before .before .before .before .before .before .before in
+    let start = c .before .before .before .before .before .before .before .before in
     write-asked (start .pre .1)
 
 keep-items-requires : tie.Need-keep-items-requires
 keep-items-requires c κs =
     let after-write-objects = c .before .before .before .before .before .before .before in
-    let start = after-write-objects .before .before .before .before .before .before .before .before .before .before .before in
+    let start = after-write-objects .before .before .before .before .before .before .before .before .before in
     keep-ready (start .pre .1) (after-write-objects .write-objects .ensures)
 
 same-length : tie.Need-same-length

@@ -1,10 +1,11 @@
 //! Small fonts by hand, whole and damaged.
 
 mod made;
+mod marks;
 
 use super::*;
 use made::{collection, extension, font, gpos, lookup, pair_rows, pair_sets, words};
-use splitter::{read_pair, PairValues, Store, Values};
+use splitter::{font::lengths, read_pair, PairValues, Store, Values};
 
 /// All that the command does with a font but to show it.
 fn look_into(file: &[u8]) -> Result<Vec<Seen>, FontError> {
@@ -12,10 +13,10 @@ fn look_into(file: &[u8]) -> Result<Vec<Seen>, FontError> {
 }
 
 fn look_into_by(file: &[u8], scratch: &mut Scratch) -> Result<Vec<Seen>, FontError> {
-    let Some(gpos) = directory::find_gpos(file)? else {
+    let Some(gpos) = find_gpos(file)? else {
         return Ok(Vec::new());
     };
-    let lookups = Lookups::read(gpos)?;
+    let lookups = Lookups::read(gpos, Kind::Pairs)?;
     Ok(see_all(gpos, &lookups.subtables, scratch))
 }
 
@@ -23,8 +24,8 @@ fn look_into_by(file: &[u8], scratch: &mut Scratch) -> Result<Vec<Seen>, FontErr
 fn load(subtable: Vec<u8>) -> Result<Store, FontError> {
     let gpos = gpos(&[lookup(2, &[subtable])]);
     let gpos = Bytes::new(&gpos);
-    let lookups = Lookups::read(gpos)?;
-    subtable::load(gpos, lookups.subtables[0].start)
+    let lookups = Lookups::read(gpos, Kind::Pairs)?;
+    load_pairs(gpos, lookups.subtables[0].start)
 }
 
 /// Two lookups for pairs among others: one as it is, and one of extensions.
@@ -105,9 +106,9 @@ fn lookups_for_pairs() {
         })
         .collect();
     assert_eq!(looks, [(1, 4, 4, 72), (2, 2, 3, 68), (2, 2, 3, 58)]);
-    let gpos = directory::find_gpos(&file).unwrap().unwrap();
-    let lookups = Lookups::read(gpos).unwrap();
-    assert_eq!((lookups.count, lookups.for_pairs), (3, 2));
+    let gpos = find_gpos(&file).unwrap().unwrap();
+    let lookups = Lookups::read(gpos, Kind::Pairs).unwrap();
+    assert_eq!((lookups.count, lookups.of_kind), (3, 2));
 }
 
 #[test]
@@ -149,7 +150,7 @@ fn cut_places_on_disk() {
     }
     let store = load(table).unwrap();
     assert_eq!(store.view().counts(), [16 + 10 + 3 * 29_998, 5, 4]);
-    let cuts = cut_plan(&store, subtable::TABLE, &mut Scratch::new());
+    let cuts = cut_plan(&store, TABLE, &mut Scratch::new());
     assert_eq!(cuts, Ok(vec![2]));
 }
 
@@ -189,7 +190,7 @@ fn subtables_without_end() {
     let lookup = 10 + 60_000;
     gpos.splice(lookup..lookup + 6, words(&[2, 0, 60_000]));
     gpos.resize(lookup + 6 + 2 * 60_000, 0);
-    let read = Lookups::read(Bytes::new(&gpos));
+    let read = Lookups::read(Bytes::new(&gpos), Kind::Pairs);
     assert_eq!(read, Err(FontError::ManySubtables));
 }
 

@@ -1,0 +1,2 @@
+pub mod ClassParts
+pub mod Scanning

@@ -1,0 +1,6 @@
+pub mod Answering
+pub mod Parts
+pub mod Arrays
+pub mod Deciding
+pub mod AtSlots
+pub mod Calling

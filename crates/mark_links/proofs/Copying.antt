@@ -1,0 +1,169 @@
+-- Links written one behind another: the rows in use stay as they came. Assumes nothing.
+use Prim.Native.Nat.{ℕ, _+_, _*_, _≤_, _<_}
+use mathlib.Core.Path.{_≡_, refl, sym, subst, ap, ap₂, _∙_}
+use mathlib.Core.List.{List, [], _++_}
+use native.Mathlib.Omega.{arith}
+use lib.ListN.{length, getD, length-append}
+use Rattle.folds.specs.Folds.{flat}
+use Rattle.folds.specs.Lists.{put}
+use Rattle.folds.proofs.Folds.{flat-none, flat-more, flat-split, upto-same}
+use Rattle.folds.proofs.Put.{put-nil, put-put, put-below, length-put}
+use Rattle.store_rules.specs.Store.{Link, lent, perLink, linkAt, linksOf}
+use Rattle.store_rules.specs.Appended.{rowNumbers}
+use Rattle.store_rules.proofs.LinkRows.{rows-numbers}
+use Rattle.store_reader.specs.declared.LinkRows.{LinkRows}
+use Rattle.store_reader.specs.Rows.{rowKey, keyOf, FirstRow}
+use Rattle.store_link_rows.proofs.Links.{numbers-append}
+use Rattle.mark_links.specs.Copies.{inUse, Source, Room, Copied}
+
+-- ---- rows that agree below the count are the same links
+
+module _ (ls out counts : List ℕ) (same : (i : ℕ) → i < perLink * getD counts 2 0 → getD out i 0 ≡ getD ls i 0) where
+  abbrev count : ℕ
+  count = getD counts 2 0
+
+  in-use-same : inUse out counts ≡ inUse ls counts
+  unfolding linksOf
+  in-use-same =
+      upto-same (linkAt (lent [] [] out counts)) (linkAt (lent [] [] ls counts)) count
+      (λ k l i. record {
+        parent = same (perLink * k + 0) (omega arith) i;
+        position = same (perLink * k + 1) (omega arith) i;
+        width = same (perLink * k + 2) (omega arith) i;
+        child = same (perLink * k + 3) (omega arith) i;
+      })
+
+  key-same : (k : ℕ) → k < count → rowKey out k ≡ rowKey ls k
+  key-same k l = ap₂ (λ (p q : ℕ). keyOf p q) (same (perLink * k + 0) (omega arith)) (same (perLink * k + 1) (omega arith))
+
+  first-same : (key r : ℕ) → FirstRow ls count key r → FirstRow out count key r
+  first-same key r f =
+      record {
+        within = f .within;
+        below = λ k l. omega (arith, f .below k l, f .within, key-same k (omega (arith, f .within)));
+        above = λ k l h. omega (arith, f .above k l h, key-same k h);
+      }
+
+  source-same : length out ≡ length ls → (p : ℕ) (rows : LinkRows) → Source ls counts p rows → Source out counts p rows
+  source-same n p rows s =
+      record {
+        order = record {
+          room = omega (arith, s .order .room);
+          rising = λ j k l h. omega (arith, s .order .rising j k l h, key-same j (omega arith), key-same k h);
+        };
+        rows-are = record {
+          first = first-same (keyOf p 0) (rows .first) (s .rows-are .first);
+          after = first-same (keyOf (p + 1) 0) (rows .after) (s .rows-are .after);
+          rise = s .rows-are .rise;
+        };
+      }
+
+-- ---- one write
+
+module _ (ls counts : List ℕ) (at : ℕ) (new : List Link) (room : Room ls counts at new) (out : List ℕ) (r : ℕ) (done : Copied ls at new out r) where
+  pub copied-long : length out ≡ length ls
+  copied-long = ap length (done .rows-are) ∙ length-put ls (perLink * at) (rowNumbers new) (omega (arith, room .fits, rows-numbers new))
+
+  stays : (i : ℕ) → i < perLink * getD counts 2 0 → getD out i 0 ≡ getD ls i 0
+  stays i l =
+      ap (λ (x : List ℕ). getD x i 0) (done .rows-are)
+      ∙ put-below ls (perLink * at) (rowNumbers new) (omega (arith, room .fits)) i (omega (arith, room .behind))
+
+  pub still-in-use : inUse out counts ≡ inUse ls counts
+  still-in-use = in-use-same ls out counts stays
+
+  pub still-source : (p : ℕ) (rows : LinkRows) → Source ls counts p rows → Source out counts p rows
+  still-source p rows s = source-same ls out counts stays copied-long p rows s
+
+-- ---- one behind another
+
+module _ {ls counts : List ℕ} {at : ℕ} (xs ys : List Link) (room : Room ls counts at (xs ++ ys)) where
+  pub room-first : Room ls counts at xs
+  room-first = record { behind = room .behind; fits = omega (arith, room .fits, length-append xs ys) }
+
+  module _ {out : List ℕ} {r : ℕ} (done : Copied ls at xs out r) where
+    pub room-rest : Room out counts r ys
+    room-rest =
+        record {
+          behind = omega (arith, room .behind, done .next);
+          fits = omega (arith, room .fits, done .next, length-append xs ys, copied-long ls counts at xs room-first out r done);
+        }
+
+    pub copied-more : {out′ : List ℕ} {r′ : ℕ} → Copied out r ys out′ r′ → Copied ls at (xs ++ ys) out′ r′
+    copied-more {out′} {r′} more =
+        record {
+          rows-are =
+              more .rows-are
+              ∙ ap₂ (λ (o : List ℕ) (n : ℕ). put o (perLink * n) (rowNumbers ys)) (done .rows-are) (done .next)
+              ∙ put-put ls (perLink * at) (rowNumbers xs) (perLink * (at + length xs)) (rowNumbers ys) (omega (arith, room .fits))
+              (omega (arith, rows-numbers xs))
+              ∙ ap (put ls (perLink * at)) (sym (numbers-append xs ys));
+          next = omega (arith, more .next, done .next, length-append xs ys);
+        }
+
+pub copied-none : (ls : List ℕ) (at : ℕ) → Copied ls at [] ls at
+unfolding rowNumbers
+copied-none ls at = record { rows-are = put-nil ls (perLink * at); next = omega arith }
+
+-- the same, where what is written second is copied from the links in use as they are then
+module _ {ls counts : List ℕ} {at : ℕ} (xs : List Link) (ys : List Link → List Link) (room : Room ls counts at (xs ++ ys (inUse ls counts)))
+    {out : List ℕ} {r : ℕ} (done : Copied ls at xs out r) where
+  in-use : inUse out counts ≡ inUse ls counts
+  in-use = still-in-use ls counts at xs (room-first xs (ys (inUse ls counts)) room) out r done
+
+  pub room-then : Room out counts r (ys (inUse out counts))
+  room-then = subst (λ (old : List Link). Room out counts r (ys old)) (sym in-use) (room-rest xs (ys (inUse ls counts)) room done)
+
+  pub copied-then : {out′ : List ℕ} {r′ : ℕ} → Copied out r (ys (inUse out counts)) out′ r′ → Copied ls at (xs ++ ys (inUse ls counts)) out′ r′
+  copied-then {out′} {r′} more = copied-more xs (ys (inUse ls counts)) room done (subst (λ (old : List Link). Copied out r (ys old) out′ r′) in-use more)
+
+  pub source-then : (p : ℕ) (rows : LinkRows) → Source ls counts p rows → Source out counts p rows
+  source-then p rows s = still-source ls counts at xs (room-first xs (ys (inUse ls counts)) room) out r done p rows s
+
+-- ---- turn by turn: of n turns, which copy from the links in use, those before k are done
+
+pub record Turns (ls counts : List ℕ) (at : ℕ) (new : List Link → ℕ → List Link) (n : ℕ) (out : List ℕ) (next k : ℕ) : Type 0 where
+  pub some : k ≤ n
+  pub room : Room ls counts at (flat (new (inUse ls counts)) n)
+  pub copied : Copied ls at (flat (new (inUse ls counts)) k) out next
+  pub same : length out ≡ length ls
+
+module _ (ls counts : List ℕ) (at : ℕ) (new : List Link → ℕ → List Link) (n : ℕ) where
+  -- turn k
+  abbrev turn : ℕ → List Link
+  turn k = new (inUse ls counts) k
+
+  pub turns-start : Room ls counts at (flat turn n) → Turns ls counts at new n ls at 0
+  turns-start room =
+      record {
+        some = omega arith;
+        room = room;
+        copied = subst (λ (x : List Link). Copied ls at x ls at) (sym (flat-none turn)) (copied-none ls at);
+        same = refl;
+      }
+
+  module _ {out : List ℕ} {next k : ℕ} (t : Turns ls counts at new n out next k) where
+    pub turns-stop : n ≤ k → Copied ls at (flat turn n) out next
+    turns-stop l = let e : k ≡ n = omega (arith, t .some) in subst (λ (m : ℕ). Copied ls at (flat turn m) out next) e (t .copied)
+
+    module _ (l : k < n) where
+      more-room : Room ls counts at (flat turn k ++ turn k)
+      more-room =
+          let (rest, e) = flat-split turn k n l in
+          room-first (flat turn k ++ turn k) rest (subst (λ (x : List Link). Room ls counts at x) e (t .room))
+
+      pub turns-source : (p : ℕ) (rows : LinkRows) → Source ls counts p rows → Source out counts p rows
+      turns-source p rows s = source-then (flat turn k) (λ old. new old k) more-room (t .copied) p rows s
+
+      pub turns-room : Room out counts next (new (inUse out counts) k)
+      turns-room = room-then (flat turn k) (λ old. new old k) more-room (t .copied)
+
+      pub turns-turn : {out′ : List ℕ} {next′ : ℕ} → Copied out next (new (inUse out counts) k) out′ next′ → Turns ls counts at new n out′ next′ (k + 1)
+      turns-turn {out′} {next′} more =
+          let both = copied-then (flat turn k) (λ old. new old k) more-room (t .copied) more in
+          record {
+            some = omega arith;
+            room = t .room;
+            copied = subst (λ (x : List Link). Copied ls at x out′ next′) (sym (flat-more turn k)) both;
+            same = copied-long ls counts at (flat turn k ++ turn k) more-room out′ next′ both;
+          }

@@ -1,0 +1,74 @@
+-- `mark_links::copy_marks` meets its contract: the slots of the marks before k are copied. Assumes nothing.
+use Prim.Native.Nat.{_-_}
+use native.Mathlib.Omega.{arith}
+use lib.ListN.{length}
+use borrow.Author.Needs.{needs}
+use Rattle.store_rules.specs.SlotLinks.{slotLinks}
+use Rattle.mark_links.specs.Copies.{markCopies}
+use Rattle.mark_links.proofs.Copying.{Turns, turns-start, turns-source, turns-room, turns-turn, turns-stop}
+use Rattle.mark_links.proofs.Slots.{markTurn}
+use Rattle.mark_links.proofs.copy_marks.Statement.{statement}
+use Rattle.mark_links.proofs.copy_marks.Tie as tie
+
+abbrev Inv-loop : tie.InvT-loop
+Inv-loop links₀ counts array rows places at parent next₀ k₀ links next k = Turns links₀ counts at (markTurn array places parent) (length places) links next k
+
+abbrev μ-loop : tie.MeasureT-loop
+μ-loop links₀ counts array rows places at parent next₀ k₀ links next k = length places - k
+
+loop-holds : tie.Need-loop-holds Inv-loop μ-loop
+unfolding markCopies slotLinks
+loop-holds c = turns-start _ _ _ _ _ (c .before .before .pre .1)
+
+cast-place : tie.Need-cast-place Inv-loop μ-loop
+cast-place c = omega (arith, c .shared-slice-known2 .given (c .before .before .loop .k))
+
+mul-copy-slot : tie.Need-mul-copy-slot Inv-loop μ-loop
+mul-copy-slot c = omega (arith, c .before .shared-slice-known2 .given (c .before .before .before .loop .k))
+
+add-copy-slot : tie.Need-add-copy-slot Inv-loop μ-loop
+add-copy-slot c = omega (arith, c .before .shared-slice-known2 .given (c .before .before .before .loop .k))
+
+cast-copy-slot : tie.Need-cast-copy-slot Inv-loop μ-loop
+cast-copy-slot c = omega (arith, c .before .shared-slice-known2 .given (c .before .before .before .loop .k))
+
+copy-slot-requires : tie.Need-copy-slot-requires Inv-loop μ-loop
+copy-slot-requires c κs =
+    let at-loop = c .before .before .before in
+    let start = at-loop .before .before .before in
+    let source = turns-source _ _ _ _ _ (at-loop .loop .inv) (c .before .before .loop-test .taken) _ _ (start .pre .0 .0) in (
+      (source, omega (arith, c .before .shared-slice-known2 .given (at-loop .loop .k))),
+      turns-room _ _ _ _ _ (at-loop .loop .inv) (c .before .before .loop-test .taken),
+    )
+
+loop-again : tie.Need-loop-again Inv-loop μ-loop
+loop-again c =
+    let in-loop = c .before .before .before .before .before in
+    turns-turn _ _ _ _ _ (in-loop .before .loop .inv) (in-loop .loop-test .taken) (c .before .before .copy-slot .ensures)
+
+returns : tie.Need-returns Inv-loop μ-loop
+unfolding markCopies slotLinks
+returns c = turns-stop _ _ _ _ _ (c .before .loop .inv) (c .loop-test .left)
+
+pub copy-marks-spec : {M : Type 1} → statement M
+copy-marks-spec =
+    tie.close
+    (tie.spec
+    Inv-loop
+    μ-loop
+    loop-holds
+    (λ c. search needs)
+    (λ c. search needs)
+    cast-place
+    mul-copy-slot
+    add-copy-slot
+    cast-copy-slot
+    (λ c. search needs)
+    (λ c. search needs)
+    (λ c. search needs)
+    copy-slot-requires
+    (λ c. search needs)
+    (λ c. search needs)
+    loop-again
+    (λ c. search needs)
+    returns)

@@ -1,0 +1,7 @@
+mod Marks
+mod Bytes
+mod Arrays
+mod Planning
+mod Lengths
+mod Looping
+pub mod Stored

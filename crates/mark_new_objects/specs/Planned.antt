@@ -1,0 +1,25 @@
+-- What is known when a table is to be split: its cuts, and its marks' glyphs and classes, those of one table together. Assumes nothing.
+use Prim.Native.Nat.{ℕ, _≤_, _<_}
+use mathlib.Core.List.{List, map}
+use lib.ListN.{length, getD}
+use Rattle.ot_layouts.specs.Coverage.{Entry}
+use Rattle.ot_ranges.specs.Ascending.{Ascending}
+use Rattle.cut_parts.specs.Tables.{paired, entriesAt, Parted}
+
+-- the classes of the marks of a table of the classes lo up to hi
+pub record Classes (ks : List ℕ) (lo hi : ℕ) : Type 0 where
+  pub few : length ks < 65536
+  pub above : (i : ℕ) → i < length ks → lo ≤ getD ks i 0
+  pub rises : lo ≤ hi
+
+-- its marks, in ascending order
+pub record Marked (gs ks : List ℕ) (lo hi : ℕ) : Type 0 where
+  pub ascending : Ascending gs
+  pub classes : Classes ks lo hi
+
+-- a table of n classes is to be split at cs: its marks are parted by table, and those of each are in ascending order
+pub record Planned (gs ks cs : List ℕ) (n : ℕ) : Type 0 where
+  pub parts : Parted gs ks cs n
+  pub few : length gs < 65536
+  pub count : n < 65536
+  pub ascending : (k : ℕ) → k ≤ length cs → Ascending (map (λ (e : Entry). e .glyph) (entriesAt n cs (paired gs ks) k))

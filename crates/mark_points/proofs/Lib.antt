@@ -1,0 +1,4 @@
+pub mod Walking
+pub mod ClassLinks
+pub mod MarkCounts
+pub mod Turns

@@ -1,0 +1,154 @@
+// What the anchors of a class reach and nothing before them did: the counterpart of `find_subgraph_size` as the cut rule calls it. Every link
+// of an array stands at a slot, so that an anchor's link is the row at its slot's position, if there is one.
+use crate::table_info::TableInfo;
+use store_reader::LinkRows;
+use store_reader::next_row;
+use store_reader::row_near;
+use store_walk::subgraph_size;
+ghost use mathlib.Core.List.{[], _∷_, map};
+ghost use Prim.Native.Nat.{_+_, _*_, _<_};
+ghost use Rattle.ot_layouts.specs.MarkBasePos.{markSlot, baseSlot};
+ghost use Rattle.folds.specs.Moments.{came, left};
+ghost use Rattle.mark_points.specs.Anchors.{columnSlots, RowsKnown, Goes, Walkable, WalksAt, WalksClass};
+
+// The link rows of the mark array and of the base array.
+pub struct ArrayRows {
+    pub marks: LinkRows,
+    pub bases: LinkRows,
+}
+
+// The size of all anchors of `class`, whose marks are at these places.
+pub fn class_size(
+    objects: &[u32],
+    links: &[u32],
+    counts: [u32; 3],
+    info: TableInfo,
+    rows: ArrayRows,
+    class: u16,
+    places: &[u16],
+    epoch: u32,
+    walk: &mut [u32],
+) -> u64
+    requires { ⌜ (class < info .classes) × (baseSlot (info .bases * info .classes) + 1 < 4294967296) ⌝ }
+    requires { ⌜ RowsKnown (now links) counts info rows × Goes (now objects) (now links) counts epoch (now walk) ⌝ }
+    ensures { λ r. ⌜ WalksClass (came objects) (came links) counts info class (came places) epoch (came walk) (left walk) r ⌝ }
+{
+    let bases = column_size(
+        objects,
+        links,
+        counts,
+        info.base_array,
+        rows.bases,
+        info.bases,
+        info.classes,
+        class,
+        epoch,
+        walk,
+    );
+    let marks = marks_size(
+        objects,
+        links,
+        counts,
+        info.mark_array,
+        rows.marks,
+        places,
+        epoch,
+        walk,
+    );
+    bases + marks
+}
+
+// The size of the anchor at `position` of `array`, the slot of that number; 0 where there is no link.
+fn slot_size(
+    objects: &[u32],
+    links: &[u32],
+    counts: [u32; 3],
+    array: u32,
+    rows: LinkRows,
+    slot: usize,
+    position: u32,
+    epoch: u32,
+    walk: &mut [u32],
+) -> u64
+    requires { ⌜ (slot < 4294967296) × (position + 1 < 4294967296) ⌝ }
+    requires { ⌜ Walkable (now objects) (now links) counts array rows epoch (now walk) ⌝ }
+    ensures { λ r. ⌜ WalksAt (came objects) (came links) counts array (position ∷ []) epoch (came walk) (left walk) r ⌝ }
+{
+    let count = counts[2] as usize;
+    let row = row_near(links, count, rows.first, rows.after, slot, array, position);
+    let next = next_row(links, count, row, array, position + 1);
+    subgraph_size(objects, links, counts, row, next, epoch, walk)
+}
+
+// The size of the bases' anchors for `class`, one of `classes`: a column of the base array.
+fn column_size(
+    objects: &[u32],
+    links: &[u32],
+    counts: [u32; 3],
+    array: u32,
+    rows: LinkRows,
+    bases: u16,
+    classes: u16,
+    class: u16,
+    epoch: u32,
+    walk: &mut [u32],
+) -> u64
+    requires { ⌜ (class < classes) × (baseSlot (bases * classes) + 1 < 4294967296) ⌝ }
+    requires { ⌜ Walkable (now objects) (now links) counts array rows epoch (now walk) ⌝ }
+    ensures { λ r. ⌜
+        WalksAt (came objects) (came links) counts array (columnSlots bases classes class) epoch (came walk) (left walk) r
+        ⌝ }
+{
+    let mut size: u64 = 0;
+    let mut base: u16 = 0;
+    while base < bases {
+        let slot = (base as usize) * (classes as usize) + (class as usize);
+        size += slot_size(
+            objects,
+            links,
+            counts,
+            array,
+            rows,
+            slot,
+            (2 + 2 * slot) as u32,
+            epoch,
+            walk,
+        );
+        base += 1;
+    }
+    size
+}
+
+// The size of the anchors of the marks at these places.
+fn marks_size(
+    objects: &[u32],
+    links: &[u32],
+    counts: [u32; 3],
+    array: u32,
+    rows: LinkRows,
+    places: &[u16],
+    epoch: u32,
+    walk: &mut [u32],
+) -> u64
+    requires { ⌜ Walkable (now objects) (now links) counts array rows epoch (now walk) ⌝ }
+    ensures { λ r. ⌜ WalksAt (came objects) (came links) counts array (map markSlot (came places)) epoch (came walk) (left walk) r ⌝ }
+{
+    let mut size: u64 = 0;
+    let mut i: usize = 0;
+    while i < places.len() {
+        let place = places[i] as usize;
+        size += slot_size(
+            objects,
+            links,
+            counts,
+            array,
+            rows,
+            place,
+            (4 + 4 * place) as u32,
+            epoch,
+            walk,
+        );
+        i += 1;
+    }
+    size
+}

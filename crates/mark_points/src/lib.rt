@@ -1,0 +1,133 @@
+// Where to cut a MarkBasePos table: the counterpart of `compute_split_points`.
+use crate::anchors::ArrayRows;
+use crate::anchors::class_size;
+use cut_filling::Filling;
+use glyph_class_parts::class_end;
+use store_reader::rows_of;
+ghost use mathlib.Core.List.{List};
+ghost use Prim.Native.Nat.{ℕ, _<_};
+ghost use Rattle.store_rules.specs.Store.{lent};
+ghost use Rattle.folds.specs.Moments.{came, left};
+ghost use Rattle.mark_points.specs.Anchors.{RowsKnown};
+ghost use Rattle.mark_points.specs.Points.{Ready, Below, Weighs, Places};
+
+pub mod anchors;
+pub mod table_info;
+
+pub use table_info::TableInfo;
+
+// The table that is being filled, where the next class's marks start, and the length of the coverage of the marks in the table.
+pub struct Columns {
+    pub filling: Filling,
+    pub from: usize,
+    pub partial: u64,
+}
+
+// The cut places, at the front of `cuts`, and how many there are. The marks' places come with their classes, in the order of these.
+pub fn compute_split_points(
+    objects: &[u32],
+    links: &[u32],
+    counts: [u32; 3],
+    info: TableInfo,
+    places: &[u16],
+    classes: &[u16],
+    walk: &mut [u32],
+    cuts: &mut [u16],
+) -> usize
+    requires { ⌜
+        ((b : List ℕ) × (t : ℕ) × Ready (lent b (now objects) (now links) counts) t info (now places) (now classes) (now walk) (now cuts))
+        ⌝ }
+    ensures { λ r. ⌜
+        Places (came objects) (came links) counts info (came places) (came classes) (came walk) (came cuts) (left cuts) r
+        ⌝ }
+{
+    let count = counts[2] as usize;
+    let marks = rows_of(links, count, info.mark_array);
+    let bases = rows_of(links, count, info.base_array);
+    let rows = ArrayRows { marks, bases };
+    let mut columns = Columns {
+        filling: Filling::new(info.start as u64),
+        from: 0,
+        partial: 4,
+    };
+    let mut class: u16 = 0;
+    while class < info.classes {
+        columns = weigh_class(
+            objects,
+            links,
+            counts,
+            info,
+            rows,
+            columns,
+            class,
+            places,
+            classes,
+            walk,
+            cuts,
+        );
+        class += 1;
+    }
+    columns.filling.cuts
+}
+
+// Weighs `class`. After a cut the coverage has its marks alone.
+fn weigh_class(
+    objects: &[u32],
+    links: &[u32],
+    counts: [u32; 3],
+    info: TableInfo,
+    rows: ArrayRows,
+    columns: Columns,
+    class: u16,
+    places: &[u16],
+    classes: &[u16],
+    walk: &mut [u32],
+    cuts: &mut [u16],
+) -> Columns
+    requires { ⌜ RowsKnown (now links) counts info rows ⌝ }
+    requires { ⌜
+        (class < info .classes)
+        ×
+        ((b : List ℕ)
+        × (t : ℕ)
+        × (d : List ℕ)
+        × Below (lent b (now objects) (now links) counts) t info (now places) (now classes) d class columns (now walk) (now cuts))
+        ⌝ }
+    ensures { λ r. ⌜
+        Weighs (came objects) (came links) counts info (came places) (came classes) class columns (came walk) (came cuts) r (left walk)
+        (left cuts)
+        ⌝ }
+{
+    let filling = columns.filling;
+    let from = columns.from;
+    let to = class_end(classes, from, class);
+    let marks = (to - from) as u64;
+    let epoch = info.epoch + (filling.cuts as u32);
+    let size = class_size(
+        objects,
+        links,
+        counts,
+        info,
+        rows,
+        class,
+        &places[from..to],
+        epoch,
+        walk,
+    );
+    let cost = 2 * (info.bases as u64) + 4 * marks + size;
+    let alone = 4 + 2 * marks;
+    let partial = columns.partial + 2 * marks;
+    let filled = filling.weigh(class, cost, partial, info.start as u64, cuts);
+    if filled.cuts != filling.cuts {
+        return Columns {
+            filling: filled,
+            from: to,
+            partial: alone,
+        };
+    }
+    Columns {
+        filling: filled,
+        from: to,
+        partial,
+    }
+}

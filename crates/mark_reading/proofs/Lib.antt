@@ -1,0 +1,4 @@
+pub mod Places
+pub mod Spots
+pub mod Attaching
+pub mod Calling

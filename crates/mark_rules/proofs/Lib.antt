@@ -1,0 +1,10 @@
+pub mod Checks
+pub mod Marks
+pub mod MarkOf
+pub mod NewArrays
+pub mod NewCounts
+pub mod Anchors
+pub mod ArrayCounts
+pub mod LinkCounts
+pub mod ClassLinks
+pub mod Pinned

@@ -1,0 +1,104 @@
+-- What the checks 6 to 8 of any call ask, where none of its cases applies, and the other way round. Assumes nothing.
+use Prim.Native.Nat.{ℕ, _+_, _<_, _≤_}
+use mathlib.Core.Path.{_≡_, refl, ap, _∙_}
+use mathlib.Core.Bool.{Bool, true, false, not, cond, _||_}
+use mathlib.Core.List.{List, [], _∷_, _++_}
+use mathlib.Core.Option.{Option, some, none}
+use native.Mathlib.Omega.{arith}
+use lib.ListN.{length}
+use lib.Dec.{ltb}
+use borrow.Author.Tests.{ltb-false, le-ltb, not-false}
+use Rattle.folds.specs.Lists.{isEmpty}
+use Rattle.folds.proofs.Tests.{true-false, or-none}
+use Rattle.store_rules.specs.Store.{Store, objectRoom, byteRoom, linkRoom}
+use Rattle.call_rules.specs.declared.Answer.the-variants.{Done, ShortScratch, BadLinks, NoRoom}
+use Rattle.call_rules.specs.declared.Needs.{Needs}
+use Rattle.call_rules.specs.Answers.{Case, case, firstCase}
+use Rattle.call_rules.specs.Needs.{shortBy, roomShort}
+use Rattle.call_rules.proofs.Cases.{first-append, first-head, first-skip}
+
+-- ---- 6 and 7, behind the checks of a reading
+
+module _ (read : List Case) (short slots loop : Bool) where
+  abbrev later : List Case
+  later = case ShortScratch short ∷ case BadLinks (not slots || loop) ∷ []
+
+  pub no-case-checks : firstCase (read ++ later) ≡ none → (firstCase read ≡ none) × (short ≡ false) × (slots ≡ true) × (loop ≡ false)
+  no-case-checks h =
+      let (none-read, rest) = first-append read later h in
+      let (six, seven) = first-head _ _ rest in
+      let (at, round) = or-none (not slots) loop (first-head _ _ seven .0) in
+      (none-read, six, not-false slots at, round)
+
+  pub checks-no-case : firstCase read ≡ none → short ≡ false → slots ≡ true → loop ≡ false → firstCase (read ++ later) ≡ none
+  unfolding firstCase
+  checks-no-case a b c d = first-skip read later a ∙ rw (b, c, d)
+
+-- ---- "no cut" and 8, behind these
+
+not-empty : (cs : List ℕ) → isEmpty cs ≡ false → 0 < length cs
+unfolding isEmpty
+not-empty [] h = true-false h
+not-empty (c ∷ cs) h = omega arith
+
+some-cut : (cs : List ℕ) → 0 < length cs → isEmpty cs ≡ false
+unfolding isEmpty
+some-cut [] h = absurd (omega arith)
+some-cut (c ∷ cs) h = refl
+
+-- room is enough
+pub record RoomFor (s : Store) (list : List ℕ) (n : Needs) : Type 0 where
+  pub objects : s .objectCount + n .objects ≤ objectRoom (length (s .objects))
+  pub links : s .linkCount + n .links ≤ linkRoom (length (s .links))
+  pub bytes : s .byteCount + n .bytes ≤ byteRoom (length (s .bytes))
+  pub entries : n .entries ≤ length list
+
+module _ (cut : List Case) (cs : List ℕ) (s : Store) (list : List ℕ) (n : Needs) where
+  abbrev last : List Case
+  last = case Done (isEmpty cs) ∷ case NoRoom (roomShort s list n) ∷ []
+
+  -- what is lent of each
+  abbrev objectsLent : ℕ
+  objectsLent = objectRoom (length (s .objects))
+
+  abbrev linksLent : ℕ
+  linksLent = linkRoom (length (s .links))
+
+  abbrev bytesLent : ℕ
+  bytesLent = byteRoom (length (s .bytes))
+
+  pub no-case-room : firstCase (cut ++ last) ≡ none → (firstCase cut ≡ none) × (0 < length cs) × RoomFor s list n
+  unfolding shortBy
+  no-case-room h =
+      let (none-cut, rest) = first-append cut last h in
+      let (cuts, eight) = first-head _ _ rest in
+      let (three, entries) = or-none _ (ltb (length list) (n .entries)) (first-head _ _ eight .0) in
+      let (two, bytes) = or-none _ (ltb bytesLent (s .byteCount + n .bytes)) three in
+      let (objects, links) = or-none _ (ltb linksLent (s .linkCount + n .links)) two in
+      let room : RoomFor s list n
+      = record {
+        objects = ltb-false objectsLent (s .objectCount + n .objects) objects;
+        links = ltb-false linksLent (s .linkCount + n .links) links;
+        bytes = ltb-false bytesLent (s .byteCount + n .bytes) bytes;
+        entries = ltb-false (length list) (n .entries) entries;
+      } in
+      (none-cut, not-empty cs cuts, room)
+
+  pub room-no-case : firstCase cut ≡ none → 0 < length cs → RoomFor s list n → firstCase (cut ++ last) ≡ none
+  unfolding shortBy firstCase
+  room-no-case none-cut cuts r =
+      first-skip cut last none-cut
+      ∙ rw (
+        some-cut cs cuts,
+        le-ltb objectsLent (s .objectCount + n .objects) (r .objects),
+        le-ltb linksLent (s .linkCount + n .links) (r .links),
+        le-ltb bytesLent (s .byteCount + n .bytes) (r .bytes),
+        le-ltb (length list) (n .entries) (r .entries),
+      )
+
+  -- with no cut there is nothing more to ask
+  pub no-cut-case : firstCase cut ≡ none → cs ≡ [] → firstCase (cut ++ last) ≡ some 0
+  unfolding firstCase isEmpty
+  no-cut-case none-cut e =
+      let eight : Option ℕ = firstCase (case NoRoom (roomShort s list n) ∷ []) in
+      first-skip cut last none-cut ∙ ap (λ (places : List ℕ). cond (isEmpty places) (some 0) eight) e

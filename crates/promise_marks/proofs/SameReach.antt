@@ -1,0 +1,85 @@
+-- What the kept table's classes reach is what they reached. Assumes nothing.
+use Prim.Native.Nat.{ℕ, _+_, _-_, _<_, _≤_}
+use mathlib.Core.Path.{_≡_, ap₂, subst, _∙_}
+use mathlib.Core.Bool.{Bool}
+use mathlib.Core.List.{List}
+use mathlib.Core.Logic.{inl, inr}
+use native.Mathlib.Omega.{arith}
+use Rattle.ot_layouts.specs.MarkBasePos.{markSlot}
+use Rattle.store_rules.specs.Store.{Store, linkAt, childOf, ofParent}
+use Rattle.store_rules.specs.Reach.{Reach, reachOf, itemSize}
+use Rattle.store_rules.proofs.SameReach.{Seed, SameWays, RowsBehind, behind-goes, behind-went, reach-size-same}
+use Rattle.cut_rules.specs.Ranges.{from}
+use Rattle.mark_rules.specs.Table.{markAnchor, baseAnchor, ofClasses}
+use Rattle.mark_rules.specs.Written.{splitStore}
+use Rattle.mark_rules.proofs.Checks.{parts-read}
+use Rattle.mark_rules.proofs.Anchors.{Anchor, row-anchor, anchor-row}
+use Rattle.promise_marks.proofs.Ready.{Ready, objects-then}
+use Rattle.promise_marks.proofs.NewBytes.{old-size}
+use Rattle.promise_marks.proofs.KeptAndNew.{view-kept}
+use Rattle.promise_marks.proofs.StaysSound.{fits-then}
+use Rattle.promise_marks.proofs.WrittenAfresh.{kept-reads}
+use Rattle.promise_marks.proofs.Rows.{rows-then, new-parent, same-parent, same-child}
+use Rattle.promise_marks.proofs.SameAnchors.{anchor-old, anchor-new}
+use Rattle.promise_marks.proofs.KeptChecked.{not-back, mark-leads, base-leads, slots-then}
+
+module _ (s : Store) (t : ℕ) (cs : List ℕ) (g : Ready s t cs) where
+  abbrev s′ : Store
+  s′ = splitStore s t cs
+
+  -- rows of the table
+  abbrev ofT : ℕ → Bool
+  ofT k = ofParent t (linkAt s k)
+
+  -- what the classes below j reach, j at most the first cut
+  module _ (j : ℕ) (small : j ≤ from cs 0) where
+    -- rows of these classes
+    abbrev ofC : Store → ℕ → Bool
+    ofC x k = ofClasses x t 0 j (linkAt x k)
+
+    -- what the classes reach, the table reaches
+    anchor-known : (c : ℕ) → Anchor s t 0 j c → Reach s ofT c
+    unfolding markAnchor baseAnchor
+    anchor-known c (inl (i, l, a, b, e)) = mark-leads s t cs g (markSlot i) c e
+    anchor-known c (inr (i, k, l, m, a, b, e)) = base-leads s t cs g _ c e
+
+    classes-table : {i : ℕ} → Reach s (ofC s) i → Reach s ofT i
+    classes-table (Reach.seed k l a e) =
+        subst (Reach s ofT) e (anchor-known (childOf s k) (row-anchor s t (g .fit) (g .parts) (g .atSlots) 0 j k l a))
+    classes-table (Reach.step r k l p e) = Reach.step (classes-table r) k l p e
+
+    -- the rows that they reach stay, and the new ones stand behind
+    rows-behind : RowsBehind s s′ (ofC s)
+    rows-behind =
+        record {
+          rows = omega (arith, rows-then s t cs g);
+          parents = same-parent s t cs g;
+          children = λ k l r. same-child s t cs g k l (λ z. not-back s t cs g (subst (Reach s ofT) z (classes-table r)));
+          behind = new-parent s t cs g;
+        }
+
+    -- then as before, they lead to the same anchors
+    starts : (c : ℕ) → Seed s (ofC s) c → Seed s′ (ofC s′) c
+    starts c (k, l, a, e) =
+        let old : Anchor s t 0 j (childOf s k) = row-anchor s t (g .fit) (g .parts) (g .atSlots) 0 j k l a in
+        let (m, b, d, f) = anchor-row s′ t 0 j (childOf s k) (anchor-new (view-kept s t cs g) (g .reads) j small (childOf s k) old) in
+        (m, b, d, f ∙ e)
+
+    started : (c : ℕ) → Seed s′ (ofC s′) c → Seed s (ofC s) c
+    started c (k, l, a, e) =
+        let parts = parts-read s′ t (kept-reads s t cs g .parts) in
+        let now : Anchor s′ t 0 j (childOf s′ k) = row-anchor s′ t (fits-then s t cs g) parts (slots-then s t cs g) 0 j k l a in
+        let (m, b, d, f) = anchor-row s t 0 j (childOf s′ k) (anchor-old (view-kept s t cs g) (g .reads) j small (childOf s′ k) now) in
+        (m, b, d, f ∙ e)
+
+    same-ways : SameWays s s′ (ofC s) (ofC s′)
+    same-ways = record { starts = starts; started = started; goes = behind-goes rows-behind; went = behind-went rows-behind (g .fit) }
+
+    reach-same : reachOf s′ (ofClasses s′ t 0 j) ≡ reachOf s (ofClasses s t 0 j)
+    reach-same =
+        reach-size-same same-ways (g .fit) (fits-then s t cs g) (omega (arith, objects-then s t cs g)) (λ i h r. old-size s t cs g i h)
+
+  -- S of the kept table's classes is what it was
+  pub size-same : (i : ℕ) → i < from cs 0 → itemSize s′ (ofClasses s′ t) 0 i ≡ itemSize s (ofClasses s t) 0 i
+  unfolding itemSize
+  size-same i h = ap₂ (λ (a b : ℕ). a - b) (reach-same (i + 1) (omega arith)) (reach-same i (omega arith))

@@ -1,0 +1,70 @@
+//! Damaged calls for MarkBasePos tables are refused by their numbers, and nothing else changes.
+
+#[path = "common/damaged.rs"]
+mod damaged;
+
+use damaged::Kind;
+use differential::{
+    check::{refused_or_marks_as_the_oracle, Split},
+    damage, generate, lend, Attachment, Call, MarkSubject, Marks, Model, Random, Tally,
+};
+
+const STORES: u64 = 160;
+
+const MARKS: Kind = Kind {
+    calls,
+    damages: damage::marks,
+    answers,
+    split: |call| Split::by(&Marks(&Model), call),
+    other_formats: &[0, 2, 3, 0x0100, 0x0201, 0xFFFF],
+};
+
+fn calls() -> Vec<(Call<u32>, Random)> {
+    let calls = (0..STORES).map(|seed| {
+        let case = generate::marks(seed);
+        let mut random = Random::new(!seed);
+        let call = lend::marks_exactly(&case.store, case.table, &mut random);
+        (call, random)
+    });
+    calls.collect()
+}
+
+fn answers(call: &Call<u32>) -> [u32; 3] {
+    let (store, table) = (&call.store, call.table);
+    [
+        Model.split_markbasepos(&mut call.clone()),
+        Model.cut_plan_markbasepos(&mut call.to_plan()),
+        Model.read_mark(store, table, [0, 0], &mut Attachment::default()),
+    ]
+}
+
+#[test]
+fn what_is_exactly_enough_is_enough() {
+    MARKS.what_is_exactly_enough_is_enough();
+}
+
+#[test]
+fn each_damage_is_refused_by_its_number() {
+    MARKS.each_damage_is_refused_by_its_number();
+}
+
+#[test]
+fn the_first_that_applies_decides() {
+    MARKS.the_first_that_applies_decides();
+}
+
+#[test]
+fn another_format_is_nothing_to_split() {
+    MARKS.another_format_is_nothing_to_split();
+}
+
+/// Whatever a call is lent, it is refused and nothing changes, or it is split as by the oracle.
+#[test]
+fn anything_may_be_wrong() {
+    let mut tally = Tally::default();
+    MARKS.anything_may_be_wrong(|_, split| {
+        assert_eq!(refused_or_marks_as_the_oracle(split, &mut tally), Ok(()));
+    });
+    println!("{tally}");
+    assert!(tally.answers.iter().all(|&count| count > 0));
+}

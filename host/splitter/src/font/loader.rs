@@ -1,0 +1,108 @@
+//! A table of a font as a store, object for object.
+
+use super::{bytes::Bytes, error::FontError, lengths::Length};
+use crate::{Link, Refusal, Room, Store};
+use std::collections::{BTreeMap, HashMap};
+
+/// A store in the making. What is at one place in the font is one object.
+pub(super) struct Loader<'a> {
+    pub gpos: Bytes<'a>,
+    store: Store,
+    /// The objects by where they start and how long they are.
+    objects: HashMap<(usize, usize), u32>,
+    /// The children by parent and position.
+    links: BTreeMap<(u32, u32), u32>,
+}
+
+/// An object, and where in the GPOS table it starts.
+#[derive(Clone, Copy)]
+pub(super) struct Placed {
+    pub object: u32,
+    pub start: usize,
+}
+
+impl<'a> Loader<'a> {
+    pub fn new(gpos: Bytes<'a>) -> Self {
+        Self {
+            gpos,
+            store: Store::new(),
+            objects: HashMap::new(),
+            links: BTreeMap::new(),
+        }
+    }
+
+    /// The store of all that was loaded.
+    pub fn finish(self) -> Result<Store, FontError> {
+        let Self {
+            mut store, links, ..
+        } = self;
+        let links = links.into_iter();
+        store.add_links(links.map(|((parent, position), child)| Link {
+            parent,
+            position,
+            child,
+        }))?;
+        Ok(store)
+    }
+
+    /// Links the part whose offset stands at a position, if there is one.
+    pub fn link_part(
+        &mut self,
+        parent: Placed,
+        position: usize,
+        length: Length,
+        what: &'static str,
+    ) -> Result<Option<Placed>, FontError> {
+        let Some(start) = self.offset(parent, position, what)? else {
+            return Ok(None);
+        };
+        let len = length(self.gpos, start)?;
+        let child = self.object(start, len, what)?;
+        self.link(parent, position, child)?;
+        Ok(Some(child))
+    }
+
+    /// Where the offset at a position leads to. An offset of 0 leads nowhere.
+    pub fn offset(
+        &self,
+        parent: Placed,
+        position: usize,
+        what: &'static str,
+    ) -> Result<Option<usize>, FontError> {
+        let offset = self.gpos.u16(parent.start + position, what)?;
+        Ok((offset != 0).then_some(parent.start + offset))
+    }
+
+    /// The object of these bytes, added if it is new.
+    pub fn object(
+        &mut self,
+        start: usize,
+        len: usize,
+        what: &'static str,
+    ) -> Result<Placed, FontError> {
+        let bytes = self.gpos.get(start, len, what)?;
+        let object = match self.objects.get(&(start, len)) {
+            Some(&object) => object,
+            None => {
+                let object = self.store.add_object(bytes)?;
+                self.objects.insert((start, len), object);
+                object
+            }
+        };
+        Ok(Placed { object, start })
+    }
+
+    pub fn link(
+        &mut self,
+        parent: Placed,
+        position: usize,
+        child: Placed,
+    ) -> Result<(), FontError> {
+        if self.links.len() > Room::MOST.links {
+            return Err(Refusal::NoRoom.into());
+        }
+        let position = (parent.object, position as u32);
+        self.links.entry(position).or_insert(child.object);
+        Ok(())
+    }
+}
