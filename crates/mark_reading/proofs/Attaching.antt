@@ -8,7 +8,6 @@ use native.Mathlib.Omega.{arith}
 use lib.Dec.{ltb}
 use borrow.Author.Tests.{ltb-true}
 use Rattle.folds.specs.Lists.{given, andThen}
-use Rattle.ot_layouts.specs.Numbers.{u16At}
 use Rattle.ot_layouts.specs.Coverage.{coverPlace}
 use Rattle.ot_coverage_reader.specs.declared.Place.{Place}
 use Rattle.ot_coverage_reader.specs.declared.Place.the-variants.{At, Nowhere}
@@ -18,6 +17,7 @@ use Rattle.mark_rules.specs.Table.{marksIn, basesIn}
 use Rattle.mark_rules.specs.Attachments.{markPlace, basePlace, attachOf}
 use Rattle.mark_checks.specs.declared.MarkTable.{MarkTable}
 use Rattle.mark_checks.specs.Opens.{Opens}
+use Rattle.mark_checks.proofs.Opened.{marks-are, bases-are}
 use Rattle.mark_reading.specs.declared.Attachment.{Attachment}
 use Rattle.mark_reading.specs.declared.Attachment.the-variants.{Nothing}
 use Rattle.mark_reading.specs.Reading.{attachedAs, placeBelow, attachAt}
@@ -36,15 +36,9 @@ place-low b g n i e = go (coverPlace b g) e
     go (some k) h = test k (ltb k n) refl h
 
 module _ {s : Store} {t : ℕ} {p : MarkTable} (o : Opens s t p) (m b : ℕ) (r : Place) (e : placeFound r ≡ placeBelow (bytesOf s (p .coverage .object)) m (p .marks .count)) where
-  marks-are : p .marks .count ≡ marksIn s t
-  marks-are = o .marks .count ∙ ap (λ (c : ℕ). u16At (bytesOf s c) 0) (o .marks .linked)
-
-  bases-are : p .bases .count ≡ basesIn s t
-  bases-are = o .bases .count ∙ ap (λ (c : ℕ). u16At (bytesOf s c) 0) (o .bases .linked)
-
   mark-place : placeFound r ≡ markPlace s t m
   unfolding markPlace placeBelow
-  mark-place = e ∙ rw (o .coverage .linked, marks-are)
+  mark-place = e ∙ rw (o .coverage .linked, marks-are o)
 
   pub no-mark-place : r ≡ Nowhere → attachedAs Nothing ≡ attachOf s t m b
   unfolding attachOf andThen
@@ -53,7 +47,7 @@ module _ {s : Store} {t : ℕ} {p : MarkTable} (o : Opens s t p) (m b : ℕ) (r 
   module _ {i : ℕ} (y : r ≡ At i) (z : Place) (d : placeFound z ≡ placeBelow (bytesOf s (p .«base_coverage» .object)) b (p .bases .count)) where
     base-place : placeFound z ≡ basePlace s t b
     unfolding basePlace placeBelow
-    base-place = d ∙ rw (o .baseCoverage .linked, bases-are)
+    base-place = d ∙ rw (o .baseCoverage .linked, bases-are o)
 
     pub no-base-place : z ≡ Nowhere → attachedAs Nothing ≡ attachOf s t m b
     unfolding attachOf andThen
@@ -62,8 +56,8 @@ module _ {s : Store} {t : ℕ} {p : MarkTable} (o : Opens s t p) (m b : ℕ) (r 
     module _ {j : ℕ} (w : z ≡ At j) where
       pub places-low : (i < marksIn s t) × (j < basesIn s t)
       places-low = (
-        omega (arith, place-low _ m (p .marks .count) i (sym (ap placeFound y) ∙ e), marks-are),
-        omega (arith, place-low _ b (p .bases .count) j (sym (ap placeFound w) ∙ d), bases-are),
+        omega (arith, place-low _ m (p .marks .count) i (sym (ap placeFound y) ∙ e), marks-are o),
+        omega (arith, place-low _ b (p .bases .count) j (sym (ap placeFound w) ∙ d), bases-are o),
       )
 
       pub both-places : (q : Attachment) → attachedAs q ≡ attachAt s t i j → attachedAs q ≡ attachOf s t m b

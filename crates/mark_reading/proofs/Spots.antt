@@ -13,13 +13,13 @@ use Rattle.store_rules.proofs.Lookups.{child-used}
 use Rattle.store_reader.specs.declared.Child.{Child}
 use Rattle.store_reader.specs.declared.Child.the-variants.{Of, Nowhere}
 use Rattle.store_reader.specs.Children.{childFound}
-use Rattle.store_reader.specs.Rows.{Inside, InOrder}
-use Rattle.store_reader.proofs.Bytes.{inside}
+use Rattle.store_reader.specs.Rows.{InOrder}
 use Rattle.store_reader.proofs.Rows.{rows-in-order}
 use Rattle.mark_rules.specs.Table.{markBytes, marksIn, basesIn, markAnchor, baseAnchor}
 use Rattle.mark_rules.proofs.Checks.{Parts, parts-read}
 use Rattle.mark_checks.specs.declared.MarkTable.{MarkTable}
 use Rattle.mark_checks.specs.Opens.{Opens}
+use Rattle.mark_checks.proofs.Opened.{marks-used, bases-used, same-marks, marks-long}
 use Rattle.mark_reading.specs.declared.Attachment.{Attachment}
 use Rattle.mark_reading.specs.declared.Attachment.the-variants as Found
 use Rattle.mark_reading.specs.Reading.{attachedAs, Small, attachAt}
@@ -38,35 +38,20 @@ module _ {s : Store} {t : ℕ} {p : MarkTable} (o : Opens s t p) where
   parts : Parts s t
   parts = parts-read s t (o .reads .parts)
 
-  marks-used : p .marks .object < s .objectCount
-  marks-used = child-used s t fit 8 (p .marks .object) (o .marks .child)
-
-  bases-used : p .bases .object < s .objectCount
-  bases-used = child-used s t fit 10 (p .bases .object) (o .bases .child)
-
   pub spot-in-order : InOrder (s .links) (s .linkCount)
   spot-in-order = rows-in-order s (o .reads .sounds)
-
-  pub marks-inside : Inside (length (s .bytes)) (s .objects) (p .marks .object)
-  marks-inside = inside s fit (p .marks .object) marks-used
-
-  same-marks : bytesOf s (p .marks .object) ≡ markBytes s t
-  same-marks = ap (bytesOf s) (o .marks .linked)
-
-  marks-long : length (bytesOf s (p .marks .object)) ≡ 2 + 4 * marksIn s t
-  marks-long = ap length same-marks ∙ parts .marksLong
 
   module _ {i : ℕ} (h : i < marksIn s t) where
     -- a mark's slot lies within the array, and so within 16,777,216 bytes
     pub mark-most : 4 + 4 * i < 16777216
-    mark-most = omega (arith, marks-long, size-bytes s fit (p .marks .object) marks-used, size-most s fit (p .marks .object) marks-used)
+    mark-most = omega (arith, marks-long o, size-bytes s fit (p .marks .object) (marks-used o), size-most s fit (p .marks .object) (marks-used o))
 
     pub mark-in : {b : List ℕ} → b ≡ bytesOf s (p .marks .object) → 2 + 4 * i + 1 < length b
-    mark-in e = omega (arith, ap length e, marks-long)
+    mark-in e = omega (arith, ap length e, marks-long o)
 
     module _ {b : List ℕ} (f : b ≡ bytesOf s (p .marks .object)) {v : ℕ} (g : v ≡ markClass b i) where
       class-is : v ≡ markClass (markBytes s t) i
-      class-is = g ∙ ap (λ (x : List ℕ). markClass x i) (f ∙ same-marks)
+      class-is = g ∙ ap (λ (x : List ℕ). markClass x i) (f ∙ same-marks o)
 
       class-low : v < p .classes
       class-low = omega (arith, class-is, parts .classesLow i h, o .classes)
@@ -78,7 +63,7 @@ module _ {s : Store} {t : ℕ} {p : MarkTable} (o : Opens s t p) where
             let low = slot-low j v (basesIn s t) (p .classes) k class-low in
             let long = ap (λ (c : ℕ). length (bytesOf s c)) (o .bases .linked) ∙ parts .basesLong in
             let same = ap (λ (n : ℕ). basesIn s t * n) (o .classes) in
-            omega (arith, low, long, same, size-bytes s fit (p .bases .object) bases-used, size-most s fit (p .bases .object) bases-used)
+            omega (arith, low, long, same, size-bytes s fit (p .bases .object) (bases-used o), size-most s fit (p .bases .object) (bases-used o))
 
         module _ (x : Child) (e : childFound x ≡ childAt s (p .marks .object) (4 + 4 * i)) where
           mark-anchor : childFound x ≡ markAnchor s t i

@@ -1,34 +1,17 @@
 -- The front of the lent lists, lent on for the covered glyphs and their classes. Assumes nothing.
-use Prim.Native.Nat.{ℕ, _+_, _-_, _≤_}
+use Prim.Native.Nat.{ℕ}
 use mathlib.Core.Path.{_≡_, ap, _∙_}
-use mathlib.Core.List.{List, _++_}
+use mathlib.Core.List.{List}
 use native.Mathlib.Omega.{arith}
-use lib.ListN.{length, drop}
-use lib.Seq.{take-at}
+use lib.ListN.{length}
 use Rattle.folds.specs.Lists.{put, part, Bytes}
-use Rattle.folds.proofs.Parts.{length-part}
+use Rattle.folds.proofs.Fronts.{front-long, back, front-back, front-again}
 use Rattle.store_rules.specs.Store.{Store}
 use Rattle.pair_rules.specs.Table.{entriesOf}
 use Rattle.pair_checks.specs.declared.PairTable.{PairTable}
 use Rattle.pair_points.specs.Filled.{Placed}
 use Rattle.glyph_class_parts.specs.ClassParts.{Ordered}
 use Rattle.pair_plan.specs.Cutting.{Gathering, Looked2, Looked, CutsByClass}
-
-front-long : (xs : List ℕ) (n : ℕ) → n ≤ length xs → length (part xs 0 n) ≡ n
-front-long xs n h = omega (arith, length-part xs 0 n (omega arith) h)
-
--- the list with ys, which was its front of n, back
-abbrev back : List ℕ → ℕ → List ℕ → List ℕ
-back xs n ys = ys ++ drop (n - 0) xs
-
-module _ (xs : List ℕ) (n : ℕ) (h : n ≤ length xs) (ys : List ℕ) (e : length ys ≡ length (part xs 0 n)) where
-  front-back : back xs n ys ≡ put xs 0 ys
-  unfolding put
-  front-back = let q : n - 0 ≡ 0 + length ys = omega (arith, front-long xs n h) in ap (λ (m : ℕ). ys ++ drop m xs) q
-
-  -- its front, lent again
-  front-again : part (back xs n ys) 0 n ≡ ys
-  front-again = take-at ys (drop (n - 0) xs) (n - 0) (omega (arith, front-long xs n h))
 
 module _ {s : Store} {t : ℕ} {p : PairTable} {w set gs ks cuts : List ℕ} (k : Looked s t p w set gs ks cuts) (two : p .layout .format ≡ 1 → ⊥) where
   pub fronts-lent : Gathering s t p (part gs 0 (p .glyphs)) (part ks 0 (p .glyphs))

@@ -28,6 +28,7 @@ use Rattle.glyph_class_parts.specs.ClassParts.{Ordered}
 use Rattle.pair_points.proofs.Callers.{sorted}
 use Rattle.pair_plan.specs.Cutting.{Gathering}
 use Rattle.glyph_parts.proofs.Parts.{part-inside}
+use Rattle.glyph_parts.proofs.Covered.{glyphs-ready, glyphs-written}
 
 module _ {s : Store} {t : ℕ} {p : PairTable} {gs ks : List ℕ} (k : Gathering s t p gs ks) where
   abbrev o : Opens s t p
@@ -43,28 +44,25 @@ module _ {s : Store} {t : ℕ} {p : PairTable} {gs ks : List ℕ} (k : Gathering
   class1-inside = part-inside (o .reads .sounds) (o .class1 two)
 
   -- as many as there is room for
-  glyphs-many : length (glyphsOf s t) ≡ length gs
-  glyphs-many = sym (k .glyphs ∙ o .glyphs)
+  glyphs-many : length gs ≡ length (glyphsOf s t)
+  glyphs-many = k .glyphs ∙ o .glyphs
 
   module _ {b : List ℕ} (e : b ≡ bytesOf s (p .coverage .object)) where
-    same-glyphs : coverGlyphs b ≡ glyphsOf s t
-    same-glyphs = ap coverGlyphs e ∙ ap (λ (c : ℕ). coverGlyphs (bytesOf s c)) (o .coverage .linked)
-
-    pub glyphs-ready : (coverageOf b ≡ Readable (p .coverage .header)) × (length (coverGlyphs b) ≤ length gs)
-    glyphs-ready = (ap coverageOf e ∙ o .coverage .header, omega (arith, ap length same-glyphs, glyphs-many))
+    pub cover-ready : (coverageOf b ≡ Readable (p .coverage .header)) × (length (coverGlyphs b) ≤ length gs)
+    cover-ready = glyphs-ready (o .coverage) e gs glyphs-many
 
     module _ {gs′ : List ℕ} (f : gs′ ≡ put gs 0 (coverGlyphs b)) where
-      glyphs-written : gs′ ≡ glyphsOf s t
-      glyphs-written = f ∙ put-whole gs (coverGlyphs b) (ap length same-glyphs ∙ glyphs-many) ∙ same-glyphs
+      written : gs′ ≡ glyphsOf s t
+      written = glyphs-written (o .coverage) e gs glyphs-many f
 
       glyphs-ascend : Ascending gs′
-      glyphs-ascend = subst Ascending (entries-glyphs s t ∙ sym glyphs-written) (ascending (map (λ e. e .glyph) (entriesOf s t)) (ascends-plain (entriesOf s t) 0 (entries-ascend s t (o .reads))))
+      glyphs-ascend = subst Ascending (entries-glyphs s t ∙ sym written) (ascending (map (λ e. e .glyph) (entriesOf s t)) (ascends-plain (entriesOf s t) 0 (entries-ascend s t (o .reads))))
 
       pub glyphs-apart : (i j : ℕ) → i < j → j < length gs′ → getD gs′ i 0 < getD gs′ j 0
       glyphs-apart = apart gs′ glyphs-ascend
 
       as-many : length gs′ ≡ length ks
-      as-many = ap length glyphs-written ∙ glyphs-many ∙ k .glyphs ∙ sym (k .classes)
+      as-many = ap length written ∙ sym (o .glyphs) ∙ sym (k .classes)
 
       module _ {d : List ℕ} (g : d ≡ bytesOf s (p .class1 .object)) where
         pub classes-ready : (classDefOf d ≡ Readable (p .class1 .header)) × (Ascending gs′ × (length gs′ ≤ length ks))
@@ -74,8 +72,8 @@ module _ {s : Store} {t : ℕ} {p : PairTable} {gs ks : List ℕ} (k : Gathering
         classes-written h =
             h
             ∙ put-whole ks (map (classOf d) gs′) (length-map gs′ (classOf d) ∙ as-many)
-            ∙ ap₂ (λ (x y : List ℕ). map (classOf x) y) (g ∙ ap (bytesOf s) (o .class1 two .linked)) glyphs-written
+            ∙ ap₂ (λ (x y : List ℕ). map (classOf x) y) (g ∙ ap (bytesOf s) (o .class1 two .linked)) written
             ∙ sym (ap (map (λ (e : Entry). e .class)) (entries2 s t two) ∙ map-map (λ (e : Entry). e .class) (λ (x : ℕ). entry x (classOf (linkedBytes s t 8) x)) (glyphsOf s t))
 
         pub gathered : Bytes (s .bytes) → {ks′ ks″ gs″ : List ℕ} → ks′ ≡ put ks 0 (map (classOf d) gs′) → ks″ ≡ keysOf (inOrder (pairs ks′ gs′)) → gs″ ≡ besideOf (inOrder (pairs ks′ gs′)) → Ordered (entriesOf s t) gs″ ks″
-        gathered octets h i j = sorted (o .reads) octets (classes-written h) (glyphs-written ∙ sym (entries-glyphs s t)) i j
+        gathered octets h i j = sorted (o .reads) octets (classes-written h) (written ∙ sym (entries-glyphs s t)) i j

@@ -6,7 +6,6 @@ use native.Mathlib.Omega.{arith}
 use lib.ListN.{length, getD}
 use Rattle.folds.specs.Folds.{upto}
 use Rattle.folds.specs.Lists.{put, Bytes}
-use Rattle.folds.proofs.Writing.{put-whole}
 use Rattle.ot_layouts.specs.Coverage.{coverageOf, coverGlyphs}
 use Rattle.ot_layouts.specs.declared.Reading.the-variants.{Readable}
 use Rattle.ot_layouts.proofs.Entries.{ascends-plain}
@@ -24,6 +23,7 @@ use Rattle.pair_checks.specs.declared.PairTable.{PairTable}
 use Rattle.pair_checks.specs.Opens.{Opens}
 use Rattle.pair_checks.proofs.Refusals.{format-one, format-two}
 use Rattle.glyph_parts.proofs.Parts.{part-inside}
+use Rattle.glyph_parts.proofs.Covered.{glyphs-ready, glyphs-written}
 use Rattle.cut_parts.specs.Order.{Sorted, Ordered, Arranged}
 use Rattle.pair_new_objects.proofs.Stored.{arranged1, sorted2, arranged2}
 use Rattle.pair_split.specs.Arranging.{Arranging}
@@ -42,25 +42,18 @@ module _ {s : Store} {t : ℕ} {p : PairTable} {gs ks cs : List ℕ} (k : Arrang
   coverage-inside = part-inside (o .reads .sounds) (o .coverage)
 
   module _ {b : List ℕ} (e : b ≡ bytesOf s (p .coverage .object)) where
-    same-glyphs : coverGlyphs b ≡ glyphsOf s t
-    same-glyphs = ap coverGlyphs e ∙ ap (λ (c : ℕ). coverGlyphs (bytesOf s c)) (o .coverage .linked)
-
-    -- as many as there is room for
-    as-many : length (coverGlyphs b) ≡ length gs
-    as-many = ap length same-glyphs ∙ sym (k .glyphs ∙ o .glyphs)
-
-    pub glyphs-ready : (coverageOf b ≡ Readable (p .coverage .header)) × (length (coverGlyphs b) ≤ length gs)
-    glyphs-ready = (ap coverageOf e ∙ o .coverage .header, omega (arith, as-many))
+    pub cover-ready : (coverageOf b ≡ Readable (p .coverage .header)) × (length (coverGlyphs b) ≤ length gs)
+    cover-ready = glyphs-ready (o .coverage) e gs (k .glyphs ∙ o .glyphs)
 
     module _ {gs′ : List ℕ} (f : gs′ ≡ put gs 0 (coverGlyphs b)) where
-      glyphs-written : gs′ ≡ glyphsOf s t
-      glyphs-written = f ∙ put-whole gs (coverGlyphs b) as-many ∙ same-glyphs
+      written : gs′ ≡ glyphsOf s t
+      written = glyphs-written (o .coverage) e gs (k .glyphs ∙ o .glyphs) f
 
       glyphs-ascend : Ascending gs′
-      glyphs-ascend = subst Ascending (entries-glyphs s t ∙ sym glyphs-written) (ascending (map (λ e. e .glyph) (entriesOf s t)) (ascends-plain (entriesOf s t) 0 (entries-ascend s t (o .reads))))
+      glyphs-ascend = subst Ascending (entries-glyphs s t ∙ sym written) (ascending (map (λ e. e .glyph) (entriesOf s t)) (ascends-plain (entriesOf s t) 0 (entries-ascend s t (o .reads))))
 
       places-many : length ks ≡ length gs′
-      places-many = k .classes ∙ o .glyphs ∙ sym (ap length glyphs-written)
+      places-many = k .classes ∙ o .glyphs ∙ sym (ap length written)
 
       pub few-places : ((i : ℕ) → getD gs′ i 0 < 65536) → length ks ≤ 65536
       few-places bits = omega (arith, places-many, at-most gs′ glyphs-ascend bits)
@@ -68,7 +61,7 @@ module _ {s : Store} {t : ℕ} {p : PairTable} {gs ks cs : List ℕ} (k : Arrang
       pub by-place : p .layout .format ≡ 1 → Bytes (s .bytes) → {ks′ : List ℕ} → ks′ ≡ upto (λ i. i) (length ks) → Arranged gs′ ks′ cs (shape s t .count) (entriesOf s t)
       by-place one octets h =
           subst (λ (x : List ℕ). Arranged gs′ x cs (shape s t .count) (entriesOf s t)) (sym (h ∙ ap (upto (λ i. i)) places-many))
-          (subst (λ (x : List ℕ). Arranged x (upto (λ i. i) (length x)) cs (shape s t .count) (entriesOf s t)) (sym glyphs-written) (arranged1 s t (o .reads) octets (format-one o one) cs))
+          (subst (λ (x : List ℕ). Arranged x (upto (λ i. i) (length x)) cs (shape s t .count) (entriesOf s t)) (sym written) (arranged1 s t (o .reads) octets (format-one o one) cs))
 
   -- ---- format 2
 

@@ -1,5 +1,5 @@
 -- A plan's cuts, and in format 2 the covered glyphs by class, at the front of the scratch: what deciding leaves there, and what is lent on. Assumes nothing.
-use Prim.Native.Nat.{ℕ, _-_, _≤_}
+use Prim.Native.Nat.{ℕ, _-_}
 use mathlib.Core.Path.{_≡_, sym, ap, ap₂, subst, _∙_}
 use mathlib.Core.List.{List, map}
 use mathlib.Core.Option.{none}
@@ -8,7 +8,7 @@ use lib.ListN.{length, take, drop, length-map}
 use Rattle.folds.specs.Lists.{put, part, Bytes}
 use Rattle.folds.proofs.Folds.{length-upto}
 use Rattle.folds.proofs.Put.{put-front}
-use Rattle.folds.proofs.Parts.{length-part}
+use Rattle.folds.proofs.Fronts.{front-long}
 use Rattle.ot_layouts.specs.Coverage.{Entry}
 use Rattle.store_rules.specs.Store.{Store}
 use Rattle.pair_rules.specs.Table.{shape, entriesOf, glyphsOf, cutPlaces}
@@ -30,9 +30,6 @@ use Rattle.pair_plan.specs.Decided.{decidedAs, Planned, Decided}
 use Rattle.pair_plan.proofs.Counting.{planned-few}
 use Rattle.pair_split.specs.Arranging.{Arranging}
 use Rattle.pair_split.specs.Splitting.{Ready}
-
-front-long : (xs : List ℕ) (n : ℕ) → n ≤ length xs → length (part xs 0 n) ≡ n
-front-long xs n h = omega (arith, length-part xs 0 n (omega arith) h)
 
 -- what was put at the front
 front-is : (d xs : List ℕ) (n : ℕ) {l : List ℕ} → l ≡ put d 0 xs → n ≡ length xs → part l 0 n ≡ xs

@@ -1,7 +1,8 @@
 -- `mark_reading::anchors_at` meets its contract: the mark's anchor, and then the base's. Assumes nothing.
 use native.Mathlib.Omega.{arith}
 use borrow.Author.Needs.{needs}
-use Rattle.mark_reading.proofs.Spots.{spot-in-order, marks-inside, mark-most, mark-in, base-most, no-mark-anchor, no-base-anchor, both-anchors, anchors-small, nothing-small}
+use Rattle.mark_checks.proofs.Opened.{marks-inside}
+use Rattle.mark_reading.proofs.Spots.{spot-in-order, mark-most, mark-in, base-most, no-mark-anchor, no-base-anchor, both-anchors, anchors-small, nothing-small}
 use Rattle.mark_reading.proofs.anchors_at.Statement.{statement}
 use Rattle.mark_reading.proofs.anchors_at.Tie as tie
 

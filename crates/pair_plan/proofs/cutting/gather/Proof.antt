@@ -1,7 +1,7 @@
 -- `pair_plan::cutting::gather` meets its contract: each step fills the whole slice, and the last puts both in order. Assumes nothing.
 use native.Mathlib.Omega.{arith}
 use borrow.Author.Needs.{needs}
-use Rattle.pair_plan.proofs.Gathering.{coverage-inside, class1-inside, glyphs-ready, glyphs-apart, classes-ready, gathered}
+use Rattle.pair_plan.proofs.Gathering.{coverage-inside, class1-inside, cover-ready, glyphs-apart, classes-ready, gathered}
 use Rattle.pair_plan.proofs.cutting.gather.Statement.{statement}
 use Rattle.pair_plan.proofs.cutting.gather.Tie as tie
 
@@ -14,7 +14,7 @@ glyphs-into-requires : tie.Need-glyphs-into-requires
 glyphs-into-requires c κs =
     let start = c .before .before .before .before .before .before .before .before .before .before in
     let (l, n, t, k) = start .pre .0 in
-    glyphs-ready k (c .before .bytes-of .ensures l n)
+    cover-ready k (c .before .bytes-of .ensures l n)
 
 bytes-of-requires-2 : tie.Need-bytes-of-requires-2
 bytes-of-requires-2 c κs =

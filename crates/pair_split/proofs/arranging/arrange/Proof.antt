@@ -1,6 +1,6 @@
 -- `arranging::arrange` meets its contract: by format, places are numbered, or the glyphs of each table are put in order. Assumes nothing.
 use borrow.Author.Needs.{needs}
-use Rattle.pair_split.proofs.ByTable.{coverage-inside, glyphs-ready, few-places, by-place, by-class, by-parts}
+use Rattle.pair_split.proofs.ByTable.{coverage-inside, cover-ready, few-places, by-place, by-class, by-parts}
 use Rattle.pair_split.proofs.arranging.arrange.Statement.{statement}
 use Rattle.pair_split.proofs.arranging.arrange.Tie as tie
 
@@ -14,7 +14,7 @@ glyphs-into-requires : tie.Need-glyphs-into-requires
 glyphs-into-requires c κs =
     let start = c .before .before .before .before .before .before .before .before .before .before .before .before in
     let (l, n, t, k) = start .pre in
-    glyphs-ready k (c .before .bytes-of .ensures l n)
+    cover-ready k (c .before .bytes-of .ensures l n)
 
 number-u16-requires : tie.Need-number-u16-requires
 number-u16-requires c κs =
