@@ -141,6 +141,10 @@ module _ (s : Store) (t : ℕ) (reads : Reads s t) (octets : Bytes (s .bytes)) w
       let up = ascending gs (ascends-plain stored 0 (stored-ascend s t reads octets)) in
       omega (arith, apart gs up i j h (omega arith), number-at i (omega arith), number-at j l)
 
+-- the marks' are among the covered ones
+pub marks-room : {s : Store} {t : ℕ} {p : MarkTable} {gs ks set cs : List ℕ} → Arranging s t p (p .glyphs) gs ks set cs → p .marks .count ≤ length gs
+marks-room k = omega (arith, k .numbers, k .opens .glyphs, marks-are (k .opens), k .opens .reads .enough)
+
 module _ {s : Store} {t : ℕ} {p : MarkTable} {gs ks set cs : List ℕ} (k : Arranging s t p (p .glyphs) gs ks set cs) (octets : Bytes (s .bytes))
     {d : List ℕ} (c : d ≡ bytesOf s (p .coverage .object)) where
   room : length gs ≡ length (glyphsOf s t)
@@ -154,7 +158,7 @@ module _ {s : Store} {t : ℕ} {p : MarkTable} {gs ks set cs : List ℕ} (k : Ar
     written = glyphs-written (k .opens .coverage) c gs room f
 
     pub marks-few : p .marks .count ≤ length gs′
-    marks-few = omega (arith, marks-are (k .opens), ap length written, k .opens .reads .enough)
+    marks-few = omega (arith, marks-room k, room, ap length written)
 
     front-at : (i : ℕ) → i < marksIn s t → getD (part gs′ 0 (p .marks .count)) i 0 ≡ getD (glyphsOf s t) i 0
     front-at i l =

@@ -1,1 +1,3 @@
 mod ByTable
+mod LinkCounts
+mod Counting

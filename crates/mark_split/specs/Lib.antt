@@ -1,1 +1,2 @@
 pub mod Arranging
+pub mod Measuring
