@@ -1,9 +1,10 @@
-// The list that a cut plan hands out, whatever it plans to cut.
+// The lists that a call hands out, whatever kind of table it is on: a cut plan's places, and the numbers of a split's new tables.
 use call_rules::Answer;
 use call_rules::number_of;
 ghost use mathlib.Core.Path.{_≡_};
-ghost use Prim.Native.Nat.{_≤_, _<_};
+ghost use Prim.Native.Nat.{_+_, _*_, _≤_, _<_};
 ghost use lib.ListN.{length};
+ghost use Rattle.folds.specs.Folds.{upto};
 ghost use Rattle.folds.specs.Lists.{put};
 ghost use Rattle.folds.specs.Moments.{came, left};
 ghost use Rattle.call_lists.specs.Handed.{handed, placesHanded};
@@ -33,4 +34,16 @@ pub fn list_places(cuts: &[u16], places: &mut [u16], place_count: &mut u32) -> u
     copy_places(cuts, places);
     *place_count = count as u32;
     0
+}
+
+// The numbers of the new tables, at the front of the result list.
+pub fn number_tables(new_tables: &mut [u32], first: u32, per_table: usize, count: usize)
+    requires { ⌜ (count ≤ length (now «new_tables»)) × (first + «per_table» * count < 4294967296) ⌝ }
+    ensures { λ _. ⌜ left «new_tables» ≡ put (came «new_tables») 0 (upto (λ j. first + «per_table» * j) count) ⌝ }
+{
+    let mut j: usize = 0;
+    while j < count {
+        new_tables[j] = (first as usize + per_table * j) as u32;
+        j += 1;
+    }
 }

@@ -1,4 +1,3 @@
-mod Numbering
 mod Keeping
 mod Counting
 mod StoreAfter

@@ -1,5 +1,6 @@
 // A split carried out at given places: `clone_range_format1`, `clone_range_format2`, `shrink_format1` and `shrink_format2` of the Rust text.
 // All that can refuse it has been asked: nothing here fails.
+use call_lists::number_tables;
 use call_rules::Needs;
 use ot_pairpos::Layout;
 use ot_wire::put_u16;
@@ -9,9 +10,8 @@ use pair_new_objects::write_objects;
 use store_object_rows::shorten;
 ghost use mathlib.Core.Path.{_≡_};
 ghost use mathlib.Core.List.{List};
-ghost use Prim.Native.Nat.{ℕ, _+_, _*_, _≤_, _<_};
-ghost use lib.ListN.{length, getD, set};
-ghost use Rattle.folds.specs.Folds.{upto};
+ghost use Prim.Native.Nat.{ℕ, _+_, _*_};
+ghost use lib.ListN.{getD, set};
 ghost use Rattle.folds.specs.Lists.{put};
 ghost use Rattle.ot_layouts.specs.Numbers.{be16};
 ghost use Rattle.store_rules.specs.Store.{lent};
@@ -71,18 +71,6 @@ fn write_bytes(
     );
     keep_items(data, objects, table, layout, cuts[0]);
     end
-}
-
-// The numbers of the new tables, at the front of the result list.
-fn number_tables(new_tables: &mut [u32], first: u32, per_table: usize, count: usize)
-    requires { ⌜ (count ≤ length (now «new_tables»)) × (first + «per_table» * count < 4294967296) ⌝ }
-    ensures { λ _. ⌜ left «new_tables» ≡ put (came «new_tables») 0 (upto (λ j. first + «per_table» * j) count) ⌝ }
-{
-    let mut j: usize = 0;
-    while j < count {
-        new_tables[j] = (first as usize + per_table * j) as u32;
-        j += 1;
-    }
 }
 
 // Splits the table at `cuts`, which needs `needs`.

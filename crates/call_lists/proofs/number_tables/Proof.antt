@@ -1,10 +1,10 @@
--- `carrying::number_tables` meets its contract: the first j numbers are written. Assumes nothing.
+-- `call_lists::number_tables` meets its contract: the first j numbers are written. Assumes nothing.
 use borrow.Author.Needs.{needs}
 use Prim.Native.Nat.{_-_, _+_, _*_}
 use native.Mathlib.Omega.{arith}
-use Rattle.pair_split.proofs.Numbering.{Numbering, number-start, number-turn, number-stop, number-small}
-use Rattle.pair_split.proofs.carrying.number_tables.Statement.{statement}
-use Rattle.pair_split.proofs.carrying.number_tables.Tie as tie
+use Rattle.call_lists.proofs.Numbering.{Numbering, number-start, number-turn, number-stop, number-small}
+use Rattle.call_lists.proofs.number_tables.Statement.{statement}
+use Rattle.call_lists.proofs.number_tables.Tie as tie
 
 abbrev Inv-loop : tie.InvT-loop
 Inv-loop new-tables₀ first per-table count j₀ new-tables j = Numbering (λ i. first + per-table * i) new-tables₀ count new-tables j
