@@ -1,11 +1,10 @@
 -- New objects written behind those in use, and the table's count and tail set before them. Assumes nothing.
 use Prim.Native.Nat.{ℕ, _+_, _*_, _<_, _≤_}
-use mathlib.Core.Path.{_≡_, sym, subst, ap, ap₂, _∙_}
-use mathlib.Core.List.{List, [], _∷_}
+use mathlib.Core.Path.{_≡_, sym, subst, ap, _∙_}
+use mathlib.Core.List.{List}
 use native.Mathlib.Omega.{arith}
-use lib.ListN.{length, getD, set}
-use Rattle.folds.specs.Lists.{put, join}
-use Rattle.folds.proofs.Put.{put-one, put-comm, put-below, length-put}
+use lib.ListN.{getD, set}
+use Rattle.folds.specs.Lists.{put}
 use Rattle.ot_layouts.specs.Numbers.{be16}
 use Rattle.ot_layouts.specs.PairPos.{Shape, itemAt}
 use Rattle.ot_layouts.proofs.Numbers.{length-be16}
@@ -14,24 +13,17 @@ use Rattle.store_rules.specs.Store.{Store, headOf, bytesOf}
 use Rattle.pair_rules.specs.Table.{shape}
 use Rattle.cut_rules.specs.Ranges.{from}
 use Rattle.pair_rules.specs.Written.{newOf, storeAfter, splitStore, keptTable}
-use Rattle.store_rules.specs.Appended.{rowsFrom, appended, withBytes, withTail}
+use Rattle.store_rules.specs.Appended.{appended, withBytes, withTail}
 use Rattle.store_rules.proofs.Sound.{Fits, ObjectFits, sound-fits, size-bytes}
-use Rattle.store_rules.proofs.ObjectRows.{rows-length}
 use Rattle.ot_pairpos.specs.declared.Layout.{Layout}
 use Rattle.ot_pairpos.specs.Layout.{layoutOf}
 use Rattle.cut_parts.specs.Tables.{paired}
 use Rattle.pair_new_objects.specs.Planned.{Planned}
-use Rattle.store_object_rows.specs.Objects.{Room, Written}
+use Rattle.store_object_rows.specs.Objects.{Room, Written, Behind}
+use Rattle.store_object_rows.proofs.Behind.{written-behind, change-first, set-first, same-head}
 use Rattle.pair_new_objects.specs.Objects.{Old, objectsOf}
 use Rattle.pair_new_objects.proofs.Stored.{stored-plan, stored-old, stored-room, stored-written}
 use Rattle.pair_split.specs.Carrying.{Keeping, Writing, Wrote}
-
--- a number set below a run that is written
-set-below : (d : List ℕ) (i v b : ℕ) (ys : List ℕ) → i < b → b + length ys ≤ length d → set (put d b ys) i v ≡ put (set d i v) b ys
-set-below d i v b ys l room =
-    put-one (put d b ys) i v (omega (arith, length-put d b ys room))
-    ∙ sym (put-comm d i (v ∷ []) b ys (omega arith) room)
-    ∙ ap (λ (x : List ℕ). put x b ys) (sym (put-one d i v (omega arith)))
 
 module _ (s : Store) (t : ℕ) (gs ks cs : List ℕ) where
   -- what `write_objects` asks
@@ -79,27 +71,19 @@ module _ (s : Store) (t : ℕ) (gs ks cs : List ℕ) (w : Writing s t (layoutOf 
     told-new : Written (s .bytes) (s .objects) (s .byteCount) (s .objectCount) new d o r
     told-new = stored-written s t (w .reads) (w .octets) gs ks cs (w .arranged) (w .some) d o r told
 
-    rows-room : 2 * s .objectCount + length (rowsFrom (s .byteCount) new) ≤ length (s .objects)
-    rows-room = omega (arith, rows-length (s .byteCount) new, w .room .rows)
+    behind : Behind s d o
+    behind = written-behind fits (w .room) told-new
 
-    same-bytes : length d ≡ length (s .bytes)
-    same-bytes = ap length (told-new .bytes) ∙ length-put (s .bytes) (s .byteCount) (join new) (w .room .bytes)
-
-    same-rows : length o ≡ length (s .objects)
-    same-rows = ap length (told-new .rows) ∙ length-put (s .objects) (2 * s .objectCount) (rowsFrom (s .byteCount) new) rows-room
-
-    same-head : getD o (2 * t) 0 ≡ headOf s t
-    same-head =
-        ap (λ (x : List ℕ). getD x (2 * t) 0) (told-new .rows)
-        ∙ put-below (s .objects) (2 * s .objectCount) (rowsFrom (s .byteCount) new) (omega (arith, rows-room)) (2 * t) (omega (arith, w .reads .used))
+    head-then : getD o (2 * t) 0 ≡ headOf s t
+    head-then = same-head fits behind t (w .reads .used)
 
     keep-asked : Keeping d o t l (from cs 0)
     unfolding layoutOf
     keep-asked =
         record {
-          row = omega (arith, w .reads .used, fits .objectsIn, same-rows);
-          within = omega (arith, same-head, kept-inside, fits .bytesMost);
-          count = omega (arith, same-head, count-inside, same-bytes, fits .bytesIn);
+          row = omega (arith, w .reads .used, fits .objectsIn, behind .rows-long);
+          within = omega (arith, head-then, kept-inside, fits .bytesMost);
+          count = omega (arith, head-then, count-inside, behind .bytes-long, fits .bytesIn);
         }
 
     kept : (d′ o′ : List ℕ) → d′ ≡ put d (getD o (2 * t) 0 + l .«count_at») (be16 (from cs 0)) → o′ ≡ set o (2 * t + 1) (getD o (2 * t) 0 + itemAt sh (from cs 0)) → Wrote s t cs d′ o′ r
@@ -110,12 +94,12 @@ module _ (s : Store) (t : ℕ) (gs ks cs : List ℕ) (w : Writing s t (layoutOf 
         record {
           bytes =
               x
-              ∙ ap₂ (λ (b : List ℕ) (k : ℕ). put b k (be16 (from cs 0))) (told-new .bytes) (ap (λ (h : ℕ). h + sh .countAt) same-head)
-              ∙ sym (put-comm (s .bytes) at (be16 (from cs 0)) (s .byteCount) (join new) (omega (arith, length-be16 (from cs 0), count-inside)) (w .room .bytes));
+              ∙ ap (λ (h : ℕ). put d (h + sh .countAt) (be16 (from cs 0))) head-then
+              ∙ change-first fits (w .room) told-new at (be16 (from cs 0)) (omega (arith, length-be16 (from cs 0), count-inside));
           rows =
               y
-              ∙ ap₂ (λ (b : List ℕ) (h : ℕ). set b (2 * t + 1) (h + itemAt sh (from cs 0))) (told-new .rows) same-head
-              ∙ set-below (s .objects) (2 * t + 1) tail (2 * s .objectCount) (rowsFrom (s .byteCount) new) (omega (arith, w .reads .used)) rows-room;
+              ∙ ap (λ (h : ℕ). set o (2 * t + 1) (h + itemAt sh (from cs 0))) head-then
+              ∙ set-first fits (w .room) told-new (2 * t + 1) tail (omega (arith, w .reads .used));
           ends = told-new .ends;
         }
 

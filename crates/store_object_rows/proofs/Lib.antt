@@ -1,3 +1,4 @@
 pub mod Joining
 pub mod Writing
 pub mod Rounds
+pub mod Behind

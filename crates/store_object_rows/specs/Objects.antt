@@ -2,8 +2,9 @@
 use Prim.Native.Nat.{ℕ, _+_, _*_, _≤_, _<_}
 use mathlib.Core.Path.{_≡_}
 use mathlib.Core.List.{List}
-use lib.ListN.{length}
+use lib.ListN.{length, getD}
 use Rattle.folds.specs.Lists.{put, join}
+use Rattle.store_rules.specs.Store.{Store}
 use Rattle.store_rules.specs.Appended.{rowsFrom}
 
 -- there is room for new objects from byte `at` and row `row` on, and the last ends within 32 bits
@@ -17,3 +18,10 @@ pub record Written (d o : List ℕ) (at row : ℕ) (new : List (List ℕ)) (d′
   pub bytes : d′ ≡ put d at (join new)
   pub rows : o′ ≡ put o (2 * row) (rowsFrom at new)
   pub ends : r ≡ at + length (join new)
+
+-- d and o are the bytes and the object rows of s, of which only what lies behind those in use may be other
+pub record Behind (s : Store) (d o : List ℕ) : Type 0 where
+  pub bytes-long : length d ≡ length (s .bytes)
+  pub rows-long : length o ≡ length (s .objects)
+  pub byte : (i : ℕ) → i < s .byteCount → getD d i 0 ≡ getD (s .bytes) i 0
+  pub row : (i : ℕ) → i < 2 * s .objectCount → getD o i 0 ≡ getD (s .objects) i 0
