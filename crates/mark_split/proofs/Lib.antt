@@ -1,3 +1,6 @@
 mod ByTable
 mod LinkCounts
 mod Counting
+mod StillOpen
+mod LinksAfter
+mod StoreAfter
