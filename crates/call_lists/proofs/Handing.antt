@@ -14,7 +14,8 @@ use Rattle.call_rules.specs.Answers.{Case, case, number, firstCase}
 use Rattle.call_rules.specs.Scratch.{Scratch, cleared}
 use Rattle.call_rules.specs.Outcomes.{Outcome, done, settle, outcome}
 use Rattle.call_rules.proofs.Cases.{first-skip, first-stands}
-use Rattle.call_lists.specs.Handed.{Handed, handed, placesHanded}
+use Rattle.call_scratch.proofs.Cleared.{SameLengths, same-cleared}
+use Rattle.call_lists.specs.Handed.{Handed, handed, placesHanded, handedBy}
 
 module _ (cuts list : List ℕ) where
   pub handed-short : {n : ℕ} → n ≡ number NoRoom → length list < length cuts → handed n 0 list ≡ placesHanded cuts list
@@ -26,7 +27,7 @@ module _ (cuts list : List ℕ) where
   handed-places l e = rw (le-ltb (length list) (length cuts) l) (ap (handed 0 (length cuts)) e)
 
 -- what is handed out, of a store that stays, with cleared scratch
-abbrev pub leaves : Store → Scratch → Handed → Outcome
+abbrev leaves : Store → Scratch → Handed → Outcome
 leaves s w h = outcome (h .answer) (h .count) s (h .list) (cleared w)
 
 -- the outcome of a plan of these places, by the cases before the one of its list
@@ -34,13 +35,13 @@ abbrev pub planned : List Case → List ℕ → Store → Scratch → List ℕ �
 planned cases places s w list = settle (firstCase (cases ++ (case NoRoom (ltb (length list) (length places)) ∷ []))) s list w (done s places list w)
 
 module _ (cases : List Case) (places : List ℕ) (s : Store) (w : Scratch) (list : List ℕ) where
-  pub leaves-refused : {n : ℕ} → firstCase cases ≡ some n → leaves s w (handed n 0 list) ≡ planned cases places s w list
+  refused : {n : ℕ} → firstCase cases ≡ some n → leaves s w (handed n 0 list) ≡ planned cases places s w list
   unfolding settle
-  leaves-refused {n} e = sym (ap (λ (x : Option ℕ). settle x s list w (done s places list w)) (first-stands cases _ n e))
+  refused {n} e = sym (ap (λ (x : Option ℕ). settle x s list w (done s places list w)) (first-stands cases _ n e))
 
-  pub leaves-places : firstCase cases ≡ none → leaves s w (placesHanded places list) ≡ planned cases places s w list
+  listed : firstCase cases ≡ none → leaves s w (placesHanded places list) ≡ planned cases places s w list
   unfolding placesHanded firstCase done settle
-  leaves-places e =
+  listed e =
       go (ltb (length list) (length places))
       ∙ sym (ap (λ (x : Option ℕ). settle x s list w (done s places list w)) (first-skip cases _ e))
     where
@@ -48,3 +49,14 @@ module _ (cases : List Case) (places : List ℕ) (s : Store) (w : Scratch) (list
           ≡ settle (cond short (some (number NoRoom)) none) s list w (done s places list w)
       go true = refl
       go false = refl
+
+  -- the cuts are asked where no case has the answer
+  decided : {cuts : List ℕ} (o : Option ℕ) → firstCase cases ≡ o → (o ≡ none → cuts ≡ places) → leaves s w (handedBy o cuts list) ≡ planned cases places s w list
+  unfolding handedBy
+  decided (some n) e f = refused e
+  decided none e f = ap (λ (x : List ℕ). leaves s w (placesHanded x list)) (f refl) ∙ listed e
+
+  pub leaves-handed : {cuts list′ : List ℕ} {o : Option ℕ} {n k : ℕ} {w′ w″ : Scratch} → firstCase cases ≡ o → (o ≡ none → cuts ≡ places)
+      → handed n k list′ ≡ handedBy o cuts list → SameLengths w w′ → w″ ≡ cleared w′ → outcome n k s list′ w″ ≡ planned cases places s w list
+  leaves-handed {list′ = list′} {o = o} {n = n} {k = k} e f h same clear =
+      ap (outcome n k s list′) (clear ∙ same-cleared same) ∙ ap (leaves s w) h ∙ decided o e f

@@ -1,3 +1,4 @@
 pub mod Copying
 pub mod Handing
 mod Numbering
+pub mod Split

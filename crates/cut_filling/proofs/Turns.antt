@@ -1,18 +1,18 @@
 -- One item after another: before the first, an item that is passed over, added or cut at, and after the last. Assumes nothing.
-use Prim.Native.Nat.{ℕ, _+_, _≤_, _<_}
-use mathlib.Core.Path.{_≡_, refl, sym, ap, subst, _∙_}
+use Prim.Native.Nat.{ℕ, _+_, _-_, _≤_, _<_}
+use mathlib.Core.Path.{_≡_, refl, sym, ap, ap₂, subst, _∙_}
 use mathlib.Core.Bool.{Bool, true, false, cond}
 use mathlib.Core.List.{List, [], _∷_}
 use native.Mathlib.Numerals.{add-one}
 use native.Mathlib.Omega.{arith}
-use lib.ListN.{length, length-append}
+use lib.ListN.{length, take, drop, length-append}
 use borrow.Author.Tests.{ltb-false}
-use Rattle.folds.specs.Lists.{put}
+use Rattle.folds.specs.Lists.{put, part}
 use Rattle.folds.proofs.Tests.{by-test}
-use Rattle.folds.proofs.Put.{put-nil, length-put}
+use Rattle.folds.proofs.Put.{put-nil, put-front, length-put}
 use Rattle.cut_rules.specs.Cuts.{Rule, Cutting, exceeds, cutHere, goOn, weigh, step, after, cutsOf}
 use Rattle.cut_filling.specs.declared.Filling.{Filling}
-use Rattle.cut_filling.specs.Filling.{Fills, Listed, Filled}
+use Rattle.cut_filling.specs.Filling.{Fills, Listed, Placed, Filled}
 
 -- ---- document 01's step
 
@@ -139,8 +139,15 @@ module _ (r : Rule) where
     unfolding cutsOf
     all-in = ap (λ (k : ℕ). after r k .cuts) e
 
-    pub all-counted : f .cuts ≡ length (cutsOf r)
-    all-counted = v .listed .fills .cuts ∙ ap length all-in
+    pub all-placed : Placed (cutsOf r) d l (f .cuts)
+    all-placed = record { count = v .listed .fills .cuts ∙ ap length all-in; places = v .listed .listed ∙ ap (put d 0) all-in }
 
-    pub all-listed : l ≡ put d 0 (cutsOf r)
-    all-listed = v .listed .listed ∙ ap (put d 0) all-in
+-- the places, from the front of the list
+pub placed-front : {cs d l : List ℕ} {n : ℕ} → Placed cs d l n → part l 0 n ≡ cs
+placed-front {cs} {d} {n = n} p =
+    let many : n - 0 ≡ length cs = omega (arith, p .count) in
+    ap₂ (λ (k : ℕ) (x : List ℕ). take k (drop 0 x)) many (p .places) ∙ put-front d cs
+
+pub placed-inside : {cs d l : List ℕ} {n : ℕ} → Placed cs d l n → n ≤ length l
+unfolding put
+placed-inside {cs} {d} p = omega (arith, p .count, ap length (p .places), length-append cs (drop (0 + length cs) d))

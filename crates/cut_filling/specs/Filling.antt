@@ -23,6 +23,11 @@ abbrev pub Weighed : Filling → ℕ → ℕ → ℕ → ℕ → List ℕ → Fi
 Weighed f i cost beside start l f′ l′ =
     (r : Rule) (c : Cutting) (d : List ℕ) → r .start ≡ start → r .beside (c .first) i ≡ beside → Listed f c d l → Listed f′ (weigh r c i cost) d l′
 
+-- the places cs stand at the front of the lent list, which came as d, and n is how many there are
+pub record Placed (cs d l : List ℕ) (n : ℕ) : Type 0 where
+  pub count : n ≡ length cs
+  pub places : l ≡ put d 0 cs
+
 -- the items below i have been weighed by the rule
 pub record Filled (r : Rule) (d : List ℕ) (i : ℕ) (f : Filling) (l : List ℕ) : Type 0 where
   pub listed : Listed f (after r i) d l

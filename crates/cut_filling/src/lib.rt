@@ -1,6 +1,6 @@
 // The step that both formats share: an item is weighed, and goes into the table that is being filled or starts the next one.
 ghost use mathlib.Core.Path.{_≡_};
-ghost use Prim.Native.Nat.{_≤_, _<_};
+ghost use Prim.Native.Nat.{_<_};
 ghost use lib.ListN.{length};
 ghost use Rattle.cut_rules.specs.Cuts.{Rule, after};
 ghost use Rattle.folds.specs.Moments.{came, left};

@@ -30,7 +30,8 @@ use Rattle.mark_rules.proofs.Checks.{Parts, parts-read, at-slots}
 use Rattle.mark_rules.proofs.LinkCounts.{fresh-many, many-links}
 use Rattle.mark_links.specs.declared.Arrays.{Arrays}
 use Rattle.mark_links.specs.Copies.{inUse, Copied}
-use Rattle.mark_links.specs.Splitting.{newCopies, Ready, markPlaces, Splitting, Split}
+use Rattle.mark_order.specs.Marks.{markPlaces}
+use Rattle.mark_links.specs.Splitting.{newCopies, Ready, Splitting, Split}
 use Rattle.mark_links.proofs.SameLinks.{same-links}
 
 module _ (b o ls counts : List ℕ) (t : ℕ) (a : Arrays) (ps ks cs : List ℕ) (g : Splitting (lent b o ls counts) t a ps ks cs) where

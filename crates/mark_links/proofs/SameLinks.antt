@@ -23,7 +23,8 @@ use Rattle.mark_rules.specs.Table.{Mark, inRange, classesOf, markBytes, marksIn
 use Rattle.mark_rules.specs.Written.{noMark, perTable, markLinks, baseLinks, arrayLinks, tableLinks, freshLinks}
 use Rattle.mark_links.specs.declared.Arrays.{Arrays}
 use Rattle.mark_links.specs.Copies.{oldSlot, markCopies, baseCopies, arrayCopies, tableCopies}
-use Rattle.mark_links.specs.Splitting.{placesIn, tableTurn, tablesCopies, newCopies, markPlaces, Splitting}
+use Rattle.mark_order.specs.Marks.{markPlaces}
+use Rattle.mark_links.specs.Splitting.{placesIn, tableTurn, tablesCopies, newCopies, Splitting}
 
 mapped-at : {A B : Type 0} (f : A → B) (xs : List A) (k : ℕ) (d : A) (e : B) → k < length xs → getD (map f xs) k e ≡ f (getD xs k d)
 mapped-at f [] k d e l = absurd (not-suc-le-zero l)

@@ -4,10 +4,9 @@ use mathlib.Core.Path.{_≡_}
 use mathlib.Core.Bool.{true}
 use mathlib.Core.List.{List, _++_, map}
 use lib.ListN.{length, getD}
-use Rattle.folds.specs.Folds.{flat, upto}
+use Rattle.folds.specs.Folds.{flat}
 use Rattle.folds.specs.Lists.{put}
-use Rattle.ot_layouts.specs.Coverage.{Entry}
-use Rattle.ot_layouts.specs.MarkBasePos.{baseCoverAt, markClass}
+use Rattle.ot_layouts.specs.MarkBasePos.{baseCoverAt}
 use Rattle.glyph_rules.specs.Entries.{within}
 use Rattle.store_rules.specs.Store.{Store, Link, lent, perLink, linkedAt}
 use Rattle.store_rules.specs.Appended.{rowNumbers, newNumber}
@@ -16,7 +15,8 @@ use Rattle.cut_rules.specs.Places.{Places}
 use Rattle.cut_rules.specs.Ranges.{from, to}
 use Rattle.cut_parts.specs.Tables.{paired, Parted}
 use Rattle.cut_parts.specs.Order.{Arranged}
-use Rattle.mark_rules.specs.Table.{classesOf, markArray, markBytes, marksIn, baseArray, basesIn, allAtSlots}
+use Rattle.mark_rules.specs.Table.{classesOf, markArray, baseArray, basesIn, allAtSlots}
+use Rattle.mark_order.specs.Marks.{markPlaces}
 use Rattle.mark_rules.specs.Written.{perTable, needLinks, newLinks}
 use Rattle.mark_rules.specs.Reads.{Reads}
 use Rattle.mark_links.specs.declared.Arrays.{Arrays}
@@ -53,10 +53,6 @@ pub record Ready (ls counts : List ℕ) (a : Arrays) (ps ks cs : List ℕ) : Typ
   pub room : Room ls counts (getD counts 2 0) (newCopies (inUse ls counts) a ps ks cs (getD counts 1 0))
 
 -- ---- for a caller
-
--- the marks' places, with their classes
-abbrev pub markPlaces : Store → ℕ → List Entry
-markPlaces s t = upto (λ i. record { glyph = i; class = markClass (markBytes s t) i }) (marksIn s t)
 
 -- what is known when table t of s is to be split at cs: the checks are passed, the arrays are the table's, the marks' places are arranged by new table, and
 -- there is room

@@ -56,9 +56,10 @@ use Rattle.mark_rules.specs.Table.{
   allAtSlots,
   ofClasses,
 }
+use Rattle.mark_order.specs.Marks.{markPlaces}
 use Rattle.mark_points.specs.declared.«table_info».TableInfo.{TableInfo}
 use Rattle.mark_points.specs.Anchors.{columnSlots, alsoClass}
-use Rattle.mark_points.specs.Points.{placesOf, Described}
+use Rattle.mark_points.specs.Points.{Described}
 
 -- ---- ranges of classes
 
@@ -181,16 +182,16 @@ module _ {s : Store} {t : ℕ} {x : TableInfo} {ps cs : List ℕ} (u : Described
   module _ (i : ℕ) where
     -- the places of its marks
     abbrev its : List ℕ
-    its = part ps (startOf (placesOf s t) i) (startOf (placesOf s t) (i + 1))
+    its = part ps (startOf (markPlaces s t) i) (startOf (markPlaces s t) (i + 1))
 
     -- a mark is at one of them exactly if it is of the class
     in-class : (m : ℕ) → m < marksIn s t → among m its ≡ inRange i (i + 1) (markClass (markBytes s t) m)
-    unfolding placesOf within
+    unfolding within
     in-class m h =
         let entry : ℕ → Entry = λ j. record { glyph = j; class = markClass (markBytes s t) j } in
         let test : Entry → Bool = λ e. leb i (e .class) && ltb (e .class) (i + 1) in
         ap (among m)
-        (class-part (placesOf s t) (u .ordered .up) (u .ordered .under) (u .ordered .byClass) i
+        (class-part (markPlaces s t) (u .ordered .up) (u .ordered .under) (u .ordered .byClass) i
         ∙ ap (map (λ e. e .glyph)) (sift-upto test entry (marksIn s t))
         ∙ map-picked (λ e. e .glyph) (λ j. test (entry j)) entry (marksIn s t))
         ∙ among-picked (λ j. test (entry j)) (marksIn s t) m h

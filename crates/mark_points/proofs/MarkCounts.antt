@@ -21,8 +21,9 @@ use Rattle.glyph_class_parts.specs.ClassParts.{startOf, ClassEnd}
 use Rattle.glyph_class_parts.proofs.ClassParts.{starts-rise, starts-most, starts-none, length-glyphs, length-classes, class-part, class-ends}
 use Rattle.mark_rules.specs.Table.{Mark, marksIn, markBytes, marksOfClass, inRange}
 use Rattle.mark_rules.specs.Table as Table
+use Rattle.mark_order.specs.Marks.{markPlaces}
 use Rattle.mark_points.specs.declared.«table_info».TableInfo.{TableInfo}
-use Rattle.mark_points.specs.Points.{placesOf, Described}
+use Rattle.mark_points.specs.Points.{Described}
 use Rattle.mark_points.proofs.ClassLinks.{marks-most}
 
 -- ---- of one class
@@ -32,8 +33,8 @@ module _ (s : Store) (t i : ℕ) where
   abbrev counted : ℕ
   counted = sum (λ k. one (inRange i (i + 1) (markClass (markBytes s t) k))) (marksIn s t)
 
-  places-counted : length (within i (i + 1) (placesOf s t)) ≡ counted
-  unfolding placesOf within
+  places-counted : length (within i (i + 1) (markPlaces s t)) ≡ counted
+  unfolding within
   places-counted =
       let entry : ℕ → Entry = λ j. record { glyph = j; class = markClass (markBytes s t) j } in
       let test : Entry → Bool = λ e. leb i (e .class) && ltb (e .class) (i + 1) in
@@ -50,44 +51,43 @@ module _ (s : Store) (t i : ℕ) where
 module _ {s : Store} {t : ℕ} {x : TableInfo} {ps cs : List ℕ} (u : Described s t x ps cs) where
   -- where a class's marks start
   abbrev start : ℕ → ℕ
-  start i = startOf (placesOf s t) i
+  start i = startOf (markPlaces s t) i
 
   start-inside : (i : ℕ) → start i ≤ length ps
   start-inside i =
       omega (
         arith,
-        starts-most (placesOf s t) (u .ordered .up) (u .ordered .under) i,
-        length-glyphs (placesOf s t) (u .ordered .up) (u .ordered .under) (u .ordered .byClass),
+        starts-most (markPlaces s t) (u .ordered .up) (u .ordered .under) i,
+        length-glyphs (markPlaces s t) (u .ordered .up) (u .ordered .under) (u .ordered .byClass),
       )
 
   pub start-few : (i : ℕ) → start i ≤ 4194304
-  unfolding placesOf
   start-few i =
       let entry : ℕ → Entry = λ j. record { glyph = j; class = markClass (markBytes s t) j } in
-      omega (arith, starts-most (placesOf s t) (u .ordered .up) (u .ordered .under) i, length-upto entry (marksIn s t), marks-most u)
+      omega (arith, starts-most (markPlaces s t) (u .ordered .up) (u .ordered .under) i, length-upto entry (marksIn s t), marks-most u)
 
   pub start-none : 0 ≡ start 0
-  start-none = sym (starts-none (placesOf s t) (u .ordered .up) (u .ordered .under))
+  start-none = sym (starts-none (markPlaces s t) (u .ordered .up) (u .ordered .under))
 
   pub start-of : (i from : ℕ) → from ≡ start i → from ≤ length cs
   start-of i from e =
       omega (
         arith,
-        starts-most (placesOf s t) (u .ordered .up) (u .ordered .under) i,
-        length-classes (placesOf s t) (u .ordered .up) (u .ordered .under) (u .ordered .byClass),
+        starts-most (markPlaces s t) (u .ordered .up) (u .ordered .under) i,
+        length-classes (markPlaces s t) (u .ordered .up) (u .ordered .under) (u .ordered .byClass),
       )
 
   class-many : (i : ℕ) → start i + marksOfClass s t i ≡ start (i + 1)
   class-many i =
-      let rise = starts-rise (placesOf s t) (u .ordered .up) (u .ordered .under) i (i + 1) (omega arith) in
-      let its = class-part (placesOf s t) (u .ordered .up) (u .ordered .under) (u .ordered .byClass) i in
-      let many = length-map (within i (i + 1) (placesOf s t)) (λ e. e .glyph) in
+      let rise = starts-rise (markPlaces s t) (u .ordered .up) (u .ordered .under) i (i + 1) (omega arith) in
+      let its = class-part (markPlaces s t) (u .ordered .up) (u .ordered .under) (u .ordered .byClass) i in
+      let many = length-map (within i (i + 1) (markPlaces s t)) (λ e. e .glyph) in
       omega (arith, length-part ps (start i) (start (i + 1)) rise (start-inside (i + 1)), ap length its, many, places-counted s t i, marks-counted s t i)
 
   -- where the class ends
   module _ (i : ℕ) {from to : ℕ} (at : from ≡ start i) (e : ClassEnd cs from i to) where
     pub ends-at : to ≡ start (i + 1)
-    ends-at = class-ends (placesOf s t) (u .ordered .up) (u .ordered .under) (u .ordered .byClass) i (rw at at e)
+    ends-at = class-ends (markPlaces s t) (u .ordered .up) (u .ordered .under) (u .ordered .byClass) i (rw at at e)
 
     pub ends-inside : to ≤ length ps
     ends-inside = omega (arith, ends-at, start-inside (i + 1))

@@ -17,14 +17,14 @@ use Rattle.store_walk.proofs.Grown.{grown-item, grown-same, grown-most}
 use Rattle.glyph_class_parts.specs.ClassParts.{ClassEnd}
 use Rattle.cut_rules.specs.Cuts.{Rule, Cutting, weigh, goOn, cutHere, after}
 use Rattle.cut_filling.specs.declared.Filling.{Filling}
-use Rattle.cut_filling.specs.Filling.{Fills, Weighed, Listed}
-use Rattle.cut_filling.proofs.Turns.{filled-start, goes-on, added, cuts-room, cuts-here, one-more, cut, all-counted, all-listed}
+use Rattle.cut_filling.specs.Filling.{Fills, Weighed, Listed, Placed}
+use Rattle.cut_filling.proofs.Turns.{filled-start, goes-on, added, cuts-room, cuts-here, one-more, cut, all-placed}
 use Rattle.mark_rules.specs.Rules.{partialCover, markRule}
 use Rattle.mark_rules.specs.Table.{classesOf, basesIn, marksOfClass, ofClasses, ruleOf, cutPlaces}
 use Rattle.mark_points.specs.declared.«table_info».TableInfo.{TableInfo}
 use Rattle.mark_points.specs.declared.Columns.{Columns}
 use Rattle.mark_points.specs.Anchors.{alsoClass}
-use Rattle.mark_points.specs.Points.{Described, Ready, cuttingAt, Below, Placed}
+use Rattle.mark_points.specs.Points.{Described, Ready, cuttingAt, Below}
 use Rattle.mark_points.proofs.ClassLinks.{described-fits, class-more, class-none}
 use Rattle.mark_points.proofs.MarkCounts.{start-few, start-none, ends-at, ends-inside, marks-are, covered, covered-more, covered-none, covered-few}
 
@@ -175,11 +175,9 @@ module _ {s : Store} {t : ℕ} {x : TableInfo} {ps cs d : List ℕ} {i : ℕ} {p
 -- ---- after the last class
 
 pub columns-stop : {s : Store} {t : ℕ} {x : TableInfo} {ps cs d : List ℕ} {i : ℕ} {p : Columns} {w l : List ℕ}
-    → Below s t x ps cs d i p w l → i ≡ x .classes → Placed s t d l (p .filling .cuts)
+    → Below s t x ps cs d i p w l → i ≡ x .classes → Placed (cutPlaces s t) d l (p .filling .cuts)
 unfolding cutPlaces
-columns-stop {s} {t} v e =
-    let all = e ∙ v .described .classes ∙ sym (count-is s t) in
-    record { count = all-counted (ruleOf s t) (v .filled) all; places = all-listed (ruleOf s t) (v .filled) all }
+columns-stop {s} {t} v e = all-placed (ruleOf s t) (v .filled) (e ∙ v .described .classes ∙ sym (count-is s t))
 
 -- ---- the loop, whatever the bytes of the store and the table
 

@@ -5,24 +5,19 @@ use mathlib.Core.Bool.{true, cond}
 use mathlib.Core.List.{List}
 use lib.Dec.{leb}
 use lib.ListN.{length}
-use Rattle.folds.specs.Folds.{sum, upto}
-use Rattle.folds.specs.Lists.{put}
-use Rattle.ot_layouts.specs.Coverage.{Entry}
-use Rattle.ot_layouts.specs.MarkBasePos.{baseCoverAt, markClass}
+use Rattle.folds.specs.Folds.{sum}
+use Rattle.ot_layouts.specs.MarkBasePos.{baseCoverAt}
 use Rattle.store_rules.specs.Store.{Store, lent, sizeOf, linkedAt}
 use Rattle.store_rules.specs.Reach.{rowsOf}
 use Rattle.store_walk.specs.Marks.{noRow, Marks}
 use Rattle.glyph_class_parts.specs.ClassParts.{startOf, Ordered}
 use Rattle.cut_rules.specs.Cuts.{Cutting, after}
-use Rattle.cut_filling.specs.Filling.{Filled}
-use Rattle.mark_rules.specs.Table.{classesOf, markArray, markBytes, marksIn, baseArray, basesIn, marksOfClass, allAtSlots, ofClasses, ruleOf, cutPlaces}
+use Rattle.cut_filling.specs.Filling.{Placed, Filled}
+use Rattle.mark_rules.specs.Table.{classesOf, markArray, baseArray, basesIn, marksOfClass, allAtSlots, ofClasses, ruleOf, cutPlaces}
 use Rattle.mark_rules.specs.Reads.{Reads}
+use Rattle.mark_order.specs.Marks.{markPlaces}
 use Rattle.mark_points.specs.declared.«table_info».TableInfo.{TableInfo}
 use Rattle.mark_points.specs.declared.Columns.{Columns}
-
--- the marks' places, each with its class
-unfoldable pub placesOf : Store → ℕ → List Entry
-placesOf s t = upto (λ i. record { glyph = i; class = markClass (markBytes s t) i }) (marksIn s t)
 
 -- the numbers are those of table t, whose links and those of its arrays stand at slots, and the places are its marks', by class
 pub record Described (s : Store) (t : ℕ) (x : TableInfo) (ps cs : List ℕ) : Type 0 where
@@ -33,7 +28,7 @@ pub record Described (s : Store) (t : ℕ) (x : TableInfo) (ps cs : List ℕ) : 
   pub classes : x .classes ≡ classesOf s t
   pub bases : x .bases ≡ basesIn s t
   pub start : x .start ≡ 16 + sizeOf s (linkedAt s t baseCoverAt)
-  pub ordered : Ordered (placesOf s t) ps cs
+  pub ordered : Ordered (markPlaces s t) ps cs
   -- an epoch for each table that may come
   pub epochs : x .epoch + x .classes < 2147483648
 
@@ -54,7 +49,7 @@ pub record Below (s : Store) (t : ℕ) (x : TableInfo) (ps cs d : List ℕ) (i :
   pub filled : Filled (ruleOf s t) d i (p .filling) l
   pub order : cuttingAt s t i .seen ≤ i
   pub marks : Marks s (rowsOf s (ofClasses s t) (cuttingAt s t i .seen) i) (x .epoch + p .filling .cuts) w
-  pub from : p .from ≡ startOf (placesOf s t) i
+  pub from : p .from ≡ startOf (markPlaces s t) i
   pub coverage : p .partial ≡ 4 + 2 * sum (λ k. cond (leb (cuttingAt s t i .first) k) (marksOfClass s t k) 0) i
 
 -- class i was weighed, whatever the bytes of the store and the table
@@ -62,11 +57,6 @@ abbrev pub Weighs : List ℕ → List ℕ → List ℕ → TableInfo → List �
 Weighs o l c x ps cs i p w cuts p′ w′ cuts′ =
     (b : List ℕ) (t : ℕ) (d : List ℕ) → Below (lent b o l c) t x ps cs d i p w cuts → Below (lent b o l c) t x ps cs d (i + 1) p′ w′ cuts′
 
--- the cut places stand at the front of the lent list, which came as d, and r is how many there are
-pub record Placed (s : Store) (t : ℕ) (d l : List ℕ) (r : ℕ) : Type 0 where
-  pub count : r ≡ length (cutPlaces s t)
-  pub places : l ≡ put d 0 (cutPlaces s t)
-
 -- all classes were weighed
 abbrev pub Places : List ℕ → List ℕ → List ℕ → TableInfo → List ℕ → List ℕ → List ℕ → List ℕ → List ℕ → ℕ → Type 0
-Places o l c x ps cs w cuts cuts′ r = (b : List ℕ) (t : ℕ) → Ready (lent b o l c) t x ps cs w cuts → Placed (lent b o l c) t cuts cuts′ r
+Places o l c x ps cs w cuts cuts′ r = (b : List ℕ) (t : ℕ) → Ready (lent b o l c) t x ps cs w cuts → Placed (cutPlaces (lent b o l c) t) cuts cuts′ r

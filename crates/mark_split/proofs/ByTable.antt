@@ -38,7 +38,7 @@ use Rattle.mark_order.specs.Marks.{entriesBy}
 use Rattle.mark_order.proofs.Entries.{numbers-are}
 use Rattle.mark_new_objects.specs.Marks.{entriesFrom}
 use Rattle.mark_new_objects.proofs.Stored.{entries-are, stored-ascend}
-use Rattle.mark_links.specs.Splitting.{markPlaces}
+use Rattle.mark_order.specs.Marks.{markPlaces}
 use Rattle.mark_split.specs.Arranging.{Numbered, Arranging}
 
 -- ---- ascending numbers of the marks of an array

@@ -4,3 +4,5 @@ mod Counting
 mod StillOpen
 mod LinksAfter
 mod StoreAfter
+mod SplitAt
+mod Fronts

@@ -13,7 +13,8 @@ use Rattle.mark_checks.specs.declared.MarkTable.{MarkTable}
 use Rattle.mark_checks.specs.Opens.{Opens}
 use Rattle.mark_checks.proofs.Opened.{bases-are}
 use Rattle.mark_links.specs.declared.Arrays.{Arrays}
-use Rattle.mark_links.specs.Splitting.{markPlaces, Splitting}
+use Rattle.mark_order.specs.Marks.{markPlaces}
+use Rattle.mark_links.specs.Splitting.{Splitting}
 use Rattle.mark_split.specs.Arranging.{Arranging}
 use Rattle.mark_split.specs.Carrying.{Relinking}
 use Rattle.mark_split.proofs.StillOpen.{classes-same, places-same, still-open}

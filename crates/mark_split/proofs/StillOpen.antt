@@ -38,7 +38,7 @@ use Rattle.mark_rules.specs.Reads.{Reads}
 use Rattle.mark_checks.specs.declared.Array.{Array}
 use Rattle.mark_checks.specs.declared.MarkTable.{MarkTable}
 use Rattle.mark_checks.specs.Opens.{LinkedArray, Opens}
-use Rattle.mark_links.specs.Splitting.{markPlaces}
+use Rattle.mark_order.specs.Marks.{markPlaces}
 
 module _ {s : Store} {t : ℕ} {d o : List ℕ} (b : Behind s d o) (reads : Reads s t) where
   abbrev s′ : Store

@@ -31,7 +31,7 @@ use Rattle.mark_new_objects.specs.Marks.{entryFrom}
 use Rattle.mark_new_objects.specs.Planned.{Planned}
 use Rattle.mark_new_objects.specs.Objects.{objectsOf}
 use Rattle.mark_new_objects.proofs.Stored.{stored-objects, stored-plan}
-use Rattle.mark_split.specs.Carrying.{Relinking, Carrying, Carried}
+use Rattle.mark_split.specs.Carrying.{Relinking, Carrying, CutAt}
 
 module _ {s : Store} {t : ℕ} {p : MarkTable} {n : Needs} {gs ks set cs list : List ℕ} (k : Carrying s t p n gs ks set cs list) where
   abbrev new : List (List ℕ)
@@ -133,7 +133,7 @@ module _ {s : Store} {t : ℕ} {p : MarkTable} {n : Needs} {gs ks set cs list : 
 
     pub carried : {d′ ls list′ : List ℕ} {rows : ℕ} → Split s t cs ls rows → d′ ≡ put d (getD o (2 * t) 0 + classCountAt) (be16 (from cs 0))
         → list′ ≡ put list 0 (upto (λ j. s .objectCount + 4 * j) (length cs))
-        → Carried s t cs list (lent d′ o ls (r ∷ (s .objectCount + n .objects) ∷ rows ∷ [])) list′
+        → CutAt s t cs list (lent d′ o ls (r ∷ (s .objectCount + n .objects) ∷ rows ∷ [])) list′
     unfolding needed needsOf splitStore appended keptTable withBytes newTables
     carried split kept numbered =
         let many = ap (λ (x : Needs). x .objects) (k .measured .needs) ∙ sym (new-many (marksOf s t) (basesIn s t) (classesOf s t) cs) in

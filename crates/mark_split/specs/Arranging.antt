@@ -11,7 +11,7 @@ use Rattle.mark_rules.specs.Table.{classesOf, marksOf}
 use Rattle.mark_checks.specs.declared.MarkTable.{MarkTable}
 use Rattle.mark_checks.specs.Opens.{Opens}
 use Rattle.mark_new_objects.specs.Marks.{entriesFrom}
-use Rattle.mark_links.specs.Splitting.{markPlaces}
+use Rattle.mark_order.specs.Marks.{markPlaces}
 
 -- ascending numbers for the marks of the array b, lists and scratch that are long enough, and places at which n classes can be cut
 pub record Numbered (b xs ks set cs : List ℕ) (n : ℕ) : Type 0 where

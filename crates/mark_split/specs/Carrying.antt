@@ -4,12 +4,12 @@ use mathlib.Core.Path.{_≡_}
 use mathlib.Core.Bool.{true, false}
 use mathlib.Core.List.{List}
 use lib.ListN.{length}
-use Rattle.folds.specs.Lists.{put}
 use Rattle.store_rules.specs.Store.{Store, perLink}
 use Rattle.store_rules.specs.Appended.{newNumber}
 use Rattle.store_object_rows.specs.Objects.{Behind}
 use Rattle.call_rules.specs.declared.Needs.{Needs}
 use Rattle.call_rules.specs.Needs.{roomShort}
+use Rattle.call_lists.specs.Split.{Carried}
 use Rattle.cut_rules.specs.Places.{Places}
 use Rattle.mark_rules.specs.Table.{classesOf, allAtSlots}
 use Rattle.mark_rules.specs.Written.{perTable, needLinks, splitStore, newTables}
@@ -36,7 +36,6 @@ pub record Carrying (s : Store) (t : ℕ) (p : MarkTable) (n : Needs) (gs ks set
   pub scratch : 8192 ≤ length set
   pub room : roomShort s list n ≡ false
 
--- the store after the split, and the new tables' numbers at the front of the list
-pub record Carried (s : Store) (t : ℕ) (cs list : List ℕ) (s′ : Store) (list′ : List ℕ) : Type 0 where
-  pub store : s′ ≡ splitStore s t cs
-  pub list-is : list′ ≡ put list 0 (newTables s t cs)
+-- it is carried out
+abbrev pub CutAt : Store → ℕ → List ℕ → List ℕ → Store → List ℕ → Type 0
+CutAt s t cs list s′ list′ = Carried (splitStore s t cs) (newTables s t cs) list s′ list′

@@ -1,3 +1,4 @@
 pub mod Arranging
 pub mod Measuring
 pub mod Carrying
+pub mod Splitting

@@ -18,7 +18,7 @@ ghost use Rattle.ot_layouts.specs.MarkBasePos.{classCountAt};
 ghost use Rattle.store_rules.specs.Store.{lent};
 ghost use Rattle.store_rules.specs.Moments.{storeCame, storeLeft, storeNow};
 ghost use Rattle.mark_links.specs.Splitting.{Split};
-ghost use Rattle.mark_split.specs.Carrying.{Relinking, Carrying, Carried};
+ghost use Rattle.mark_split.specs.Carrying.{Relinking, Carrying, CutAt};
 
 // The table keeps its first `count` classes.
 fn keep_classes(data: &mut [u8], objects: &[u32], table: u32, count: u16)
@@ -91,7 +91,7 @@ pub fn carry_out(
         (now «new_tables»)
         ⌝ }
     ensures { λ _. ⌜
-        Carried (storeCame «data» objects links counts) table (came cuts) (came «new_tables») (storeLeft «data» objects links counts)
+        CutAt (storeCame «data» objects links counts) table (came cuts) (came «new_tables») (storeLeft «data» objects links counts)
         (left «new_tables»)
         ⌝ }
 {

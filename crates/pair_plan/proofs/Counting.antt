@@ -1,28 +1,24 @@
 -- The cuts of a plan are below 65,536, and stand in the scratch. Assumes nothing.
-use Prim.Native.Nat.{ℕ, _+_, _≤_, _<_}
-use mathlib.Core.Path.{ap}
+use Prim.Native.Nat.{ℕ, _≤_, _<_}
 use mathlib.Core.List.{List}
 use native.Mathlib.Omega.{arith}
-use lib.ListN.{length, drop, length-append}
-use Rattle.folds.specs.Lists.{put, Bytes}
+use lib.ListN.{length}
+use Rattle.folds.specs.Lists.{Bytes}
 use Rattle.store_rules.specs.Store.{Store}
 use Rattle.pair_rules.specs.Table.{shape, cutPlaces}
 use Rattle.call_rules.specs.Scratch.{Scratch}
 use Rattle.pair_rules.proofs.Checks.{count-bits}
+use Rattle.cut_filling.proofs.Turns.{placed-inside}
 use Rattle.cut_rules.proofs.CutPlaces.{few-places}
 use Rattle.pair_rules.proofs.TableCuts.{table-cuts}
 use Rattle.pair_plan.specs.declared.Plan.{Plan}
 use Rattle.pair_plan.specs.declared.Decision.{Decision}
 use Rattle.pair_plan.specs.Decided.{Planned, Decided, HandingOut}
 
-front-long : (d xs : List ℕ) → length xs ≤ length (put d 0 xs)
-unfolding put
-front-long d xs = omega (arith, length-append xs (drop (0 + length xs) d))
-
 pub planned-few : {s : Store} {t : ℕ} {w : Scratch} {p : Plan} {gs ks cuts : List ℕ} → Bytes (s .bytes) → Planned s t w p gs ks cuts → (p .cuts ≤ length cuts) × (p .cuts < 65536)
 planned-few {s} {t} {w} octets x =
     let z = x .cut .placed in (
-      omega (arith, z .count, ap length (z .places), front-long (w .cuts) (cutPlaces s t)),
+      placed-inside z,
       omega (arith, z .count, few-places (shape s t .count) (cutPlaces s t) (table-cuts s t), count-bits s t octets),
     )
 

@@ -1,7 +1,7 @@
 -- What the decision rests on: the checks that need no scratch, the cut places, and whether there is a cycle. Assumes nothing.
 use Prim.Native.Nat.{ℕ, _*_, _≤_, _<_}
 use mathlib.Core.Path.{_≡_, sym, ap, ap₂, subst, _∙_}
-use mathlib.Core.Bool.{Bool}
+use mathlib.Core.Bool.{Bool, true}
 use mathlib.Core.List.{List}
 use mathlib.Core.Logic.{_⊎_, inr}
 use mathlib.Core.Option.{some}
@@ -10,17 +10,17 @@ use lib.ListN.{length, getD}
 use borrow.Author.Tests.{lt-ltb, le-ltb}
 use Rattle.call_rules.specs.declared.Answer.{Answer}
 use Rattle.call_rules.specs.declared.Answer.the-variants.{BadLinks}
-use Rattle.store_rules.specs.Store.{Store, lent}
+use Rattle.store_rules.specs.Store.{Store, lent, sound}
 use Rattle.store_rules.specs.Reach.{onCycle}
 use Rattle.call_rules.specs.Scratch.{Scratch}
 use Rattle.call_rules.specs.Answers.{number, firstCase}
 use Rattle.pair_rules.specs.Calls.{cutCases}
+use Rattle.store_rules.proofs.Sound.{sound-fits}
 use Rattle.store_walk.specs.Marks.{Begun}
 use Rattle.pair_points.specs.Filled.{TellsCycle}
 use Rattle.pair_checks.specs.declared.PairTable.{PairTable}
 use Rattle.pair_checks.specs.declared.Checked.{Checked}
 use Rattle.pair_checks.specs.declared.Checked.the-variants as Checked
-use Rattle.pair_checks.specs.Opens.{Opens}
 use Rattle.pair_plan.specs.declared.Plan.{Plan}
 use Rattle.pair_plan.specs.declared.Decision.the-variants.{Cut, Settled}
 use Rattle.call_rules.specs.Scratch.{lengthsOf}
@@ -28,6 +28,7 @@ use Rattle.pair_checks.specs.Checked.{checkedAs}
 use Rattle.pair_checks.specs.Called.{calledOf}
 use Rattle.pair_plan.specs.Cutting.{Looked, CutsTable}
 use Rattle.pair_plan.specs.Decided.{Planned, Decided}
+use Rattle.pair_plan.proofs.Looking.{header-small}
 use Rattle.pair_checks.proofs.Called.{lookedLast, called, Passed, passed}
 
 -- ---- the call has its answer
@@ -47,9 +48,15 @@ module _ (b o l c : List ℕ) (t : ℕ) (w : Scratch) (p : PairTable) (e : calle
   last : {cycle : Bool} → cycle ≡ onCycle (lent b o l c) t → firstCase (cutCases (lent b o l c) t w) ≡ lookedLast (inr p) cycle
   last h = called (lent b o l c) t w ∙ ap₂ lookedLast e (sym h)
 
-  -- the table is open, and the walk's scratch long enough
-  pub can-begin : ((x : List ℕ) × Opens (lent x o l c) t p) × (2 * getD c 1 0 ≤ length (w .walk))
-  can-begin = ((b, pass .opens), pass .long .walk)
+  -- the table is in use, and the walk's scratch long enough
+  pub can-begin : ((x : List ℕ) × (sound (lent x o l c) ≡ true)) × (t < getD c 1 0) × (2 * getD c 1 0 ≤ length (w .walk))
+  can-begin = ((b, pass .opens .reads .sounds), pass .opens .reads .used, pass .long .walk)
+
+  pub header-fits : p .layout .header < 4294967296
+  header-fits = omega (arith, header-small (pass .opens))
+
+  pub table-small : t < 65536
+  table-small = omega (arith, pass .opens .reads .used, sound-fits (lent b o l c) (pass .opens .reads .sounds) .objectsMost)
 
   -- the table has a mark there
   pub table-marked : t < length (w .walk)

@@ -5,7 +5,7 @@ use mathlib.Core.Bool.{true}
 use mathlib.Core.List.{List}
 use mathlib.Core.Logic.{⊎-elim}
 use native.Mathlib.Omega.{arith}
-use lib.ListN.{length, getD, replicate, length-replicate, getD-replicate, List·getD-eq-default}
+use lib.ListN.{length, replicate, length-replicate, getD-replicate, List·getD-eq-default}
 use lib.Dec.{eqb}
 use Rattle.folds.proofs.Tests.{either}
 use Rattle.ot_layouts.specs.declared.Reading.{Reading}
@@ -14,11 +14,10 @@ use Rattle.ot_layouts.proofs.Shapes as Shapes
 use Rattle.ot_layouts.proofs.Shapes.{items-rise}
 use Rattle.ot_pairpos.specs.declared.Layout.{Layout}
 use Rattle.ot_pairpos.specs.Layout.{layoutOf}
-use Rattle.store_rules.specs.Store.{Store, lent, bytesOf, sizeOf, linkedAt}
-use Rattle.pair_rules.specs.Table.{shape}
+use Rattle.store_rules.specs.Store.{Store, bytesOf, sizeOf, linkedAt}
+use Rattle.pair_rules.specs.Table.{shape, cutPlaces}
 use Rattle.store_rules.proofs.Sound.{Fits, sound-fits, size-bytes}
 use Rattle.pair_rules.proofs.Checks.{count-bits}
-use Rattle.store_walk.specs.Marks.{noRow, Prepared, Ready}
 use Rattle.glyph_parts.specs.declared.Part.{Part}
 use Rattle.glyph_parts.specs.Parts.{LinkedPart}
 use Rattle.glyph_parts.proofs.Parts.{part-inside}
@@ -27,7 +26,8 @@ use Rattle.pair_checks.proofs.Refusals.{format-one, format-two}
 use Rattle.pair_checks.specs.Opens.{Opens}
 use Rattle.glyph_set.specs.GlyphSet.{Empty}
 use Rattle.pair_points.specs.declared.«table_info».TableInfo.{TableInfo}
-use Rattle.pair_points.specs.Filled.{Described, Unseen, TellsCycle, Placed}
+use Rattle.pair_points.specs.Filled.{Described, Unseen, TellsCycle}
+use Rattle.cut_filling.specs.Filling.{Placed}
 use Rattle.pair_points.specs.Format1.{Ready1}
 use Rattle.pair_points.specs.Format2.{Ready2}
 use Rattle.pair_points.proofs.Callers.{described}
@@ -77,11 +77,7 @@ module _ {s : Store} {t : ℕ} {p : PairTable} (o : Opens s t p) where
   rows-few : Bytes (s .bytes) → shape s t .count < 16777216
   rows-few octets = omega (arith, count-bits s t octets)
 
--- before the walk of the header's links
-pub can-walk : (b o l c : List ℕ) {t : ℕ} {p : PairTable} → Opens (lent b o l c) t p → {z : List ℕ} → Prepared l c z → (t < getD c 1 0) × Ready o l c noRow 1 z
-can-walk b o l c k q = (k .reads .used, record { bytes = b; is-sound = k .reads .sounds; marks = q b o (k .reads .sounds); early = omega arith })
-
--- and after it
+-- after the walk of the header's links
 walked-unseen : {s : Store} {t : ℕ} {p : PairTable} {w cuts : List ℕ} (c : ℕ) → Walked s t p w cuts → Unseen s (infoOf (s .objects) t p c) w cuts
 walked-unseen c k = record { marks = k .begun .marks; begun = omega arith; back = k .begun .back; room = k .room }
 
@@ -104,8 +100,8 @@ module _ {s : Store} {t : ℕ} {p : PairTable} {w cuts : List ℕ} (k : Looked1 
     pub sets-ready : Ready1 s x w cuts
     sets-ready = subst (λ (y : TableInfo). Ready1 s y w cuts) (sym e) ready1
 
-    pub sets-placed : {cuts′ : List ℕ} {r : ℕ} → (Ready1 s x w cuts → Placed s (x .table) cuts cuts′ r) → Placed s t cuts cuts′ r
-    sets-placed {cuts′} {r} f = subst (λ (y : TableInfo). Placed s (y .table) cuts cuts′ r) e (f sets-ready)
+    pub sets-placed : {cuts′ : List ℕ} {r : ℕ} → (Ready1 s x w cuts → Placed (cutPlaces s (x .table)) cuts cuts′ r) → Placed (cutPlaces s t) cuts cuts′ r
+    sets-placed {cuts′} {r} f = subst (λ (y : TableInfo). Placed (cutPlaces s (y .table)) cuts cuts′ r) e (f sets-ready)
 
     pub sets-tell : {w′ : List ℕ} → (Ready1 s x w cuts → TellsCycle s (x .table) w′) → TellsCycle s t w′
     sets-tell {w′} f = subst (λ (y : TableInfo). TellsCycle s (y .table) w′) e (f sets-ready)
@@ -135,8 +131,8 @@ module _ {s : Store} {t : ℕ} {p : PairTable} {gs ks w set cuts : List ℕ} (k 
     pub rows-ready : Ready2 s x gs ks w set′ cuts
     rows-ready = subst (λ (y : TableInfo). Ready2 s y gs ks w set′ cuts) (sym e) (subst (λ (y : List ℕ). Ready2 s (infoOf (s .objects) t p (p .class2 .object)) gs ks w y cuts) (sym z) ready2)
 
-    pub rows-placed : {cuts′ : List ℕ} {r : ℕ} → (Ready2 s x gs ks w set′ cuts → Placed s (x .table) cuts cuts′ r) → Placed s t cuts cuts′ r
-    rows-placed {cuts′} {r} f = subst (λ (y : TableInfo). Placed s (y .table) cuts cuts′ r) e (f rows-ready)
+    pub rows-placed : {cuts′ : List ℕ} {r : ℕ} → (Ready2 s x gs ks w set′ cuts → Placed (cutPlaces s (x .table)) cuts cuts′ r) → Placed (cutPlaces s t) cuts cuts′ r
+    rows-placed {cuts′} {r} f = subst (λ (y : TableInfo). Placed (cutPlaces s (y .table)) cuts cuts′ r) e (f rows-ready)
 
     pub rows-tell : {w′ : List ℕ} → (Ready2 s x gs ks w set′ cuts → TellsCycle s (x .table) w′) → TellsCycle s t w′
     rows-tell {w′} f = subst (λ (y : TableInfo). TellsCycle s (y .table) w′) e (f rows-ready)

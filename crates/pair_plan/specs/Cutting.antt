@@ -6,7 +6,7 @@ use mathlib.Core.List.{List}
 use lib.ListN.{length, getD}
 use Rattle.folds.specs.Lists.{put, Bytes}
 use Rattle.store_rules.specs.Store.{Store, lent}
-use Rattle.pair_rules.specs.Table.{entriesOf, allAtSlots}
+use Rattle.pair_rules.specs.Table.{entriesOf, allAtSlots, cutPlaces}
 use Rattle.glyph_sort.specs.Pairs.{keysOf, besideOf}
 use Rattle.store_walk.specs.Marks.{Begun}
 use Rattle.pair_checks.specs.declared.PairTable.{PairTable}
@@ -14,7 +14,8 @@ use Rattle.pair_checks.specs.Opens.{Opens}
 use Rattle.pair_points.specs.declared.«table_info».TableInfo.{TableInfo}
 use Rattle.glyph_sort.specs.ByClass.{classPairs}
 use Rattle.glyph_class_parts.specs.ClassParts.{Ordered}
-use Rattle.pair_points.specs.Filled.{TellsCycle, Placed}
+use Rattle.pair_points.specs.Filled.{TellsCycle}
+use Rattle.cut_filling.specs.Filling.{Placed}
 
 -- ---- the object beside the items
 
@@ -43,7 +44,7 @@ pub record Looked1 (s : Store) (t : ℕ) (p : PairTable) (w cuts : List ℕ) : T
 
 -- its places are found, whatever the bytes of the store
 abbrev pub Places1 : List ℕ → List ℕ → List ℕ → ℕ → PairTable → List ℕ → List ℕ → List ℕ → ℕ → Type 0
-Places1 o l c t p w cuts cuts′ r = (b : List ℕ) → Looked1 (lent b o l c) t p w cuts → Placed (lent b o l c) t cuts cuts′ r
+Places1 o l c t p w cuts cuts′ r = (b : List ℕ) → Looked1 (lent b o l c) t p w cuts → Placed (cutPlaces (lent b o l c) t) cuts cuts′ r
 
 -- and the walk tells of a cycle
 abbrev pub Tells1 : List ℕ → List ℕ → List ℕ → ℕ → PairTable → List ℕ → List ℕ → List ℕ → Type 0
@@ -72,7 +73,7 @@ pub record Looked2 (s : Store) (t : ℕ) (p : PairTable) (gs ks w set cuts : Lis
 
 -- its places are found, whatever the bytes of the store
 abbrev pub Places2 : List ℕ → List ℕ → List ℕ → ℕ → PairTable → List ℕ → List ℕ → List ℕ → List ℕ → List ℕ → List ℕ → ℕ → Type 0
-Places2 o l c t p gs ks w set cuts cuts′ r = (b : List ℕ) → Looked2 (lent b o l c) t p gs ks w set cuts → Placed (lent b o l c) t cuts cuts′ r
+Places2 o l c t p gs ks w set cuts cuts′ r = (b : List ℕ) → Looked2 (lent b o l c) t p gs ks w set cuts → Placed (cutPlaces (lent b o l c) t) cuts cuts′ r
 
 -- and the walk tells of a cycle
 abbrev pub Tells2 : List ℕ → List ℕ → List ℕ → ℕ → PairTable → List ℕ → List ℕ → List ℕ → List ℕ → List ℕ → List ℕ → Type 0
@@ -94,10 +95,10 @@ pub record Fronted (s : Store) (t : ℕ) (gs ks gs′ ks′ : List ℕ) : Type 0
 
 -- format 2: places and glyphs
 pub record CutsByClass (s : Store) (t : ℕ) (gs ks cuts gs′ ks′ cuts′ : List ℕ) (r : ℕ) : Type 0 where
-  pub placed : Placed s t cuts cuts′ r
+  pub placed : Placed (cutPlaces s t) cuts cuts′ r
   pub fronted : Fronted s t gs ks gs′ ks′
 
 -- both formats
 pub record CutsTable (s : Store) (t : ℕ) (p : PairTable) (gs ks cuts gs′ ks′ cuts′ : List ℕ) (r : ℕ) : Type 0 where
-  pub placed : Placed s t cuts cuts′ r
+  pub placed : Placed (cutPlaces s t) cuts cuts′ r
   pub fronted : (p .layout .format ≡ 1 → ⊥) → Fronted s t gs ks gs′ ks′

@@ -1,7 +1,7 @@
 -- What is decided before anything is written, and what a cut plan hands out. Assumes nothing.
 use Prim.Native.Nat.{ℕ, _≤_, _<_}
 use mathlib.Core.Path.{_≡_}
-use mathlib.Core.List.{List}
+use mathlib.Core.List.{List, []}
 use mathlib.Core.Option.{Option, some, none}
 use lib.ListN.{length}
 use Rattle.folds.specs.Lists.{part}
@@ -9,7 +9,6 @@ use Rattle.store_rules.specs.Store.{Store}
 use Rattle.call_rules.specs.Scratch.{Scratch}
 use Rattle.call_rules.specs.Answers.{number, firstCase}
 use Rattle.pair_rules.specs.Calls.{cutCases}
-use Rattle.call_lists.specs.Handed.{Handed, handed, placesHanded}
 use Rattle.pair_checks.specs.Opens.{Opens}
 use Rattle.pair_plan.specs.declared.Plan.{Plan}
 use Rattle.pair_plan.specs.declared.Decision.{Decision}
@@ -33,11 +32,11 @@ pub record Decided (s : Store) (t : ℕ) (w : Scratch) (d : Decision) (gs ks cut
 
 -- ---- what a cut plan hands out
 
--- "refuses as a split does by 1 to 7, and by 8 where places is shorter than the cuts"
-unfoldable pub handedOut : Decision → List ℕ → List ℕ → Handed
-handedOut (Settled a) cuts list = handed (number a) 0 list
-handedOut (Cut p) cuts list = placesHanded (part cuts 0 (p .cuts)) list
+-- the cuts of a plan, at the front of the scratch
+abbrev pub plannedCuts : Decision → List ℕ → List ℕ
+plannedCuts (Cut p) cuts = part cuts 0 (p .cuts)
+plannedCuts (Settled a) cuts = []
 
--- the cuts of a plan stand at the front of the scratch, and can be counted
+-- they stand there, and can be counted
 abbrev pub HandingOut : Decision → List ℕ → Type 0
 HandingOut d cuts = (p : Plan) → d ≡ Cut p → (p .cuts ≤ length cuts) × (p .cuts < 65536)

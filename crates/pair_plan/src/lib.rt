@@ -11,25 +11,18 @@ use cutting::cut_table;
 use pair_checks::Checked;
 use pair_checks::PairTable;
 use pair_checks::call::check_call;
-use store_walk::prepare;
-use store_walk::walk_before;
+use store_walk::begin_walk;
 ghost use mathlib.Core.Path.{_≡_};
-ghost use mathlib.Core.List.{List};
-ghost use Prim.Native.Nat.{ℕ, _*_, _≤_};
-ghost use lib.ListN.{length, getD};
-ghost use Rattle.store_rules.specs.Store.{lent};
 ghost use Rattle.call_rules.specs.Outcomes.{outcome};
 ghost use Rattle.pair_rules.specs.Calls.{planCall};
-ghost use Rattle.pair_checks.specs.Opens.{Opens};
-ghost use Rattle.store_walk.specs.Marks.{Begun};
 ghost use Rattle.call_rules.specs.Scratch.{lengthsOf};
 ghost use Rattle.folds.specs.Moments.{came, left};
 ghost use Rattle.store_rules.specs.Moments.{storeCameWith, storeNowWith};
 ghost use Rattle.call_rules.specs.Moments.{scratchCame, scratchLeft, scratchNow};
 ghost use Rattle.pair_checks.specs.Checked.{checkedAs};
 ghost use Rattle.pair_checks.specs.Called.{calledOf};
-ghost use Rattle.call_lists.specs.Handed.{handed};
-ghost use Rattle.pair_plan.specs.Decided.{Decided, handedOut, HandingOut};
+ghost use Rattle.call_lists.specs.Handed.{handed, handedBy};
+ghost use Rattle.pair_plan.specs.Decided.{decidedAs, Decided, plannedCuts, HandingOut};
 
 // A table that is not refused, and how many cuts it gets; they stand at the front of the scratch.
 pub struct Plan {
@@ -41,26 +34,6 @@ pub struct Plan {
 pub enum Decision {
     Cut(Plan),
     Settled(Answer),
-}
-
-// Walks what the links of the table's header lead to. The scratch may hold anything.
-fn begin_walk(
-    objects: &[u32],
-    links: &[u32],
-    counts: [u32; 3],
-    table: u32,
-    opened: PairTable,
-    walk: &mut [u32],
-)
-    requires { ⌜ ((b : List ℕ) × Opens (lent b (now objects) (now links) counts) table opened) ⌝ }
-    requires { ⌜ 2 * getD counts 1 0 ≤ length (now walk) ⌝ }
-    ensures { λ _. ⌜
-        ((b : List ℕ) → Begun (lent b (came objects) (came links) counts) table (opened .layout .header) (left walk))
-        ⌝ }
-{
-    let layout = opened.layout;
-    prepare(links, counts, walk);
-    walk_before(objects, links, counts, table, layout.header as u32, walk);
 }
 
 // The cut places, and the rest of check 7: what finds them has walked all that the table leads to. The scratch may hold anything.
@@ -86,7 +59,8 @@ pub fn decide_cuts(
         (left classes) (left cuts)
         ⌝ }
 {
-    begin_walk(objects, links, counts, table, opened, walk);
+    let layout = opened.layout;
+    begin_walk(objects, links, counts, table, layout.header as u32, walk);
     let count = cut_table(
         data,
         objects,
@@ -156,7 +130,7 @@ pub fn decide(
 // Hands out what was decided: the answer, and where it is 0 the places and their count.
 fn hand_out(decision: Decision, cuts: &[u16], places: &mut [u16], place_count: &mut u32) -> u32
     requires { ⌜ HandingOut decision (now cuts) ⌝ }
-    ensures { λ r. ⌜ handed r (left «place_count») (left places) ≡ handedOut decision (came cuts) (came places) ⌝ }
+    ensures { λ r. ⌜ handed r (left «place_count») (left places) ≡ handedBy (decidedAs decision) (plannedCuts decision (came cuts)) (came places) ⌝ }
 {
     match decision {
         Decision::Settled(answer) => {

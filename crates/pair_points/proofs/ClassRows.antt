@@ -15,7 +15,7 @@ use Rattle.cut_rules.specs.Cuts.{Rule, weigh, after}
 use Rattle.glyph_rules.specs.Entries.{within}
 use Rattle.glyph_rules.specs.Estimates.{estimate, coverSize, classSize, besideRows}
 use Rattle.pair_rules.specs.Rules.{rule2}
-use Rattle.pair_rules.specs.Table.{shape, entriesOf, ruleOf, ofItems}
+use Rattle.pair_rules.specs.Table.{shape, entriesOf, ruleOf, ofItems, cutPlaces}
 use Rattle.store_rules.proofs.Sound.{Fits, sound-fits, size-most}
 use Rattle.store_rules.proofs.Lookups.{linked-used}
 use Rattle.store_reader.specs.Rows.{keyOf, FirstRow}
@@ -26,9 +26,9 @@ use Rattle.pair_points.specs.declared.measuring.Measured.{Measured}
 use Rattle.pair_points.specs.declared.«table_info».TableInfo.{TableInfo}
 use Rattle.pair_row_classes.specs.declared.Classes.{Classes}
 use Rattle.pair_points.specs.declared.format2.Rows.{Rows}
-use Rattle.cut_filling.specs.Filling.{Fills, Weighed, Listed}
+use Rattle.cut_filling.specs.Filling.{Fills, Weighed, Listed, Placed}
 use Rattle.pair_points.specs.Measuring.{Measures}
-use Rattle.pair_points.specs.Filled.{Described, cuttingAt, TellsCycle, Placed}
+use Rattle.pair_points.specs.Filled.{Described, cuttingAt, TellsCycle}
 use Rattle.pair_row_classes.specs.Classes.{Holds, Begins}
 use Rattle.pair_points.specs.Format2.{Ready2, Below2}
 use Rattle.pair_points.proofs.Turns.{item-ends, filled-start, at-start, filled-stop, filled-back, added, cut}
@@ -131,7 +131,7 @@ module _ {s : Store} {x : TableInfo} {gs cs d : List ℕ} {i : ℕ} {p : Rows} {
         let (f, a, q) = cut s x (v .filled) y (x .item + m .size) looks costs listed e (omega (arith, row-most, y .most, start-two s (x .table) (v .table .format))) in
         record { table = v .table; filled = f; at = a; held = subst (λ (n : ℕ). Holds (entriesOf s (x .table)) gs n (i + 1) k′ set″) (sym q) h′ }
 
-pub rows-stop : {s : Store} {x : TableInfo} {gs cs d : List ℕ} {i : ℕ} {p : Rows} {w set l : List ℕ} → Below2 s x gs cs d i p w set l → i ≡ x .count → Placed s (x .table) d l (p .filling .cuts)
+pub rows-stop : {s : Store} {x : TableInfo} {gs cs d : List ℕ} {i : ℕ} {p : Rows} {w set l : List ℕ} → Below2 s x gs cs d i p w set l → i ≡ x .count → Placed (cutPlaces s (x .table)) d l (p .filling .cuts)
 rows-stop {p = p} v e = filled-stop (v .table .described) e (p .filling) (v .filled)
 
 pub rows-back : {s : Store} {x : TableInfo} {gs cs d : List ℕ} {i : ℕ} {p : Rows} {w set l : List ℕ} → Below2 s x gs cs d i p w set l → i ≡ x .count → TellsCycle s (x .table) w

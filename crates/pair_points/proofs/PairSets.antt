@@ -20,7 +20,7 @@ use Rattle.store_rules.specs.Store.{Store, lent, bytesOf, sizeOf, parentOf, pos
 use Rattle.store_rules.specs.Reach.{itemSize}
 use Rattle.cut_rules.specs.Cuts.{Rule, weigh, after}
 use Rattle.pair_rules.specs.Rules.{partialCover, rule1}
-use Rattle.pair_rules.specs.Table.{shape, allAtSlots, ruleOf, ofItems}
+use Rattle.pair_rules.specs.Table.{shape, allAtSlots, ruleOf, ofItems, cutPlaces}
 use Rattle.pair_rules.proofs.Checks.{at-slot}
 use Rattle.store_rules.proofs.Lookups.{child-row}
 use Rattle.store_reader.specs.Rows.{keyOf, FirstRow}
@@ -30,9 +30,9 @@ use Rattle.cut_filling.specs.declared.Filling.{Filling}
 use Rattle.pair_points.specs.declared.measuring.Measured.{Measured}
 use Rattle.pair_points.specs.declared.«table_info».TableInfo.{TableInfo}
 use Rattle.pair_points.specs.declared.format1.Sets.{Sets}
-use Rattle.cut_filling.specs.Filling.{Fills, Weighed, Listed}
+use Rattle.cut_filling.specs.Filling.{Fills, Weighed, Listed, Placed}
 use Rattle.pair_points.specs.Measuring.{At, Measures}
-use Rattle.pair_points.specs.Filled.{cuttingAt, AtItem, TellsCycle, Placed}
+use Rattle.pair_points.specs.Filled.{cuttingAt, AtItem, TellsCycle}
 use Rattle.pair_points.specs.Format1.{Ready1, linked, Below1}
 use Rattle.pair_points.proofs.ItemSizes.{at-fits, at-in-order}
 use Rattle.pair_points.proofs.Turns.{item-ends, filled-start, at-start, filled-stop, filled-back, passed, added, cut}
@@ -185,7 +185,7 @@ module _ {s : Store} {x : TableInfo} {d : List ℕ} {i : ℕ} {p : Sets} {w l : 
           let (f, a, q) = cut s x (v .filled) y (m .size + 2) looks costs listed e (omega (arith, y .most, start-one s (x .table) (v .table .format))) in
           record { table = v .table; filled = f; at = a; coverage = rw q (omega (arith, covered-none s (x .table) i, covered-more s (x .table) i i (omega arith) is-linked)) }
 
-pub sets-stop : {s : Store} {x : TableInfo} {d : List ℕ} {i : ℕ} {p : Sets} {w l : List ℕ} → Below1 s x d i p w l → i ≡ x .count → Placed s (x .table) d l (p .filling .cuts)
+pub sets-stop : {s : Store} {x : TableInfo} {d : List ℕ} {i : ℕ} {p : Sets} {w l : List ℕ} → Below1 s x d i p w l → i ≡ x .count → Placed (cutPlaces s (x .table)) d l (p .filling .cuts)
 sets-stop {p = p} v e = filled-stop (v .table .described) e (p .filling) (v .filled)
 
 pub sets-back : {s : Store} {x : TableInfo} {d : List ℕ} {i : ℕ} {p : Sets} {w l : List ℕ} → Below1 s x d i p w l → i ≡ x .count → TellsCycle s (x .table) w

@@ -18,12 +18,12 @@ use Rattle.store_walk.proofs.Marks.{marks-same}
 use Rattle.store_walk.proofs.Items.{items-none}
 use Rattle.store_walk.proofs.Cycles.{back-all}
 use Rattle.cut_filling.specs.declared.Filling.{Filling}
-use Rattle.cut_filling.specs.Filling.{Fills, Listed, Filled}
+use Rattle.cut_filling.specs.Filling.{Fills, Listed, Filled, Placed}
 use Rattle.cut_filling.proofs.Turns as Filling
 use Rattle.pair_points.specs.declared.measuring.Measured.{Measured}
 use Rattle.pair_points.specs.declared.«table_info».TableInfo.{TableInfo}
 use Rattle.pair_points.specs.Measuring.{At, Measures}
-use Rattle.pair_points.specs.Filled.{Described, Unseen, cuttingAt, AtItem, TellsCycle, Placed}
+use Rattle.pair_points.specs.Filled.{Described, Unseen, cuttingAt, AtItem, TellsCycle}
 use Rattle.pair_points.proofs.ItemSizes.{at-cut}
 
 -- ---- before the first item
@@ -117,11 +117,9 @@ module _ (s : Store) (x : TableInfo) {d : List ℕ} {i : ℕ} {f : Filling} {row
 -- ---- after the last item
 
 module _ {s : Store} {x : TableInfo} {i : ℕ} (u : Described s x) (e : i ≡ x .count) (f : Filling) where
-  pub filled-stop : {d l : List ℕ} → Filled (ruleOf s (x .table)) d i f l → Placed s (x .table) d l (f .cuts)
+  pub filled-stop : {d l : List ℕ} → Filled (ruleOf s (x .table)) d i f l → Placed (cutPlaces s (x .table)) d l (f .cuts)
   unfolding cutPlaces
-  filled-stop v =
-      let all = e ∙ all-items u in
-      record { count = Filling.all-counted (ruleOf s (x .table)) v all; places = Filling.all-listed (ruleOf s (x .table)) v all }
+  filled-stop v = Filling.all-placed (ruleOf s (x .table)) v (e ∙ all-items u)
 
   -- all of the table's rows have been walked
   pub filled-back : {row : ℕ} {w : List ℕ} → AtItem s x i f row w → TellsCycle s (x .table) w

@@ -5,11 +5,10 @@ use mathlib.Core.Bool.{true}
 use mathlib.Core.List.{List}
 use lib.Dec.{ltb}
 use lib.ListN.{length, getD}
-use Rattle.folds.specs.Lists.{put}
 use Rattle.ot_layouts.specs.PairPos.{itemAt}
 use Rattle.store_rules.specs.Store.{Store, sound, bytesOf}
 use Rattle.cut_rules.specs.Cuts.{Cutting, after}
-use Rattle.pair_rules.specs.Table.{shape, ruleOf, cutPlaces}
+use Rattle.pair_rules.specs.Table.{shape, ruleOf}
 use Rattle.store_rules.specs.Reach.{onCycle}
 use Rattle.store_reader.specs.Rows.{keyOf, FirstRow}
 use Rattle.store_walk.specs.Marks.{noRow, Back, Marks}
@@ -47,8 +46,3 @@ AtItem s x i f row w = At s (x .table) (shape s (x .table)) (cuttingAt s x i .se
 -- after the last item: the table has a mark exactly if it can be reached from itself
 pub record TellsCycle (s : Store) (t : ℕ) (w : List ℕ) : Type 0 where
   pub tells : ltb 0 (getD w t 0) ≡ onCycle s t
-
--- the cut places stand at the front of the lent list, which came as d, and r is how many there are
-pub record Placed (s : Store) (t : ℕ) (d l : List ℕ) (r : ℕ) : Type 0 where
-  pub count : r ≡ length (cutPlaces s t)
-  pub places : l ≡ put d 0 (cutPlaces s t)

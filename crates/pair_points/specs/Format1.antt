@@ -8,11 +8,11 @@ use Rattle.folds.specs.Folds.{sum}
 use Rattle.folds.specs.Lists.{isSome}
 use Rattle.ot_layouts.specs.PairPos.{itemAt}
 use Rattle.store_rules.specs.Store.{Store, lent, sizeOf, childAt, linkedAt}
-use Rattle.pair_rules.specs.Table.{shape, allAtSlots, ruleOf}
+use Rattle.pair_rules.specs.Table.{shape, allAtSlots, ruleOf, cutPlaces}
 use Rattle.pair_points.specs.declared.«table_info».TableInfo.{TableInfo}
 use Rattle.pair_points.specs.declared.format1.Sets.{Sets}
-use Rattle.cut_filling.specs.Filling.{Filled}
-use Rattle.pair_points.specs.Filled.{Described, Unseen, cuttingAt, AtItem, TellsCycle, Placed}
+use Rattle.cut_filling.specs.Filling.{Filled, Placed}
+use Rattle.pair_points.specs.Filled.{Described, Unseen, cuttingAt, AtItem, TellsCycle}
 
 -- the table is of format 1, and its links stand at slots
 pub record Table1 (s : Store) (x : TableInfo) : Type 0 where
@@ -43,7 +43,7 @@ Weighs1 o l c x i p w cuts p′ w′ cuts′ = (b d : List ℕ) → Below1 (lent
 
 -- all were
 abbrev pub Places1 : List ℕ → List ℕ → List ℕ → TableInfo → List ℕ → List ℕ → List ℕ → ℕ → Type 0
-Places1 o l c x w cuts cuts′ r = (b : List ℕ) → Ready1 (lent b o l c) x w cuts → Placed (lent b o l c) (x .table) cuts cuts′ r
+Places1 o l c x w cuts cuts′ r = (b : List ℕ) → Ready1 (lent b o l c) x w cuts → Placed (cutPlaces (lent b o l c) (x .table)) cuts cuts′ r
 
 -- and then the walk tells of a cycle
 abbrev pub Tells1 : List ℕ → List ℕ → List ℕ → TableInfo → List ℕ → List ℕ → List ℕ → Type 0

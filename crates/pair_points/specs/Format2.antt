@@ -6,12 +6,12 @@ use mathlib.Core.List.{List}
 use lib.Dec.{eqb}
 use lib.ListN.{length}
 use Rattle.store_rules.specs.Store.{Store, lent, sizeOf, linkedAt}
-use Rattle.pair_rules.specs.Table.{shape, entriesOf, ruleOf}
+use Rattle.pair_rules.specs.Table.{shape, entriesOf, ruleOf, cutPlaces}
 use Rattle.glyph_set.specs.GlyphSet.{Empty}
 use Rattle.pair_points.specs.declared.«table_info».TableInfo.{TableInfo}
 use Rattle.pair_points.specs.declared.format2.Rows.{Rows}
-use Rattle.cut_filling.specs.Filling.{Filled}
-use Rattle.pair_points.specs.Filled.{Described, Unseen, cuttingAt, AtItem, TellsCycle, Placed}
+use Rattle.cut_filling.specs.Filling.{Filled, Placed}
+use Rattle.pair_points.specs.Filled.{Described, Unseen, cuttingAt, AtItem, TellsCycle}
 use Rattle.glyph_class_parts.specs.ClassParts.{Ordered}
 use Rattle.pair_row_classes.specs.Classes.{Holds}
 
@@ -43,7 +43,7 @@ Weighs2 o l c x gs cs i p w set cuts p′ w′ set′ cuts′ =
 
 -- all were
 abbrev pub Places2 : List ℕ → List ℕ → List ℕ → TableInfo → List ℕ → List ℕ → List ℕ → List ℕ → List ℕ → List ℕ → ℕ → Type 0
-Places2 o l c x gs cs w set cuts cuts′ r = (b : List ℕ) → Ready2 (lent b o l c) x gs cs w set cuts → Placed (lent b o l c) (x .table) cuts cuts′ r
+Places2 o l c x gs cs w set cuts cuts′ r = (b : List ℕ) → Ready2 (lent b o l c) x gs cs w set cuts → Placed (cutPlaces (lent b o l c) (x .table)) cuts cuts′ r
 
 -- and then the walk tells of a cycle
 abbrev pub Tells2 : List ℕ → List ℕ → List ℕ → TableInfo → List ℕ → List ℕ → List ℕ → List ℕ → List ℕ → List ℕ → Type 0

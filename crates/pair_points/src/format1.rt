@@ -4,7 +4,6 @@ use crate::table_info::TableInfo;
 use buffers::lesser;
 use cut_filling::Filling;
 use store_reader::first_row;
-ghost use mathlib.Core.Path.{_≡_};
 ghost use mathlib.Core.List.{List};
 ghost use Prim.Native.Nat.{ℕ, _<_};
 ghost use Rattle.store_rules.specs.Store.{lent};

@@ -11,7 +11,8 @@ use Rattle.folds.proofs.Put.{put-front}
 use Rattle.folds.proofs.Fronts.{front-long}
 use Rattle.ot_layouts.specs.Coverage.{Entry}
 use Rattle.store_rules.specs.Store.{Store}
-use Rattle.pair_rules.specs.Table.{shape, entriesOf, glyphsOf, cutPlaces}
+use Rattle.cut_filling.proofs.Turns.{placed-front}
+use Rattle.pair_rules.specs.Table.{shape, entriesOf, glyphsOf}
 use Rattle.call_rules.specs.Scratch.{Scratch, lengthsOf}
 use Rattle.call_rules.specs.Answers.{firstCase}
 use Rattle.pair_rules.specs.Calls.{readCases, scratchShort, cutCases}
@@ -88,7 +89,7 @@ module _ {s : Store} {t : ℕ} {w : Scratch} {d : Decision} {gs ks cuts : List �
         count = k .cut .placed .count;
         few = few;
         cut-room = room;
-        places = front-is (w .cuts) (cutPlaces s t) (p .cuts) (k .cut .placed .places) (k .cut .placed .count);
+        places = placed-front (k .cut .placed);
         glyph-room = omega (arith, many, long .glyphs);
         class-room = omega (arith, many, long .classes);
         byClass = by-class;

@@ -4,4 +4,3 @@ mod StoreAfter
 mod ByTable
 mod SplitAt
 mod Fronts
-mod Calling

@@ -1,19 +1,28 @@
 -- A split at any places: its needs in hand, there is room for them or not. Assumes nothing.
 use Prim.Native.Nat.{ℕ}
-use mathlib.Core.Path.{_≡_, refl, sym, ap, _∙_}
+use mathlib.Core.Path.{_≡_, _∙_}
 use mathlib.Core.Bool.{Bool, true, false}
 use mathlib.Core.List.{List}
-use Rattle.folds.proofs.Tests.{true-false}
+use lib.ListN.{length}
+use Rattle.folds.proofs.Folds.{length-upto}
 use Rattle.store_rules.specs.Store.{Store, lent}
+use Rattle.store_rules.specs.Appended.{newNumber}
 use Rattle.call_rules.specs.declared.Needs.{Needs}
-use Rattle.call_rules.specs.Needs.{InUse, lentOf, shortBy, roomShort}
+use Rattle.call_rules.specs.Needs.{InUse, lentOf, shortBy}
 use Rattle.call_rules.proofs.Room.{sound-in-use}
-use Rattle.pair_rules.specs.Written.{needed}
+use Rattle.call_lists.proofs.Split.{asked, not-carried, has-carried}
+use Rattle.pair_rules.specs.Table.{shape}
+use Rattle.pair_rules.specs.Written.{perTable, newTables}
 use Rattle.pair_checks.specs.declared.PairTable.{PairTable}
 use Rattle.pair_split.specs.Arranging.{Arranging}
 use Rattle.pair_split.specs.Measuring.{Measured}
-use Rattle.pair_split.specs.Carrying.{Carrying, Carried}
-use Rattle.pair_split.specs.Splitting.{SplitAt}
+use Rattle.pair_split.specs.Carrying.{Carrying, CutAt}
+use Rattle.pair_split.specs.Splitting.{CutIfRoom}
+
+-- a new table for each cut
+pub tables-many : (s : Store) (t : ℕ) (cs : List ℕ) → length (newTables s t cs) ≡ length cs
+unfolding newTables
+tables-many s t cs = length-upto (newNumber s (perTable (shape s t))) (length cs)
 
 module _ {b r l : List ℕ} (c : List ℕ) {t : ℕ} {p : PairTable} {gs ks cs : List ℕ} (k : Arranging (lent b r l c) t p gs ks cs) (list : List ℕ) where
   abbrev s : Store
@@ -23,18 +32,11 @@ module _ {b r l : List ℕ} (c : List ℕ) {t : ℕ} {p : PairTable} {gs ks cs :
   in-use = let u = sound-in-use s list (k .opens .reads .sounds) in record { bytes = u .bytes; objects = u .objects; links = u .links }
 
   module _ {gs′ ks′ : List ℕ} {n : Needs} (m : Measured s t gs′ ks′ cs n) {short : Bool} (e : short ≡ shortBy (lentOf s list) c n) where
-    asked : roomShort s list n ≡ short
-    unfolding shortBy
-    asked = sym e
-
-    told : roomShort s list (needed s t cs) ≡ short
-    told = sym (ap (roomShort s list) (m .needs)) ∙ asked
-
-    pub no-room : short ≡ true → SplitAt s t cs list false s list
-    no-room y = record { short = λ z. (refl, refl, refl); enough = λ z. true-false (sym (sym z ∙ told ∙ y)) }
+    pub no-room : short ≡ true → CutIfRoom s t cs list false s list
+    no-room y = rw (← m .needs) (not-carried b r l c list n e y)
 
     pub can-carry : short ≡ false → Carrying s t p n gs′ ks′ cs list
-    can-carry y = record { opens = k .opens; places = k .places; some = k .some; measured = m; room = asked ∙ y }
+    can-carry y = record { opens = k .opens; places = k .places; some = k .some; measured = m; room = asked b r l c list n e ∙ y }
 
-    pub carried : short ≡ false → {s′ : Store} {list′ : List ℕ} → Carried s t cs list s′ list′ → SplitAt s t cs list true s′ list′
-    carried y d = record { short = λ z. true-false (sym z ∙ told ∙ y); enough = λ z. (refl, d) }
+    pub carried : short ≡ false → {s′ : Store} {list′ : List ℕ} → CutAt s t cs list s′ list′ → CutIfRoom s t cs list true s′ list′
+    carried y d = rw (← m .needs) (has-carried b r l c list n e y d)

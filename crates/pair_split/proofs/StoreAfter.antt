@@ -23,7 +23,7 @@ use Rattle.ot_pairpos.specs.Layout.{layoutOf, shapeWith}
 use Rattle.pair_checks.specs.declared.PairTable.{PairTable}
 use Rattle.pair_links.specs.Parting.{Parting, Parted}
 use Rattle.pair_links.proofs.Callers.{Decided, part-asked, part-answered}
-use Rattle.pair_split.specs.Carrying.{Writing, Wrote, Carrying, Carried}
+use Rattle.pair_split.specs.Carrying.{Writing, Wrote, Carrying, CutAt}
 use Rattle.pair_split.proofs.Counting.{header-few}
 
 module _ {s : Store} {t : ℕ} {p : PairTable} {n : Needs} {gs ks cs list : List ℕ} (k : Carrying s t p n gs ks cs list) where
@@ -102,7 +102,7 @@ module _ {s : Store} {t : ℕ} {p : PairTable} {n : Needs} {gs ks cs list : List
 
   pub carried : {d o ls list′ : List ℕ} {bytes rows : ℕ} → Wrote s t cs d o bytes → Parted s t sh cs ls rows
       → list′ ≡ put list 0 (upto (λ j. s .objectCount + (p .layout .own + 1) * j) (length cs))
-      → Carried s t cs list (lent d o ls (bytes ∷ (s .objectCount + n .objects) ∷ rows ∷ [])) list′
+      → CutAt s t cs list (lent d o ls (bytes ∷ (s .objectCount + n .objects) ∷ rows ∷ [])) list′
   unfolding needed needsOf splitStore storeAfter appended keptTable withBytes withTail newTables
   carried w parted numbered =
       let many = objects-needed ∙ sym (new-many sh (bytesOf s t) (entriesOf s t) cs) in

@@ -4,10 +4,11 @@ use mathlib.Core.Path.{_≡_}
 use mathlib.Core.Bool.{false}
 use mathlib.Core.List.{List}
 use lib.ListN.{length, getD}
-use Rattle.folds.specs.Lists.{put, Bytes}
+use Rattle.folds.specs.Lists.{Bytes}
 use Rattle.store_rules.specs.Store.{Store, bytesOf}
 use Rattle.call_rules.specs.declared.Needs.{Needs}
 use Rattle.call_rules.specs.Needs.{roomShort}
+use Rattle.call_lists.specs.Split.{Carried}
 use Rattle.cut_rules.specs.Places.{Places}
 use Rattle.pair_rules.specs.Table.{shape, entriesOf}
 use Rattle.pair_rules.specs.Written.{newOf, splitStore, newTables}
@@ -50,7 +51,6 @@ pub record Carrying (s : Store) (t : ℕ) (p : PairTable) (n : Needs) (gs ks cs 
   pub measured : Measured s t gs ks cs n
   pub room : roomShort s list n ≡ false
 
--- the store after the split, and the new tables' numbers at the front of the list
-pub record Carried (s : Store) (t : ℕ) (cs list : List ℕ) (s′ : Store) (list′ : List ℕ) : Type 0 where
-  pub store : s′ ≡ splitStore s t cs
-  pub list-is : list′ ≡ put list 0 (newTables s t cs)
+-- it is carried out
+abbrev pub CutAt : Store → ℕ → List ℕ → List ℕ → Store → List ℕ → Type 0
+CutAt s t cs list s′ list′ = Carried (splitStore s t cs) (newTables s t cs) list s′ list′

@@ -1,25 +1,23 @@
 -- A split with its places in hand: carried out at any places, or as planned. Assumes nothing.
 use Prim.Native.Nat.{ℕ, _<_, _≤_}
 use mathlib.Core.Path.{_≡_}
-use mathlib.Core.Bool.{Bool, true, false}
+use mathlib.Core.Bool.{Bool}
 use mathlib.Core.List.{List}
 use lib.ListN.{length}
 use Rattle.folds.specs.Lists.{part}
 use Rattle.store_rules.specs.Store.{Store}
 use Rattle.pair_rules.specs.Table.{entriesOf, cutPlaces}
-use Rattle.pair_rules.specs.Written.{needed}
-use Rattle.call_rules.specs.Needs.{roomShort}
+use Rattle.pair_rules.specs.Written.{needed, splitStore, newTables}
+use Rattle.call_lists.specs.Split.{CarriedIfRoom}
 use Rattle.pair_checks.specs.Opens.{Opens}
 use Rattle.glyph_sort.specs.ByClass.{ByClass}
 use Rattle.pair_plan.specs.declared.Plan.{Plan}
-use Rattle.pair_split.specs.Carrying.{Carried}
 
 -- ---- at any places
 
 -- carried out, if there is room
-pub record SplitAt (s : Store) (t : ℕ) (cs list : List ℕ) (r : Bool) (s′ : Store) (list′ : List ℕ) : Type 0 where
-  pub short : roomShort s list (needed s t cs) ≡ true → (r ≡ false) × (s′ ≡ s) × (list′ ≡ list)
-  pub enough : roomShort s list (needed s t cs) ≡ false → (r ≡ true) × Carried s t cs list s′ list′
+abbrev pub CutIfRoom : Store → ℕ → List ℕ → List ℕ → Bool → Store → List ℕ → Type 0
+CutIfRoom s t cs list r s′ list′ = CarriedIfRoom s (needed s t cs) (splitStore s t cs) (newTables s t cs) list r s′ list′
 
 -- ---- as planned
 

@@ -23,7 +23,7 @@ ghost use Rattle.folds.specs.Moments.{came, left};
 ghost use Rattle.store_rules.specs.Moments.{storeCame, storeLeft, storeNow};
 ghost use Rattle.call_rules.specs.Moments.{scratchCame, scratchLeft};
 ghost use Rattle.pair_split.specs.Arranging.{Arranging};
-ghost use Rattle.pair_split.specs.Splitting.{Ready, SplitAt};
+ghost use Rattle.pair_split.specs.Splitting.{Ready, CutIfRoom};
 
 // Splits a table at any places that ascend within it, if there is room, and says whether there was. The lists have their exact lengths.
 pub fn split_at(
@@ -40,7 +40,7 @@ pub fn split_at(
 ) -> bool
     requires { ⌜ Arranging (storeNow «data» objects links counts) table opened (now glyphs) (now classes) (now cuts) ⌝ }
     ensures { λ r. ⌜
-        SplitAt (storeCame «data» objects links counts) table (came cuts) (came «new_tables») r (storeLeft «data» objects links counts)
+        CutIfRoom (storeCame «data» objects links counts) table (came cuts) (came «new_tables») r (storeLeft «data» objects links counts)
         (left «new_tables»)
         ⌝ }
 {

@@ -3,6 +3,8 @@ ghost use mathlib.Core.Path.{_≡_};
 ghost use Rattle.call_rules.specs.Outcomes.{outcome};
 ghost use Rattle.pair_rules.specs.Calls.{splitCall, planCall, pairCall};
 ghost use Rattle.pair_reading.specs.Reading.{pairOutcome};
+ghost use Rattle.mark_rules.specs.Calls.{markSplitCall, markPlanCall, markCall};
+ghost use Rattle.mark_reading.specs.Reading.{markOutcome};
 ghost use Rattle.folds.specs.Moments.{came, left};
 ghost use Rattle.store_rules.specs.Moments.{storeCame, storeLeft};
 ghost use Rattle.call_rules.specs.Moments.{scratchCame, scratchLeft};
@@ -107,6 +109,111 @@ pub extern "C" fn read_pair(
         first,
         second,
         values,
+        found,
+    )
+}
+
+// Splits a mark-to-base table of any store, as `split_pairpos` splits a pair table.
+#[no_mangle]
+pub extern "C" fn split_markbasepos(
+    data: &mut [u8],
+    objects: &mut [u32],
+    links: &mut [u32],
+    counts: &mut [u32; 3],
+    table: u32,
+    walk: &mut [u32],
+    glyph_set: &mut [u8],
+    glyphs: &mut [u16],
+    classes: &mut [u16],
+    cuts: &mut [u16],
+    new_tables: &mut [u32],
+    new_count: &mut u32,
+) -> u32
+    ensures { λ r. ⌜
+        outcome r (left «new_count») (storeLeft «data» objects links counts) (left «new_tables»)
+        (scratchLeft walk «glyph_set» glyphs classes cuts)
+        ≡ markSplitCall (storeCame «data» objects links counts) table (scratchCame walk «glyph_set» glyphs classes cuts) (came «new_tables»)
+        ⌝ }
+{
+    mark_split::split_markbasepos(
+        data,
+        objects,
+        links,
+        counts,
+        table,
+        walk,
+        glyph_set,
+        glyphs,
+        classes,
+        cuts,
+        new_tables,
+        new_count,
+    )
+}
+
+// The cut places of a mark-to-base table of any store, as `cut_plan` gives those of a pair table.
+#[no_mangle]
+pub extern "C" fn cut_plan_markbasepos(
+    data: &[u8],
+    objects: &[u32],
+    links: &[u32],
+    counts: &[u32; 3],
+    table: u32,
+    walk: &mut [u32],
+    glyph_set: &mut [u8],
+    glyphs: &mut [u16],
+    classes: &mut [u16],
+    cuts: &mut [u16],
+    places: &mut [u16],
+    place_count: &mut u32,
+) -> u32
+    ensures { λ r. ⌜
+        outcome r (left «place_count») (storeCame «data» objects links counts) (left places)
+        (scratchLeft walk «glyph_set» glyphs classes cuts)
+        ≡ markPlanCall (storeCame «data» objects links counts) table (scratchCame walk «glyph_set» glyphs classes cuts) (came places)
+        ⌝ }
+{
+    mark_plan::cut_plan_markbasepos(
+        data,
+        objects,
+        links,
+        *counts,
+        table,
+        walk,
+        glyph_set,
+        glyphs,
+        classes,
+        cuts,
+        places,
+        place_count,
+    )
+}
+
+// Reads the attachment of a mark glyph to a base glyph by a table of any store: the answer, whether there is one, and the two anchor objects, each as
+// its number plus one.
+#[no_mangle]
+pub extern "C" fn read_mark(
+    data: &[u8],
+    objects: &[u32],
+    links: &[u32],
+    counts: &[u32; 3],
+    table: u32,
+    mark: u16,
+    base: u16,
+    anchors: &mut [u32; 2],
+    found: &mut u32,
+) -> u32
+    ensures { λ r. ⌜ markOutcome r (left found) (left anchors) ≡ markCall (storeCame «data» objects links counts) table mark base ⌝ }
+{
+    mark_reading::read_mark(
+        data,
+        objects,
+        links,
+        *counts,
+        table,
+        mark,
+        base,
+        anchors,
         found,
     )
 }

@@ -11,12 +11,12 @@ use borrow.Author.Tests.{leb-true, ltb-true, eqb-true, eqb-false, le-leb, lt-ltb
 use Rattle.folds.proofs.Agree.{both-ways}
 use Rattle.folds.proofs.Joined.{or-either, or-second}
 use Rattle.folds.proofs.Tests.{and-both, and-intro, and-first, and-second, by-test, either, true-false}
-use Rattle.store_rules.specs.Store.{Store, lent, linkAt, parentOf, positionOf, ofParent}
+use Rattle.store_rules.specs.Store.{Store, lent, linkAt, parentOf, positionOf, sizeOf, ofParent}
 use Rattle.store_rules.specs.Reach.{marked, reached, onCycle, Reach}
 use Rattle.store_rules.proofs.Reached.{reached-only, reached-all}
 use Rattle.store_rules.proofs.Reaching.{reached-bytes, reached-more, reached-same, reached-none}
-use Rattle.store_rules.proofs.Sound.{Fits}
-use Rattle.store_reader.specs.Rows.{keyOf, FirstRow}
+use Rattle.store_rules.proofs.Sound.{Fits, size-most}
+use Rattle.store_reader.specs.Rows.{keyOf, rowKey, FirstRow}
 use Rattle.store_reader.proofs.Rows.{position-most, rows-rise}
 use Rattle.store_walk.specs.Marks.{between, noRow, alsoBetween, ownBefore, Back, Marks, Walked, Begun}
 use Rattle.store_walk.proofs.Items.{items, ItemRows, item-rows}
@@ -127,6 +127,34 @@ back-all {s} {t} {row} w f used all b = b ∙ reached-same s f (ownBefore s t ro
   where
     same : (k : ℕ) → k < s .linkCount → ownBefore s t row k ≡ ofParent t (linkAt s k)
     same k h = by-test (ofParent t (linkAt s k)) (λ x. rw x (lt-ltb k row (all k h x))) (λ x. rw x)
+
+-- a walk that begins with the table's links before position q is of all of them, where none stands behind
+module _ {s : Store} {t q : ℕ} {w : List ℕ} (f : Fits s) (used : t < s .objectCount) (most : q < 4294967296) (whole : sizeOf s t ≤ q) (d : Begun s t q w) where
+  abbrev end : ℕ
+  end = getD w (s .objectCount + t) 0
+
+  ends : FirstRow (s .links) (s .linkCount) (keyOf (t + 1) 0) end
+  ends = d .marks .ends t used
+
+  -- a link stands within its parent's bytes
+  inside : (k : ℕ) → k < s .linkCount → (positionOf s k + 2 ≤ sizeOf s (parentOf s k)) × (sizeOf s (parentOf s k) ≤ 16777216)
+  inside k h = (f .link k h .inside, size-most s f (parentOf s k) (f .link k h .parentUsed))
+
+  all : (k : ℕ) → k < s .linkCount → ofParent t (linkAt s k) ≡ true → k < end
+  all k h own =
+      let parent : parentOf s k ≡ t = eqb-true (parentOf s k) t own in
+      let past : end ≤ k → ⊥ = λ z. omega (arith, ends .above k z h, inside k h .0, inside k h .1) in
+      omega arith
+
+  below : (k : ℕ) → k < end → rowKey (s .links) k < keyOf t q
+  below k g =
+      let h : k < s .linkCount = omega (arith, ends .within) in
+      ⊎-elim (λ lt. omega (arith, inside k h .0, inside k h .1))
+      (λ ge. let parent : parentOf s k ≡ t = omega (arith, ends .below k g) in omega (arith, inside k h .0, ap (sizeOf s) parent))
+      (either (parentOf s k) t)
+
+  pub begun-whole : ltb 0 (getD w t 0) ≡ onCycle s t
+  begun-whole = back-all w f used all (d .back end (record { within = ends .within; below = below; above = λ k g h. omega (arith, ends .above k g h) }))
 
 -- the bytes are of no matter
 pub begun-bytes : (b b′ o l c : List ℕ) {t q : ℕ} {w : List ℕ} → Begun (lent b o l c) t q w → Begun (lent b′ o l c) t q w

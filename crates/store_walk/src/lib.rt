@@ -1,13 +1,13 @@
 // What can be reached along the link rows of a sound store: how many bytes it has, each object counted once, and whether a table is among it.
 use buffers::clear_u32;
 use store_reader::next_row;
-ghost use Prim.Native.Nat.{ℕ, _+_, _≤_, _<_};
-ghost use mathlib.Core.Bool.{Bool};
+ghost use Prim.Native.Nat.{ℕ, _+_, _*_, _≤_, _<_};
+ghost use mathlib.Core.Bool.{Bool, true};
 ghost use mathlib.Core.Path.{_≡_};
 ghost use mathlib.Core.List.{List};
 ghost use lib.ListN.{length, getD, replicate};
 ghost use Rattle.folds.specs.Folds.{before};
-ghost use Rattle.store_rules.specs.Store.{lent};
+ghost use Rattle.store_rules.specs.Store.{lent, sound};
 ghost use Rattle.folds.specs.Moments.{came, left};
 ghost use Rattle.store_walk.specs.Marks.{noRow, Blank, Lasts, Prepared, Ready, Walks, Begun};
 
@@ -110,7 +110,7 @@ pub fn subgraph_size(
 
 // Walks what the links of `table` before position `end` lead to, in the first epoch: so that from then on, as its other links are walked, the
 // table has a mark exactly if those walked so far lead back to it.
-pub fn walk_before(
+fn walk_before(
     objects: &[u32],
     links: &[u32],
     counts: [u32; 3],
@@ -126,4 +126,21 @@ pub fn walk_before(
     let lo = first_row_of(walk, n, table as usize) as usize;
     let hi = next_row(links, m, lo, table, end);
     subgraph_size(objects, links, counts, lo, hi, 1, walk);
+}
+
+// Begins with the links of the table before position `end`. The scratch may hold anything.
+pub fn begin_walk(
+    objects: &[u32],
+    links: &[u32],
+    counts: [u32; 3],
+    table: u32,
+    end: u32,
+    walk: &mut [u32],
+)
+    requires { ⌜ ((b : List ℕ) × (sound (lent b (now objects) (now links) counts) ≡ true)) ⌝ }
+    requires { ⌜ (table < getD counts 1 0) × (2 * getD counts 1 0 ≤ length (now walk)) ⌝ }
+    ensures { λ _. ⌜ ((b : List ℕ) → Begun (lent b (came objects) (came links) counts) table end (left walk)) ⌝ }
+{
+    prepare(links, counts, walk);
+    walk_before(objects, links, counts, table, end, walk);
 }

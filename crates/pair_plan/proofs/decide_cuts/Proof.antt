@@ -1,7 +1,7 @@
 -- `pair_plan::decide_cuts` meets its contract: the table is cut, and a cycle refuses. Assumes nothing.
 use native.Mathlib.Omega.{arith}
 use Rattle.call_rules.specs.Scratch.{Scratch, scratchOf}
-use Rattle.pair_plan.proofs.Deciding.{can-begin, table-marked, can-cut, decided-cycle, decided-cut}
+use Rattle.pair_plan.proofs.Deciding.{can-begin, header-fits, table-small, table-marked, can-cut, decided-cycle, decided-cut}
 use borrow.Author.Needs.{needs}
 use Rattle.pair_plan.proofs.decide_cuts.Statement.{statement}
 use Rattle.pair_plan.proofs.decide_cuts.Tie as tie
@@ -10,38 +10,51 @@ use Rattle.pair_plan.proofs.decide_cuts.Tie as tie
 abbrev scratch : tie.Start → Scratch
 scratch c = let a = c .args in scratchOf (a .walk .now) (a .glyph-set .now) (a .glyphs .now) (a .classes .now) (a .cuts .now)
 
+cast-begin-walk : tie.Need-cast-begin-walk
+cast-begin-walk c =
+    let start = c .before .before .before .before .before .before .before .before .before .before in
+    let a = start .args in
+    omega (arith, header-fits (a .«data» .now) (a .objects .now) (a .links .now) (a .counts) (a .table) (scratch start) (a .opened) (start .pre))
+
 begin-walk-requires : tie.Need-begin-walk-requires
 begin-walk-requires c κs =
-    let start = c .before .before .before .before .before .before .before .before .before in
+    let start = c .before .before .before .before .before .before .before .before .before .before .before in
     let a = start .args in
-    can-begin (a .«data» .now) (a .objects .now) (a .links .now) (a .counts) (a .table) (scratch start) (a .opened) (start .pre)
+    let ready = can-begin (a .«data» .now) (a .objects .now) (a .links .now) (a .counts) (a .table) (scratch start) (a .opened) (start .pre) in
+    (ready .0, (ready .1, ready .2))
 
 cut-table-requires : tie.Need-cut-table-requires
 cut-table-requires c κs =
     let begun = c .before .before .before .before .before .before .before in
-    let start = begun .before .before .before .before .before .before .before .before .before .before in
+    let start = begun .before .before .before .before .before .before .before .before .before .before .before .before in
     let a = start .args in
     can-cut (a .«data» .now) (a .objects .now) (a .links .now) (a .counts) (a .table) (scratch start) (a .opened) (start .pre) (begun .begin-walk .ensures (a .«data» .now))
+
+mul-if1 : tie.Need-mul-if1
+mul-if1 c =
+    let start = c .before .before .before .before .before .before .before .before .before .before .before .before .before .before .before .before .before .before .before .before .before .before .before .before .before .before .before .before .before .before in
+    let a = start .args in
+    omega (arith, table-small (a .«data» .now) (a .objects .now) (a .links .now) (a .counts) (a .table) (scratch start) (a .opened) (start .pre))
 
 slice-read-if1 : tie.Need-slice-read-if1
 slice-read-if1 c =
     let cut = c .before .before .before .before .before .before .before .before .before .before in
     let begun = cut .before .before .before .before .before .before .before .before in
-    let start = begun .before .before .before .before .before .before .before .before .before .before .before in
+    let start = begun .before .before .before .before .before .before .before .before .before .before .before .before .before in
     let a = start .args in
     omega (arith, table-marked (a .«data» .now) (a .objects .now) (a .links .now) (a .counts) (a .table) (scratch start) (a .opened) (start .pre), begun .walk .given, cut .walk2 .given)
 
 returns : tie.Need-returns
 returns c =
     let cut = c .before .before .before .before .before .before .before .before .before .before .before .before in
-    let start = cut .before .before .before .before .before .before .before .before .before .before .before .before .before .before .before .before .before .before in
+    let start = cut .before .before .before .before .before .before .before .before .before .before .before .before .before .before .before .before .before .before .before .before in
     let a = start .args in
     decided-cycle (a .«data» .now) (a .objects .now) (a .links .now) (a .counts) (a .table) (scratch start) (a .opened) (start .pre) (cut .cut-table .ensures .1) (c .if1 .taken)
 
 returns-2 : tie.Need-returns-2
 returns-2 c =
     let cut = c .before .before .before .before .before .before .before .before .before .before .before .before in
-    let start = cut .before .before .before .before .before .before .before .before .before .before .before .before .before .before .before .before .before .before in
+    let start = cut .before .before .before .before .before .before .before .before .before .before .before .before .before .before .before .before .before .before .before .before in
     let a = start .args in
     decided-cut (a .«data» .now) (a .objects .now) (a .links .now) (a .counts) (a .table) (scratch start) (a .opened) (start .pre) (cut .cut-table .ensures .1) (c .if1 .left) (cut .cut-table .ensures .0)
 
@@ -49,9 +62,10 @@ pub decide-cuts-spec : {M : Type 1} → statement M
 decide-cuts-spec =
     tie.close
     (tie.spec
+    cast-begin-walk
     begin-walk-requires
     cut-table-requires
-    (λ c. search needs)
+    mul-if1
     slice-read-if1
     (λ c. search needs)
     (λ c. search needs)

@@ -1,10 +1,15 @@
 -- `pair_split::split_any` meets its contract: refused by 1 to 7, or split as planned. Assumes nothing.
-use mathlib.Core.Path.{_∙_}
+use mathlib.Core.Path.{sym, ap, _∙_}
+use mathlib.Core.Option.{some}
 use borrow.Author.Needs.{needs}
 use Rattle.store_rules.specs.Store.{lent}
 use Rattle.call_rules.specs.Scratch.{scratchOf}
+use Rattle.call_lists.proofs.Split.{call-settled, call-goes}
+use Rattle.pair_rules.specs.Table.{cutPlaces}
+use Rattle.pair_rules.specs.Written.{needed, splitStore, newTables}
+use Rattle.pair_rules.specs.Calls.{cutCases, lastCases, splitCases, splitCall}
+use Rattle.pair_plan.specs.Decided.{decidedAs}
 use Rattle.pair_split.proofs.Fronts.{none-applies, ready}
-use Rattle.pair_split.proofs.Calling.{call-settled, call-goes}
 use Rattle.pair_split.proofs.split_any.Statement.{statement}
 use Rattle.pair_split.proofs.split_any.Tie as tie
 
@@ -16,12 +21,15 @@ split-planned-requires c κs =
     ready (decided .decide .ensures) (after-decision2 .decision2 .given .1) (λ i. decided .before .before .before .before .before .before .before .before .before .before .before .before .before .before .before .before .before .before .slice-known .given i .fits) (kept .0) (kept .1 .0)
 
 returns : tie.Need-returns
+unfolding splitCall splitCases lastCases
 returns c =
     let decided = c .before .before .before .before .before .before .before .before .before .before .before .before .before .before in
     let a = decided .before .before .before .before .before .before .before .before .before .before .before .before .before .before .before .before .before .before .before .args in
-    call-settled (lent (a .«data» .now) (a .objects .now) (a .links .now) (a .counts .now)) (a .table)
-    (scratchOf (a .walk .now) (a .glyph-set .now) (a .glyphs .now) (a .classes .now) (a .cuts .now)) (a .new-tables .now)
-    (decided .decide .ensures) (c .before .before .decision .given .1) (c .number-of .ensures)
+    let s = lent (a .«data» .now) (a .objects .now) (a .links .now) (a .counts .now) in
+    let w = scratchOf (a .walk .now) (a .glyph-set .now) (a .glyphs .now) (a .classes .now) (a .cuts .now) in
+    call-settled s (a .new-tables .now) (needed s (a .table)) (splitStore s (a .table)) (newTables s (a .table)) (cutPlaces s (a .table))
+    (cutCases s (a .table) w) w
+    (decided .decide .ensures .answers ∙ ap decidedAs (c .before .before .decision .given .1) ∙ ap some (sym (c .number-of .ensures)))
 
 same-length-12 : tie.Need-same-length-12
 same-length-12 c =
@@ -51,12 +59,16 @@ same-length-16 c =
     split .before .before .before .before .before .before .before .before .before .before .before .before .before .before .cuts .given
 
 returns-2 : tie.Need-returns-2
+unfolding splitCall splitCases lastCases
 returns-2 c =
     let split = c .before .before .before .before .before .before .before .before .before .before .before .before in
     let decided = split .before .before .before .before .before .before .before .before .before .before .before .before .before .before .before .before .before .before .before .before .before .before .before in
     let a = decided .before .before .before .before .before .before .before .before .before .before .before .before .before .before .before .before .before .before .before .args in
     let w = scratchOf (a .walk .now) (a .glyph-set .now) (a .glyphs .now) (a .classes .now) (a .cuts .now) in
-    split .split-planned .ensures w ∙ call-goes (lent (a .«data» .now) (a .objects .now) (a .links .now) (a .counts .now)) (a .table) w (a .new-tables .now) (none-applies (decided .decide .ensures) (split .before .before .before .before .before .before .before .before .before .before .before .decision2 .given .1))
+    let s = lent (a .«data» .now) (a .objects .now) (a .links .now) (a .counts .now) in
+    split .split-planned .ensures w
+    ∙ call-goes s (a .new-tables .now) (needed s (a .table)) (splitStore s (a .table)) (newTables s (a .table)) (cutPlaces s (a .table)) (cutCases s (a .table) w) w
+    (none-applies (decided .decide .ensures) (split .before .before .before .before .before .before .before .before .before .before .before .decision2 .given .1))
 
 pub split-any-spec : {M : Type 1} → statement M
 split-any-spec =

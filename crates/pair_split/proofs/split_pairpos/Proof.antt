@@ -1,8 +1,7 @@
 -- `pair_split::split_pairpos` meets its contract: the table is split or refused, and the scratch is cleared. Assumes nothing.
 use borrow.Author.Needs.{needs}
-use Rattle.store_rules.specs.Store.{lent}
 use Rattle.call_rules.specs.Scratch.{scratchOf}
-use Rattle.pair_split.proofs.Calling.{then-cleared}
+use Rattle.call_lists.proofs.Split.{then-cleared}
 use Rattle.pair_split.proofs.split_pairpos.Statement.{statement}
 use Rattle.pair_split.proofs.split_pairpos.Tie as tie
 
@@ -12,8 +11,7 @@ returns c =
     let split = zeroed .before .before .before .before .before .before .before .before .before .before .before .before .before .before .before .before .before .before .before .before .before .before .before .before in
     let a = split .before .before .before .before .before .before .before .before .before .before .before .before .before .before .before .before .before .before .before .before .before .args in
     let kept = split .split-any .kept .1 .1 .1 .1 .1 in
-    then-cleared (lent (a .«data» .now) (a .objects .now) (a .links .now) (a .counts .now)) (a .table)
-    (scratchOf (a .walk .now) (a .glyph-set .now) (a .glyphs .now) (a .classes .now) (a .cuts .now)) (a .new-tables .now)
+    then-cleared {w = scratchOf (a .walk .now) (a .glyph-set .now) (a .glyphs .now) (a .classes .now) (a .cuts .now)}
     (record { walk = kept .0; set = kept .1 .0; glyphs = kept .1 .1 .0; classes = kept .1 .1 .1 .0; cuts = kept .1 .1 .1 .1 .0 })
     (zeroed .clear-scratch .ensures) (split .split-any .ensures)
 

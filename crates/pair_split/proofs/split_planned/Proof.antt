@@ -1,15 +1,27 @@
 -- `pair_split::split_planned` meets its contract: nothing to cut, no room, or the split. Assumes nothing.
 use borrow.Author.Tests.{not-true, not-false}
 use borrow.Author.Needs.{needs}
+use Rattle.store_rules.specs.Store.{Store, lent}
+use Rattle.call_lists.proofs.Split.{nothing, refused, carried}
+use Rattle.pair_rules.specs.Table.{cutPlaces}
+use Rattle.pair_rules.specs.Written.{needed, splitStore, newTables}
+use Rattle.pair_rules.specs.Calls.{lastCases}
 use Rattle.pair_split.proofs.Fronts.{fronts-lent}
-use Rattle.pair_split.proofs.Calling.{nothing, refused, carried}
+use Rattle.pair_split.proofs.SplitAt.{tables-many}
 use Rattle.pair_split.proofs.split_planned.Statement.{statement}
 use Rattle.pair_split.proofs.split_planned.Tie as tie
 
+-- the store, as it is lent
+abbrev store : tie.Start → Store
+store c = let a = c .args in lent (a .«data» .now) (a .objects .now) (a .links .now) (a .counts .now)
+
 returns : tie.Need-returns
+unfolding lastCases
 returns c =
     let start = c .before .before .before .before .before .before .before .before in
-    nothing (start .pre) (start .args .new-tables .now) (c .if1 .taken)
+    let a = start .args in
+    let s = store start in
+    nothing s (a .new-tables .now) (needed s (a .table)) (splitStore s (a .table)) (newTables s (a .table)) (cutPlaces s (a .table)) (start .pre .count) (c .if1 .taken)
 
 split-at-requires : tie.Need-split-at-requires
 split-at-requires c κs =
@@ -18,18 +30,26 @@ split-at-requires c κs =
     fronts-lent (start .pre) (after-if1 .if1 .left)
 
 returns-2 : tie.Need-returns-2
+unfolding lastCases
 returns-2 c =
     let split = c .before .before .before .before .before .before .before .before .before .before .before .before .before .before in
     let some = split .before .before .before .before .before .before .before .before .before .before in
     let start = some .before .before .before .before .before .before .before .before in
-    refused (start .pre) (start .args .new-tables .now) (some .if1 .left) (split .split-at .ensures) (not-true _ (c .before .if2 .taken)) (c .number-of .ensures)
+    let a = start .args in
+    let s = store start in
+    refused s (a .new-tables .now) (needed s (a .table)) (splitStore s (a .table)) (newTables s (a .table)) (cutPlaces s (a .table)) (start .pre .count) (some .if1 .left) (start .pre .places) (split .split-at .ensures)
+    (not-true _ (c .before .if2 .taken)) (c .number-of .ensures)
 
 returns-3 : tie.Need-returns-3
+unfolding lastCases
 returns-3 c =
     let split = c .before .before .before .before .before .before .before .before .before .before .before .before .before in
     let some = split .before .before .before .before .before .before .before .before .before .before in
     let start = some .before .before .before .before .before .before .before .before in
-    carried (start .pre) (start .args .new-tables .now) (some .if1 .left) (split .split-at .ensures) (not-false _ (c .if2 .left))
+    let a = start .args in
+    let s = store start in
+    carried s (a .new-tables .now) (needed s (a .table)) (splitStore s (a .table)) (newTables s (a .table)) (cutPlaces s (a .table)) (start .pre .count) (some .if1 .left) (start .pre .places) (split .split-at .ensures)
+    (not-false _ (c .if2 .left)) (tables-many s (a .table) (cutPlaces s (a .table)))
 
 pub split-planned-spec : {M : Type 1} → statement M
 split-planned-spec =

@@ -1,8 +1,8 @@
--- `promise_callers::split` meets its contract: the split's equation gives what is promised. Assumes nothing.
+-- `promise_callers::pairs::split` meets its contract: the split's equation gives what is promised. Assumes nothing.
 use borrow.Author.Needs.{needs}
 use Rattle.promise_pairs.proofs.Calls.{split-keeps}
-use Rattle.promise_callers.proofs.split.Statement.{statement}
-use Rattle.promise_callers.proofs.split.Tie as tie
+use Rattle.promise_callers.proofs.pairs.split.Statement.{statement}
+use Rattle.promise_callers.proofs.pairs.split.Tie as tie
 
 returns : tie.Need-returns
 returns c =

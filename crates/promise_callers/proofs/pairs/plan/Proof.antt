@@ -1,8 +1,8 @@
--- `promise_callers::plan` meets its contract: the cut plan's equation gives what is promised. Assumes nothing.
+-- `promise_callers::pairs::plan` meets its contract: the cut plan's equation gives what is promised. Assumes nothing.
 use borrow.Author.Needs.{needs}
 use Rattle.promise_pairs.proofs.Calls.{plan-keeps}
-use Rattle.promise_callers.proofs.plan.Statement.{statement}
-use Rattle.promise_callers.proofs.plan.Tie as tie
+use Rattle.promise_callers.proofs.pairs.plan.Statement.{statement}
+use Rattle.promise_callers.proofs.pairs.plan.Tie as tie
 
 returns : tie.Need-returns
 returns c =

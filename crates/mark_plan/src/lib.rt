@@ -1,0 +1,179 @@
+// What a split and a cut plan of a mark-to-base table decide before anything is written: the checks, and the cut places. Then the cut plan itself,
+// which is the first half of `split_markbasepos` in the Rust text.
+pub mod cutting;
+
+use call_lists::list_places;
+use call_rules::Answer;
+use call_rules::Lengths;
+use call_rules::number_of;
+use call_scratch::clear_scratch;
+use cutting::cut_table;
+use mark_checks::Checked;
+use mark_checks::MarkTable;
+use mark_checks::call::check_call;
+use store_walk::begin_walk;
+ghost use mathlib.Core.Path.{_≡_};
+ghost use Rattle.folds.specs.Moments.{came, left};
+ghost use Rattle.store_rules.specs.Moments.{storeCameWith, storeNowWith};
+ghost use Rattle.call_rules.specs.Scratch.{lengthsOf};
+ghost use Rattle.call_rules.specs.Moments.{scratchCame, scratchLeft, scratchNow};
+ghost use Rattle.call_rules.specs.Outcomes.{outcome};
+ghost use Rattle.call_lists.specs.Handed.{handed, handedBy};
+ghost use Rattle.mark_rules.specs.Calls.{markPlanCall};
+ghost use Rattle.mark_checks.specs.Called.{Passed};
+ghost use Rattle.mark_plan.specs.Decided.{decidedAs, Decided, plannedCuts, HandingOut};
+
+// A table that is not refused, and how many cuts it gets; they stand at the front of the scratch.
+pub struct Plan {
+    pub table: MarkTable,
+    pub cuts: usize,
+}
+
+// What is decided: cuts, or the call has its answer, which for a table of another format is 0.
+pub enum Decision {
+    Cut(Plan),
+    Settled(Answer),
+}
+
+// The rest of check 7, by a walk of all that the table leads to, and then the cut places. The scratch may hold anything.
+pub fn decide_cuts(
+    data: &[u8],
+    objects: &[u32],
+    links: &[u32],
+    counts: [u32; 3],
+    table: u32,
+    opened: MarkTable,
+    walk: &mut [u32],
+    glyph_set: &mut [u8],
+    glyphs: &mut [u16],
+    classes: &mut [u16],
+    cuts: &mut [u16],
+) -> Decision
+    requires { ⌜
+        Passed (storeNowWith «data» objects links counts) table (lengthsOf (scratchNow walk «glyph_set» glyphs classes cuts)) opened
+        ⌝ }
+    ensures { λ r. ⌜
+        Decided (storeCameWith «data» objects links counts) table (scratchCame walk «glyph_set» glyphs classes cuts) r (left cuts)
+        ⌝ }
+{
+    begin_walk(objects, links, counts, table, 12, walk);
+    if walk[table as usize] != 0 {
+        return Decision::Settled(Answer::BadLinks);
+    }
+    let count = cut_table(
+        data,
+        objects,
+        links,
+        counts,
+        opened,
+        walk,
+        glyph_set,
+        glyphs,
+        classes,
+        cuts,
+    );
+    Decision::Cut(Plan {
+        table: opened,
+        cuts: count,
+    })
+}
+
+// Decides for a table of any store, with any scratch.
+pub fn decide(
+    data: &[u8],
+    objects: &[u32],
+    links: &[u32],
+    counts: [u32; 3],
+    table: u32,
+    walk: &mut [u32],
+    glyph_set: &mut [u8],
+    glyphs: &mut [u16],
+    classes: &mut [u16],
+    cuts: &mut [u16],
+) -> Decision
+    ensures { λ r. ⌜
+        Decided (storeCameWith «data» objects links counts) table (scratchCame walk «glyph_set» glyphs classes cuts) r (left cuts)
+        ⌝ }
+{
+    let lengths = Lengths {
+        walk: walk.len(),
+        glyph_set: glyph_set.len(),
+        glyphs: glyphs.len(),
+        classes: classes.len(),
+        cuts: cuts.len(),
+    };
+    let checked = check_call(data, objects, links, counts, table, lengths);
+    match checked {
+        Checked::Settled(answer) => Decision::Settled(answer),
+        Checked::Open(opened) => decide_cuts(
+            data,
+            objects,
+            links,
+            counts,
+            table,
+            opened,
+            walk,
+            glyph_set,
+            glyphs,
+            classes,
+            cuts,
+        ),
+    }
+}
+
+// Hands out what was decided: the answer, and where it is 0 the places and their count.
+fn hand_out(decision: Decision, cuts: &[u16], places: &mut [u16], place_count: &mut u32) -> u32
+    requires { ⌜ HandingOut decision (now cuts) ⌝ }
+    ensures { λ r. ⌜
+        handed r (left «place_count») (left places) ≡ handedBy (decidedAs decision) (plannedCuts decision (came cuts)) (came places)
+        ⌝ }
+{
+    match decision {
+        Decision::Settled(answer) => {
+            *place_count = 0;
+            number_of(answer)
+        }
+        Decision::Cut(plan) => {
+            let count = plan.cuts;
+            list_places(&cuts[0..count], places, place_count)
+        }
+    }
+}
+
+// The cut places of a table of any store, in `places`, and how many there are. Scratch is zero after it.
+pub fn cut_plan_markbasepos(
+    data: &[u8],
+    objects: &[u32],
+    links: &[u32],
+    counts: [u32; 3],
+    table: u32,
+    walk: &mut [u32],
+    glyph_set: &mut [u8],
+    glyphs: &mut [u16],
+    classes: &mut [u16],
+    cuts: &mut [u16],
+    places: &mut [u16],
+    place_count: &mut u32,
+) -> u32
+    ensures { λ r. ⌜
+        outcome r (left «place_count») (storeCameWith «data» objects links counts) (left places)
+        (scratchLeft walk «glyph_set» glyphs classes cuts)
+        ≡ markPlanCall (storeCameWith «data» objects links counts) table (scratchCame walk «glyph_set» glyphs classes cuts) (came places)
+        ⌝ }
+{
+    let decision = decide(
+        data,
+        objects,
+        links,
+        counts,
+        table,
+        walk,
+        glyph_set,
+        glyphs,
+        classes,
+        cuts,
+    );
+    let answer = hand_out(decision, cuts, places, place_count);
+    clear_scratch(walk, glyph_set, glyphs, classes, cuts);
+    answer
+}

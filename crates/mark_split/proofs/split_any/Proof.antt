@@ -1,0 +1,87 @@
+-- `mark_split::split_any` meets its contract: refused by 1 to 7, or split as planned. Assumes nothing.
+use mathlib.Core.Path.{sym, ap, _∙_}
+use mathlib.Core.Option.{some}
+use borrow.Author.Needs.{needs}
+use Rattle.store_rules.specs.Store.{lent}
+use Rattle.call_rules.specs.Scratch.{scratchOf}
+use Rattle.call_lists.proofs.Split.{call-settled, call-goes}
+use Rattle.mark_rules.specs.Table.{cutPlaces}
+use Rattle.mark_rules.specs.Written.{needed, splitStore, newTables}
+use Rattle.mark_rules.specs.Calls.{cutCases, lastCases, splitCases, markSplitCall}
+use Rattle.mark_plan.specs.Decided.{decidedAs}
+use Rattle.mark_split.proofs.Fronts.{none-applies, ready}
+use Rattle.mark_split.proofs.split_any.Statement.{statement}
+use Rattle.mark_split.proofs.split_any.Tie as tie
+
+split-planned-requires : tie.Need-split-planned-requires
+split-planned-requires c κs =
+    let cut = c .before .before .before .before .before .before .before .before .before .before .before in
+    let decided = cut .before .before .before .before .before .before .before .before .before .before .before .before in
+    let kept = decided .decide .kept .1 .1 .1 .1 .1 .1 in
+    ready (decided .decide .ensures) (cut .decision2 .given .1) (λ i. decided .before .before .before .before .before .before .before .before .before .before .before .before .before .before .before .before .before .before .slice-known .given i .fits) (kept .0) (kept .1 .0) (kept .1 .1 .0)
+
+returns : tie.Need-returns
+unfolding markSplitCall splitCases lastCases
+returns c =
+    let decided = c .before .before .before .before .before .before .before .before .before .before .before .before .before .before in
+    let a = decided .before .before .before .before .before .before .before .before .before .before .before .before .before .before .before .before .before .before .before .args in
+    let s = lent (a .«data» .now) (a .objects .now) (a .links .now) (a .counts .now) in
+    let w = scratchOf (a .walk .now) (a .glyph-set .now) (a .glyphs .now) (a .classes .now) (a .cuts .now) in
+    call-settled s (a .new-tables .now) (needed s (a .table)) (splitStore s (a .table)) (newTables s (a .table)) (cutPlaces s (a .table)) (cutCases s (a .table) w) w
+    (decided .decide .ensures .answers ∙ ap decidedAs (c .before .before .decision .given .1) ∙ ap some (sym (c .number-of .ensures)))
+
+same-walk : tie.Need-same-length-12
+same-walk c = c .before .before .before .before .before .before .before .before .before .before .before .before .before .before .before .before .before .before .before .before .before .before .before .before .before .before .before .before .before .before .before .before .before .before .before .before .before .walk .given
+
+same-set : tie.Need-same-length-13
+same-set c = c .before .before .before .glyph-set2 .given ∙ c .before .before .before .before .before .before .before .before .before .before .before .before .before .before .before .before .before .before .before .before .before .before .before .before .before .before .before .before .before .before .before .before .before .before .before .glyph-set .given
+
+same-glyphs : tie.Need-same-length-14
+same-glyphs c = c .before .before .before .before .before .before .before .glyphs2 .given ∙ c .before .before .before .before .before .before .before .before .before .before .before .before .before .before .before .before .before .before .before .before .before .before .before .before .before .before .before .before .before .before .before .before .before .glyphs .given
+
+same-classes : tie.Need-same-length-15
+same-classes c = c .before .before .before .before .before .classes2 .given ∙ c .before .before .before .before .before .before .before .before .before .before .before .before .before .before .before .before .before .before .before .before .before .before .before .before .before .before .before .before .before .before .before .classes .given
+
+same-cuts : tie.Need-same-length-16
+same-cuts c = c .before .before .before .before .before .before .before .before .before .before .before .before .before .before .before .before .before .before .before .before .before .before .before .before .before .before .before .before .before .cuts .given
+
+returns-2 : tie.Need-returns-2
+unfolding markSplitCall splitCases lastCases
+returns-2 c =
+    let split = c .before .before .before .before .before .before .before .before .before .before .before .before .before .before in
+    let cut = split .before .before .before .before .before .before .before .before .before .before .before .before in
+    let decided = cut .before .before .before .before .before .before .before .before .before .before .before .before in
+    let a = decided .before .before .before .before .before .before .before .before .before .before .before .before .before .before .before .before .before .before .before .args in
+    let s = lent (a .«data» .now) (a .objects .now) (a .links .now) (a .counts .now) in
+    let w = scratchOf (a .walk .now) (a .glyph-set .now) (a .glyphs .now) (a .classes .now) (a .cuts .now) in
+    split .split-planned .ensures w
+    ∙ call-goes s (a .new-tables .now) (needed s (a .table)) (splitStore s (a .table)) (newTables s (a .table)) (cutPlaces s (a .table)) (cutCases s (a .table) w) w (none-applies (decided .decide .ensures) (cut .decision2 .given .1))
+
+pub split-any-spec : {M : Type 1} → statement M
+split-any-spec =
+    tie.close
+    (tie.spec
+    (λ c κs. search needs)
+    (λ c. search needs)
+    (λ c κs. search needs)
+    (λ c. search needs)
+    split-planned-requires
+    (λ c. search needs)
+    (λ c. search needs)
+    (λ c. search needs)
+    (λ c. search needs)
+    (λ c. search needs)
+    (λ c. search needs)
+    (λ c. search needs)
+    (λ c. search needs)
+    returns
+    (λ c. search needs)
+    (λ c. search needs)
+    (λ c. search needs)
+    same-walk
+    same-set
+    same-glyphs
+    same-classes
+    same-cuts
+    (λ c. search needs)
+    returns-2)

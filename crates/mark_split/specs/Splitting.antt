@@ -1,0 +1,36 @@
+-- A split with its places in hand: carried out at any places, or as planned. Assumes nothing.
+use Prim.Native.Nat.{ℕ, _<_, _≤_}
+use mathlib.Core.Path.{_≡_}
+use mathlib.Core.Bool.{Bool, true}
+use mathlib.Core.List.{List}
+use lib.ListN.{length}
+use Rattle.folds.specs.Lists.{part}
+use Rattle.store_rules.specs.Store.{Store}
+use Rattle.mark_rules.specs.Table.{allAtSlots, cutPlaces}
+use Rattle.mark_rules.specs.Written.{needed, splitStore, newTables}
+use Rattle.call_lists.specs.Split.{CarriedIfRoom}
+use Rattle.mark_checks.specs.declared.MarkTable.{MarkTable}
+use Rattle.mark_checks.specs.Opens.{Opens}
+use Rattle.mark_plan.specs.declared.Plan.{Plan}
+use Rattle.mark_split.specs.Arranging.{Arranging}
+
+-- at any places: there is room for all covered glyphs, and the links stand at slots
+pub record Cuttable (s : Store) (t : ℕ) (p : MarkTable) (gs ks set cs : List ℕ) : Type 0 where
+  pub arranging : Arranging s t p (p .glyphs) gs ks set cs
+  pub slots : allAtSlots s t ≡ true
+
+-- carried out, if there is room
+abbrev pub CutIfRoom : Store → ℕ → List ℕ → List ℕ → Bool → Store → List ℕ → Type 0
+CutIfRoom s t cs list r s′ list′ = CarriedIfRoom s (needed s t cs) (splitStore s t cs) (newTables s t cs) list r s′ list′
+
+-- as planned: the plan's cuts, which can be counted, stand at the front of the scratch, and no scratch is too short
+pub record PlanReady (s : Store) (t : ℕ) (p : Plan) (gs ks set cuts : List ℕ) : Type 0 where
+  pub opens : Opens s t (p .table)
+  pub slots : allAtSlots s t ≡ true
+  pub count : p .cuts ≡ length (cutPlaces s t)
+  pub few : p .cuts < 65536
+  pub cut-room : p .cuts ≤ length cuts
+  pub places : part cuts 0 (p .cuts) ≡ cutPlaces s t
+  pub glyph-room : p .table .glyphs ≤ length gs
+  pub class-room : p .table .glyphs ≤ length ks
+  pub scratch : 8192 ≤ length set
