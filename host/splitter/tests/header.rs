@@ -1,6 +1,6 @@
 //! The header for C and C++, by a program that is compiled with it, linked with the archive and run.
 
-use splitter::{Refusal, Room};
+use splitter::{raw, Refusal, Room};
 use std::{
     env, fs,
     path::{Path, PathBuf},
@@ -60,6 +60,8 @@ fn numbers() {
         let digits = rest.split(|c: char| !c.is_ascii_digit()).next();
         digits.unwrap().parse().unwrap()
     };
+    let version = format!("#define SPLITTER_INTERFACE {}\n", raw::INTERFACE);
+    assert_eq!(header.matches(&version).count(), 1);
     for refusal in Refusal::ALL {
         let mut name = String::new();
         for letter in format!("{refusal:?}").chars() {
