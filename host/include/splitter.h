@@ -1,4 +1,4 @@
-/* The proved PairPos splitter, for hosts in C and C++ on x86-64 Linux.
+/* The proved splitter of PairPos and MarkBasePos tables, for hosts in C and C++ on x86-64 Linux.
  *
  * `rt staticlib splitter`, at the top of the repository, proves the functions and writes the archive
  * to link, target/staticlib/libsplitter.a. It needs nothing else, allocates nothing, keeps nothing
@@ -28,6 +28,10 @@
 #include <stddef.h>
 #include <stdint.h>
 
+/* The version of this interface. It grows where the parameters of a function change; a function more
+ * changes none. */
+#define SPLITTER_INTERFACE 1
+
 #ifdef __cplusplus
 extern "C" {
 #endif
@@ -41,16 +45,19 @@ enum {
     SPLITTER_UNSOUND = 1,
     /* the table's number is not in use */
     SPLITTER_NO_TABLE = 2,
-    /* the table has under 2 bytes, or not exactly 10 + 2 for each pair set (format 1), or
-     * 16 + all class records (format 2) */
+    /* the table has under 2 bytes, or not exactly 10 + 2 for each pair set (PairPos format 1),
+     * 16 + all class records (PairPos format 2), or 12 (MarkBasePos) */
     SPLITTER_BAD_TABLE = 3,
-    /* coverage or a class definition is not linked, or cannot be read */
+    /* a coverage, a class definition, or the mark or base array is not linked, or cannot be read; or
+     * a mark's class is not below the class count */
     SPLITTER_BAD_PARTS = 4,
-    /* format 1: the coverage has fewer glyphs than the table has pair sets */
+    /* PairPos format 1: the coverage has fewer glyphs than the table has pair sets; MarkBasePos: the
+     * mark coverage has fewer glyphs than the mark array has marks */
     SPLITTER_FEW_GLYPHS = 5,
     /* a scratch buffer is too short */
     SPLITTER_SHORT_SCRATCH = 6,
-    /* a link of the table stands at no slot, or the table can be reached from itself */
+    /* a link of the table, or of its mark or base array, stands at no slot, or the table can be
+     * reached from itself */
     SPLITTER_BAD_LINKS = 7,
     /* there is no room: data, objects, links or the list that takes the result */
     SPLITTER_NO_ROOM = 8
@@ -64,8 +71,8 @@ enum {
 };
 
 /* Scratch lengths that are enough for any table. Exactly enough: for walk two numbers for each object
- * in use, for glyphs and classes one entry for each covered glyph, for cuts one entry for each pair
- * set or row. Shorter scratch is cleared sooner. */
+ * in use, for glyphs and classes one entry for each covered glyph (MarkBasePos: each glyph of the mark
+ * coverage), for cuts one entry for each pair set, row or mark class. Shorter scratch is cleared sooner. */
 enum {
     SPLITTER_WALK = 131072,
     SPLITTER_GLYPH_SET = 8192,
@@ -74,7 +81,7 @@ enum {
     SPLITTER_CUTS = 65535
 };
 
-/* Splits a table at the cut places of the rule.
+/* Splits a PairPos table at the cut places of the rule.
  *
  * The table keeps its number and the items before the first cut; each cut starts a new table.
  * new_tables takes their numbers in order, from its first entry on, and *new_count becomes how many
@@ -99,7 +106,7 @@ uint32_t split_pairpos(
     uint32_t *new_tables, size_t new_tables_len,
     uint32_t *new_count);
 
-/* Says where a table would be cut. The store is only read.
+/* Says where a PairPos table would be cut. The store is only read.
  *
  * places takes the cut places in order, from its first entry on: numbers of pair sets in format 1, of
  * rows in format 2. *place_count becomes how many there are. The refusals are those of a split, but
@@ -120,7 +127,7 @@ uint32_t cut_plan(
     uint16_t *places, size_t places_len,
     uint32_t *place_count);
 
-/* Reads what a table says of two glyphs, the first before the second. The store is only read.
+/* Reads what a PairPos table says of two glyphs, the first before the second. The store is only read.
  *
  * values becomes eight numbers for the first glyph and eight for the second: X placement,
  * Y placement, X advance, Y advance, then their four devices, each as the number of the linked object
@@ -135,6 +142,60 @@ uint32_t read_pair(
     uint16_t first,
     uint16_t second,
     int32_t values[16],
+    uint32_t *found);
+
+/* Splits a MarkBasePos table at the cut places of the rule, between mark classes.
+ *
+ * It does as split_pairpos does, with mark classes for items; a format other than 1 is nothing to
+ * split. The kept table gets a mark coverage, a mark array and a base array of its own, as each new
+ * table does, so the old ones keep their bytes and links; all share the base coverage and the anchors.
+ *
+ * Of K cuts, K above 0, it needs room for 4K + 3 objects, for 4K links and as many as the mark array and
+ * the base array have together, for K entries of new_tables and for the bytes of all new objects. */
+uint32_t split_markbasepos(
+    uint8_t *data, size_t data_len,
+    uint32_t *objects, size_t objects_len,
+    uint32_t *links, size_t links_len,
+    uint32_t counts[3],
+    uint32_t table,
+    uint32_t *walk, size_t walk_len,
+    uint8_t *glyph_set, size_t glyph_set_len,
+    uint16_t *glyphs, size_t glyphs_len,
+    uint16_t *classes, size_t classes_len,
+    uint16_t *cuts, size_t cuts_len,
+    uint32_t *new_tables, size_t new_tables_len,
+    uint32_t *new_count);
+
+/* Says where a MarkBasePos table would be cut, as cut_plan does: places are numbers of mark classes. */
+uint32_t cut_plan_markbasepos(
+    const uint8_t *data, size_t data_len,
+    const uint32_t *objects, size_t objects_len,
+    const uint32_t *links, size_t links_len,
+    const uint32_t counts[3],
+    uint32_t table,
+    uint32_t *walk, size_t walk_len,
+    uint8_t *glyph_set, size_t glyph_set_len,
+    uint16_t *glyphs, size_t glyphs_len,
+    uint16_t *classes, size_t classes_len,
+    uint16_t *cuts, size_t cuts_len,
+    uint16_t *places, size_t places_len,
+    uint32_t *place_count);
+
+/* Reads by which anchors a MarkBasePos table attaches a mark glyph to a base glyph. The store is only
+ * read.
+ *
+ * anchors becomes the anchor object of the mark and that of the base, each as its number plus one;
+ * *found becomes 1. Where there is no attachment, and where it is refused (1 to 5), both numbers and
+ * *found become 0. */
+uint32_t read_mark(
+    const uint8_t *data, size_t data_len,
+    const uint32_t *objects, size_t objects_len,
+    const uint32_t *links, size_t links_len,
+    const uint32_t counts[3],
+    uint32_t table,
+    uint16_t mark,
+    uint16_t base,
+    uint32_t anchors[2],
     uint32_t *found);
 
 #ifdef __cplusplus

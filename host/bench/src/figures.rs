@@ -1,7 +1,7 @@
 //! Medians, spreads and ratios of what was timed.
 
 use crate::{
-    input::Input,
+    input::{Input, Shape},
     timing::{Samples, Sides},
 };
 use differential::{generate::large::Order, lend::Need};
@@ -9,8 +9,10 @@ use std::time::Duration;
 
 /// All that is known of an input.
 pub struct Figures {
-    /// Of the table: 1 or 2.
-    pub format: u8,
+    /// What the tables are like.
+    pub shape: Shape,
+    /// How many objects there are, or anchors.
+    pub size: usize,
     /// How the objects are numbered.
     pub order: Order,
     /// Whether it is one of those that grow.
@@ -51,7 +53,8 @@ impl Figures {
     /// Of the runs of an input.
     pub fn new(input: &Input, need: Need, runs: Vec<Samples>) -> Self {
         Self {
-            format: input.format,
+            shape: input.shape,
+            size: input.size,
             order: input.order,
             grows: input.grows,
             counts: input.counts(),

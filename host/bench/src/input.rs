@@ -1,14 +1,71 @@
 //! What is split.
 
 use differential::generate::{
-    large::{self, Order},
+    large::{self, Fill, Order},
     Case,
 };
 
+/// Tables of one shape.
+#[derive(Clone, Copy, Debug, PartialEq, Eq)]
+pub enum Shape {
+    /// PairPos, format 1.
+    Format1,
+    /// PairPos, format 2.
+    Format2,
+    /// MarkBasePos, with an anchor in each slot of the base array.
+    FullMarks,
+    /// MarkBasePos, with an anchor in one slot of three.
+    SparseMarks,
+}
+
+impl Shape {
+    /// All of them.
+    pub const ALL: [Self; 4] = [
+        Self::Format1,
+        Self::Format2,
+        Self::FullMarks,
+        Self::SparseMarks,
+    ];
+
+    /// In two words.
+    pub const fn name(self) -> &'static str {
+        match self {
+            Self::Format1 => "format 1",
+            Self::Format2 => "format 2",
+            Self::FullMarks => "marks, full",
+            Self::SparseMarks => "marks, sparse",
+        }
+    }
+
+    /// What its size counts.
+    pub const fn unit(self) -> &'static str {
+        match self {
+            Self::Format1 | Self::Format2 => "objects",
+            Self::FullMarks | Self::SparseMarks => "anchors",
+        }
+    }
+
+    /// Whether it is one of MarkBasePos.
+    pub const fn is_marks(self) -> bool {
+        matches!(self, Self::FullMarks | Self::SparseMarks)
+    }
+
+    fn build(self, size: usize, order: Order, seed: u64) -> Case {
+        match self {
+            Self::Format1 => large::format1(size, order, seed),
+            Self::Format2 => large::format2(size, order, seed),
+            Self::FullMarks => large::marks(size, Fill::Full, order, seed),
+            Self::SparseMarks => large::marks(size, Fill::Sparse, order, seed),
+        }
+    }
+}
+
 /// Stores of one kind, each with a table that is cut in several places.
 pub struct Input {
-    /// Of the tables: 1 or 2.
-    pub format: u8,
+    /// What the tables are like.
+    pub shape: Shape,
+    /// How many objects there are, or anchors.
+    pub size: usize,
     /// How the objects are numbered.
     pub order: Order,
     /// Whether it is one of those whose objects grow, links and all the rest with them.
@@ -27,30 +84,29 @@ const LARGE: (u64, usize) = (1, 15);
 
 impl Input {
     /// One of those that grow.
-    fn of(format: u8, objects: usize, order: Order, (stores, repetitions): (u64, usize)) -> Self {
-        let build = match format {
-            1 => large::format1,
-            _ => large::format2,
-        };
+    fn of(shape: Shape, size: usize, order: Order, (stores, repetitions): (u64, usize)) -> Self {
         Self {
-            format,
+            shape,
+            size,
             order,
             grows: true,
             repetitions,
             cases: (0..stores)
-                .map(|seed| build(objects, order, seed))
+                .map(|seed| shape.build(size, order, seed))
                 .collect(),
         }
     }
 
     fn few_objects() -> Self {
         let (stores, repetitions) = MIDDLE;
+        let cases: Vec<Case> = (0..stores).map(large::few_objects).collect();
         Self {
-            format: 2,
+            shape: Shape::Format2,
+            size: cases[0].store.counts[1] as usize,
             order: Order::Made,
             grows: false,
             repetitions,
-            cases: (0..stores).map(large::few_objects).collect(),
+            cases,
         }
     }
 
@@ -59,11 +115,11 @@ impl Input {
         self.cases[0].store.counts
     }
 
-    /// Its format and size.
+    /// Its shape and size.
     pub fn name(&self) -> String {
         let [_, objects, links] = self.counts();
-        let (format, order) = (self.format, order_name(self.order));
-        format!("format {format}, {objects} objects ({order}), {links} links")
+        let (shape, order) = (self.shape.name(), order_name(self.order));
+        format!("{shape}, {objects} objects ({order}), {links} links")
     }
 }
 
@@ -77,21 +133,27 @@ pub fn order_name(order: Order) -> &'static str {
 
 /// Those that take a moment.
 pub fn small() -> Vec<Input> {
-    vec![
-        Input::of(1, 1_000, Order::Made, SMALL),
-        Input::of(2, 1_000, Order::Made, SMALL),
-        Input::few_objects(),
-    ]
+    let mut inputs: Vec<Input> = Shape::ALL
+        .into_iter()
+        .map(|shape| Input::of(shape, 1_000, Order::Made, SMALL))
+        .collect();
+    inputs.push(Input::few_objects());
+    inputs
 }
 
-/// All of them, each format's in order of size.
+/// All of them, those of each shape in order of size.
 pub fn all() -> Vec<Input> {
     let mut inputs = Vec::new();
     for order in [Order::Made, Order::Any] {
-        for (format, most) in [(1, large::MOST_FORMAT1), (2, large::MOST_FORMAT2)] {
-            for (objects, times) in [(1_000, SMALL), (10_000, MIDDLE), (most, LARGE)] {
-                inputs.push(Input::of(format, objects, order, times));
-            }
+        for shape in Shape::ALL {
+            inputs.push(Input::of(shape, 1_000, order, SMALL));
+            inputs.push(Input::of(shape, 10_000, order, MIDDLE));
+            let most = match shape {
+                Shape::Format1 => large::MOST_FORMAT1,
+                Shape::Format2 => large::MOST_FORMAT2,
+                Shape::FullMarks | Shape::SparseMarks => continue,
+            };
+            inputs.push(Input::of(shape, most, order, LARGE));
         }
     }
     inputs.push(Input::few_objects());

@@ -2,7 +2,7 @@
 
 use crate::{
     figures::{growth, noise, Compared, Figures, Spread},
-    input::order_name,
+    input::{order_name, Shape},
     timing::Sides,
 };
 use differential::generate::large::Order;
@@ -14,12 +14,14 @@ const HEAD: &str = "\
 Splits and cut plans of the proved library beside those of the crate's text (`host/oracle`), on the same stores, in one run of
 `cargo run --release -p bench` in `host/`, which wrote this page.
 
-What is timed, on our side: one call of `split_pairpos` or `cut_plan` of the archive, with all its checks of the store and with the
-clearing of the scratch. It is lent exactly what it needs; the scratch is zero at entry.
+What is timed, on our side: one call of `split_pairpos` or `cut_plan` of the archive, and of `split_markbasepos` or
+`cut_plan_markbasepos` for mark-to-base tables, with all its checks of the store and with the clearing of the scratch. It is lent exactly
+what it needs; the scratch is zero at entry.
 
-What is timed, on the oracle's side: one call of the crate's `split_pairpos` on a graph that is ready. It looks at no more than the
-table needs, and checks neither store nor links. Its graph has room for what is added, so no buffer has to grow. The crate has no cut plan
-of its own: for it the same call is timed, and ends where it would add its first new table, since by then all cut places are known.
+What is timed, on the oracle's side: one call of the crate's `split_pairpos` or `split_markbase_pos` on a graph that is ready. It looks at
+no more than the table needs, and checks neither store nor links. Its graph has room for what is added, so no buffer has to grow. The crate
+has no cut plan of its own: for it the same call is timed, and ends where it would add its first new object, since by then all cut places
+are known.
 
 What is not timed: making the store, turning it into the oracle's graph, copying either, and giving memory back. Each repetition has
 copies of its own, and the sides take turns. A time is that of the processor: waiting for a core while others have it does not count.
@@ -32,6 +34,10 @@ Bytes, links, items, covered glyphs and cuts grow as the objects do; the largest
 ones. Objects are numbered as they were made, which is how those who pack tables leave them, or in any order, which is the worst for both
 sides; the plot shows the former. The last is a class table as variable fonts have it: 220 rows of 150 records, each of which has one of
 296 devices.
+
+Mark-to-base tables have 1,000 and 10,000 anchors of 205 to 235 bytes, and five other objects; a class for a hundred anchors, a mark for
+eight, and marks in no order of classes. A full base array has 150 bases and an anchor in each slot; a sparse one has 450 bases and an
+anchor in one slot of three, so that both have about as many links.
 ";
 
 /// All tables.
@@ -40,7 +46,7 @@ pub fn text(figures: &[Figures]) -> String {
     for (name, compared) in [("Split", split as Of), ("Cut plan", plan)] {
         let rows = figures.iter().map(|input| row(input, compared(input)));
         let heads = [
-            "format",
+            "table",
             "numbered",
             "objects",
             "links",
@@ -56,7 +62,7 @@ pub fn text(figures: &[Figures]) -> String {
     }
     let rows = growths(figures);
     if !rows.is_empty() {
-        let heads = ["from 1,000 to 10,000 objects", "ours", "oracle"];
+        let heads = ["from 1,000 to 10,000", "ours", "oracle"];
         write_table(&mut text, "Growth", &heads, rows.into_iter());
         text += "\nThe goal is 11 times at most, for ten times the objects.\n";
     }
@@ -102,7 +108,7 @@ fn row(input: &Figures, compared: &Compared) -> Vec<String> {
     let Sides { ours, oracle } = &compared.times;
     let [low, ratio, high] = compared.ratios.map(digits);
     vec![
-        input.format.to_string(),
+        input.shape.name().to_string(),
         order_name(input.order).to_string(),
         objects,
         links,
@@ -116,22 +122,21 @@ fn row(input: &Figures, compared: &Compared) -> Vec<String> {
     ]
 }
 
-/// Each format's growth, where both sizes were timed.
+/// Each shape's growth, where both sizes were timed.
 fn growths(figures: &[Figures]) -> Vec<Vec<String>> {
     let mut rows = Vec::new();
     for (name, compared) in [("split", split as Of), ("cut plan", plan)] {
-        for format in [1, 2] {
+        for shape in Shape::ALL {
             for order in [Order::Made, Order::Any] {
-                let family = |input: &&Figures| {
-                    input.grows && input.format == format && input.order == order
-                };
+                let family =
+                    |input: &&Figures| input.grows && input.shape == shape && input.order == order;
                 let family: Vec<&Figures> = figures.iter().filter(family).collect();
-                let find = |objects| family.iter().find(|input| input.objects() == objects);
+                let find = |size| family.iter().find(|input| input.size == size);
                 if let (Some(first), Some(second)) = (find(1_000), find(10_000)) {
                     let Sides { ours, oracle } = growth(compared(first), compared(second));
-                    let numbered = order_name(order);
+                    let (shape, unit, numbered) = (shape.name(), shape.unit(), order_name(order));
                     rows.push(vec![
-                        format!("{name}, format {format}, {numbered}"),
+                        format!("{name}, {shape}, {numbered}, {unit}"),
                         digits(ours),
                         digits(oracle),
                     ]);

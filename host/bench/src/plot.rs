@@ -2,6 +2,7 @@
 
 use crate::{
     figures::{Compared, Figures, Spread},
+    input::Shape,
     page::thousands,
 };
 use differential::generate::large::Order;
@@ -20,8 +21,13 @@ const PANELS: [(f64, &str, Of); 2] = [
     (75.0, "Split", |input| &input.split),
     (545.0, "Cut plan", |input| &input.plan),
 ];
-/// Each format's colour. They can be told apart by the colour-blind.
-const COLOURS: [&str; 2] = ["#0072b2", "#d55e00"];
+/// Each shape's colour. They can be told apart by the colour-blind.
+const COLOURS: [(Shape, &str); 4] = [
+    (Shape::Format1, "#0072b2"),
+    (Shape::Format2, "#d55e00"),
+    (Shape::FullMarks, "#009e73"),
+    (Shape::SparseMarks, "#cc79a7"),
+];
 const LEAST_OBJECTS: f64 = 200.0;
 const MOST_OBJECTS: f64 = 100_000.0;
 
@@ -91,22 +97,21 @@ fn decades(figures: &[Figures]) -> [i32; 2] {
 }
 
 fn legend(svg: &mut String) -> fmt::Result {
-    let mut x = PANELS[0].0;
-    let y = 28.0;
-    for (format, colour) in COLOURS.iter().enumerate() {
-        for side in SIDES {
+    for (row, side) in SIDES.into_iter().enumerate() {
+        let y = 22.0 + 20.0 * row as f64;
+        let mut x = PANELS[0].0;
+        for (shape, colour) in COLOURS {
             line(svg, colour, side, &[(x, y), (x + 34.0, y)])?;
             dot(svg, colour, side, (x + 17.0, y), true)?;
-            let name = format!("format {}, {}", format + 1, side.name);
+            let name = format!("{}, {}", shape.name(), side.name);
             label(svg, (x + 42.0, y + 4.0), "start", &name)?;
-            x += 155.0;
+            x += 180.0;
         }
+        dot(svg, COLOURS[1].1, side, (x, y), false)?;
+        let name = format!("33,003 links, {}", side.name);
+        label(svg, (x + 10.0, y + 4.0), "start", &name)?;
     }
-    for (place, side) in SIDES.into_iter().enumerate() {
-        dot(svg, COLOURS[1], side, (x + 14.0 * place as f64, y), false)?;
-    }
-    let name = "33,003 links, ours and oracle";
-    label(svg, (x + 24.0, y + 4.0), "start", name)
+    Ok(())
 }
 
 /// One of the two plots.
@@ -162,8 +167,8 @@ impl Panel {
 
     /// Medians of one side, those that grow joined by lines, and quartiles as bars.
     fn lines(&self, svg: &mut String, figures: &[Figures], of: Of, side: Side) -> fmt::Result {
-        for (format, colour) in COLOURS.iter().enumerate() {
-            let is_of = |input: &&Figures| usize::from(input.format) == format + 1;
+        for (shape, colour) in COLOURS {
+            let is_of = |input: &&Figures| input.shape == shape;
             let inputs = figures.iter().filter(is_of);
             let inputs = inputs.filter(|input| input.order == Order::Made);
             let spread = |input| (side.of)(of(input));

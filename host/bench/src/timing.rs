@@ -2,16 +2,18 @@
 
 use crate::{clock, input::Input};
 use differential::{
-    check::{as_the_oracle, Outcome, Split},
+    check::{as_the_oracle, marks_as_the_oracle, Outcome, Split},
     generate::Case,
     lend::{self, Need},
-    Archive, Call, Random, Subject, Tally,
+    Archive, Call, Marks, Random, Splits, Tally,
 };
 use oracle::Graph;
 use std::{hint::black_box, time::Duration};
 
 /// A store as each side takes it.
 struct Ready {
+    /// Whether its table is one of MarkBasePos.
+    is_marks: bool,
     /// What our split is lent: exactly what it needs, its scratch being zero.
     call: Call<u32>,
     /// The oracle's graph of the store, loaded.
@@ -50,7 +52,11 @@ impl Timing {
     /// Lends and loads what both sides need.
     pub fn new(input: &Input) -> Self {
         Self {
-            stores: input.cases.iter().map(Ready::new).collect(),
+            stores: input
+                .cases
+                .iter()
+                .map(|case| Ready::new(case, input.shape.is_marks()))
+                .collect(),
         }
     }
 
@@ -61,10 +67,7 @@ impl Timing {
 
     /// Both sides cut at the same places, and make the same of the table.
     pub fn agree(&self) -> Outcome {
-        self.stores.iter().try_for_each(|store| {
-            let split = Split::by(&Archive, &store.call);
-            as_the_oracle(&split, &mut Tally::default())
-        })
+        self.stores.iter().try_for_each(Ready::agree)
     }
 
     /// Each side in turn, so many times, and once before to get warm.
@@ -83,30 +86,65 @@ impl Timing {
 }
 
 impl Ready {
-    fn new(case: &Case) -> Self {
-        let mut call = lend::exactly(&case.store, case.table, &mut Random::new(0));
+    fn new(case: &Case, is_marks: bool) -> Self {
+        let (store, table) = (&case.store, case.table);
+        let (mut call, need) = match is_marks {
+            false => (
+                lend::exactly(store, table, &mut Random::new(0)),
+                Need::of(store, table),
+            ),
+            true => (
+                lend::marks_exactly(store, table, &mut Random::new(0)),
+                Need::of_marks(store, table),
+            ),
+        };
         call.scratch.clear();
         Self {
+            is_marks,
             call,
-            graph: Graph::load(&case.store).expect("a sound store"),
-            need: Need::of(&case.store, case.table),
+            graph: Graph::load(store).expect("a sound store"),
+            need,
+        }
+    }
+
+    fn agree(&self) -> Outcome {
+        let tally = &mut Tally::default();
+        match self.is_marks {
+            false => as_the_oracle(&Split::by(&Archive, &self.call), tally),
+            true => marks_as_the_oracle(&Split::by(&Marks(&Archive), &self.call), tally),
         }
     }
 
     fn split(&self) -> Sides<Duration> {
         let mut call = self.call.clone();
-        let ours = time(|| Archive.split_pairpos(&mut call));
         let mut graph = self.graph_with_room();
-        let oracle = time(|| graph.split_pairpos(self.call.table as usize));
-        Sides { ours, oracle }
+        let table = self.call.table as usize;
+        match self.is_marks {
+            false => Sides {
+                ours: time(|| Archive.split(&mut call)),
+                oracle: time(|| graph.split_pairpos(table)),
+            },
+            true => Sides {
+                ours: time(|| Marks(&Archive).split(&mut call)),
+                oracle: time(|| graph.split_markbase_pos(table)),
+            },
+        }
     }
 
     fn plan(&self) -> Sides<Duration> {
         let mut plan = self.call.to_plan();
-        let ours = time(|| Archive.cut_plan(&mut plan));
         let mut graph = self.graph_with_room();
-        let oracle = time(|| graph.plan_pairpos(self.call.table as usize));
-        Sides { ours, oracle }
+        let table = self.call.table as usize;
+        match self.is_marks {
+            false => Sides {
+                ours: time(|| Archive.plan(&mut plan)),
+                oracle: time(|| graph.plan_pairpos(table)),
+            },
+            true => Sides {
+                ours: time(|| Marks(&Archive).plan(&mut plan)),
+                oracle: time(|| graph.plan_markbase_pos(table)),
+            },
+        }
     }
 
     fn graph_with_room(&self) -> Graph {

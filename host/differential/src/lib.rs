@@ -3,8 +3,8 @@
 //!
 //! The rules are written here a second time, in plain Rust and from documents 01 and 02 alone: clear
 //! before fast. Whatever splits PairPos tables is a [`Subject`], and whatever splits MarkBasePos tables
-//! a [`MarkSubject`]; the [`Model`] is both, and the [`Archive`] is another subject. Two subjects agree
-//! if a call leaves the same answer and the same contents, to the last number.
+//! a [`MarkSubject`]; the [`Model`] is both, and so is the [`Archive`]. Two subjects agree if a call leaves
+//! the same answer and the same contents, to the last number.
 //!
 //! | module | holds |
 //! |---|---|

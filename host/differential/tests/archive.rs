@@ -3,7 +3,10 @@
 mod common;
 
 use common::run;
-use differential::{check::all_agree, generate, lend, runs, Archive, Random};
+use differential::{
+    check::{all_agree, marks_agree},
+    generate, lend, runs, Archive, Random,
+};
 
 #[test]
 fn format_1_is_split_as_the_oracle_splits_it() {
@@ -14,6 +17,12 @@ fn format_1_is_split_as_the_oracle_splits_it() {
 #[test]
 fn format_2_is_split_as_the_oracle_splits_it() {
     let tally = run(|seed, tally| runs::whole(&Archive, &generate::format2(seed), seed, tally));
+    assert!(tally.differences.iter().all(|&count| count > 100));
+}
+
+#[test]
+fn marks_are_split_as_the_oracle_splits_them() {
+    let tally = run(|seed, tally| runs::marks_whole(&Archive, &generate::marks(seed), seed, tally));
     assert!(tally.differences.iter().all(|&count| count > 100));
 }
 
@@ -28,5 +37,22 @@ fn any_object_may_be_the_table() {
                 assert_eq!(all_agree(&Archive, &call), Ok(()), "seed {seed}, {table}");
             }
         }
+    }
+}
+
+/// The same, as a MarkBasePos table; and a table of one kind as one of the other.
+#[test]
+fn any_object_may_be_the_table_of_marks() {
+    for seed in 0..80 {
+        for case in [generate::marks(seed), generate::format1(seed)] {
+            let mut call = lend::marks_amply(&case.store, case.table, &mut Random::new(seed));
+            for table in 0..call.store.counts[1].min(100) {
+                call.table = table;
+                assert_eq!(marks_agree(&Archive, &call), Ok(()), "seed {seed}, {table}");
+            }
+        }
+        let case = generate::marks(seed);
+        let call = lend::amply(&case.store, case.table, &mut Random::new(seed));
+        assert_eq!(all_agree(&Archive, &call), Ok(()), "seed {seed}");
     }
 }

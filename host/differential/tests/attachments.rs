@@ -1,10 +1,11 @@
-//! Attachment readings by hand, through the model.
+//! Attachment readings by hand, through the model and the archive.
 
 use differential::{
     by_hand::{marks, push_anchor, BASE_ARRAY, BASE_COVERAGE, MARK_ARRAY},
+    check::attachment_agrees,
     edit,
     model::coverage,
-    Attachment, MarkSubject, Model,
+    Archive, Attachment, MarkSubject, Model,
 };
 use oracle::Store;
 
@@ -20,6 +21,8 @@ fn read(store: &Store, table: u32, mark: u16, base: u16) -> (u32, Attachment) {
         found: 9,
     };
     let answer = Model.read_mark(store, table, [mark, base], &mut attachment);
+    let agrees = attachment_agrees(&Archive, store, table, [mark, base]);
+    assert_eq!(agrees, Ok(()));
     (answer, attachment)
 }
 

@@ -8,7 +8,7 @@ use differential::{
     },
     lend::{self, Need},
     model::soundness::MAXIMA,
-    Marks, Model, Random, Tally,
+    Archive, Marks, Random, Tally,
 };
 use oracle::Store;
 
@@ -80,6 +80,6 @@ fn anchors_grow_with_their_classes() {
 
 fn as_the_oracle(case: &Case) -> Outcome {
     let call = lend::marks_exactly(&case.store, case.table, &mut Random::new(0));
-    let split = Split::by(&Marks(&Model), &call);
+    let split = Split::by(&Marks(&Archive), &call);
     marks_as_the_oracle(&split, &mut Tally::default())
 }

@@ -2,12 +2,12 @@
 
 use differential::{
     check::Split,
-    damage,
+    damage::{self, Damage},
     generate::{self, Case},
-    lend, Call, Model, Pair, Random, Scratch, Subject,
+    lend, Attachment, Call, MarkSubject, Marks, Model, Pair, Random, Scratch, Splits, Subject,
 };
 use oracle::Store;
-use splitter::{cut_plan, read_pair, split, split_into, PairValues, Refusal, StoreRef, Values};
+use splitter::{read_mark, read_pair, Kind, PairValues, Refusal, StoreRef, Values};
 
 const STORES: u64 = 600;
 
@@ -15,64 +15,117 @@ const STORES: u64 = 600;
 const DAMAGED: u64 = 40;
 const SCRAMBLES: usize = 60;
 
-fn cases(seeds: u64) -> impl Iterator<Item = Case> {
-    (0..seeds).flat_map(|seed| [generate::format1(seed), generate::format2(seed)])
+/// A kind of table, and what belongs to it.
+struct Tables {
+    kind: Kind,
+    generate: &'static [fn(u64) -> Case],
+    exactly: fn(&Store, u32, &mut Random) -> Call<u32>,
+    damages: fn() -> Vec<Damage>,
+    plan: fn(&mut Call<u16>) -> u32,
+    split: fn(&Call<u32>) -> Split,
+}
+
+const TABLES: [Tables; 2] = [
+    Tables {
+        kind: Kind::Pairs,
+        generate: &[generate::format1, generate::format2],
+        exactly: lend::exactly,
+        damages: damage::all,
+        plan: |call| Model.plan(call),
+        split: |call| Split::by(&Model, call),
+    },
+    Tables {
+        kind: Kind::Marks,
+        generate: &[generate::marks],
+        exactly: lend::marks_exactly,
+        damages: damage::marks,
+        plan: |call| Marks(&Model).plan(call),
+        split: |call| Split::by(&Marks(&Model), call),
+    },
+];
+
+impl Tables {
+    fn cases(&self, seeds: u64) -> impl Iterator<Item = Case> + '_ {
+        (0..seeds).flat_map(|seed| self.generate.iter().map(move |generate| generate(seed)))
+    }
+
+    fn call(&self, case: &Case, random: &mut Random) -> Call<u32> {
+        (self.exactly)(&case.store, case.table, random)
+    }
+
+    /// What the model plans with all the scratch and list that any table may need.
+    fn model_plan(&self, call: &Call<u32>) -> (u32, Vec<u16>) {
+        let mut plan = call.to_plan();
+        plan.scratch = Scratch {
+            walk: vec![1; 131_072],
+            glyph_set: vec![1; 8_192],
+            glyphs: vec![1; 65_536],
+            classes: vec![1; 65_536],
+            cuts: vec![1; 65_535],
+        };
+        plan.list = vec![0; 65_535];
+        let answer = (self.plan)(&mut plan);
+        plan.list.truncate(plan.count as usize);
+        (answer, plan.list)
+    }
+
+    /// Whether a split is refused, as the model refuses it. The store then stays.
+    fn is_refused(&self, call: &Call<u32>, scratch: &mut splitter::Scratch) -> bool {
+        let (answer, places) = self.model_plan(call);
+        let mut store = owned(&call.store);
+        match self.kind.split(&mut store, call.table, scratch) {
+            Ok(new_tables) => assert_eq!((0, new_tables.len()), (answer, places.len())),
+            Err(refusal) => {
+                assert_eq!(refusal.number(), answer);
+                assert_eq!(store, owned(&call.store));
+            }
+        }
+        answer != 0
+    }
+
+    fn assert_planned(&self, call: &Call<u32>, scratch: &mut splitter::Scratch, name: &str) {
+        let (answer, places) = self.model_plan(call);
+        match self.kind.cut_plan(lent(&call.store), call.table, scratch) {
+            Ok(ours) => assert_eq!((0, ours), (answer, places), "{name}"),
+            Err(refusal) => assert_eq!(refusal.number(), answer, "{name}"),
+        }
+    }
 }
 
 fn lent(store: &Store) -> StoreRef<'_> {
     StoreRef::new(&store.data, &store.objects, &store.links, &store.counts)
 }
 
-/// What the model plans with all the scratch and list that any table may need.
-fn model_plan(call: &Call<u32>) -> (u32, Vec<u16>) {
-    let mut plan = call.to_plan();
-    plan.scratch = Scratch {
-        walk: vec![1; 131_072],
-        glyph_set: vec![1; 8_192],
-        glyphs: vec![1; 65_536],
-        classes: vec![1; 65_536],
-        cuts: vec![1; 65_535],
-    };
-    plan.list = vec![0; 65_535];
-    let answer = Model.cut_plan(&mut plan);
-    plan.list.truncate(plan.count as usize);
-    (answer, plan.list)
-}
-
-fn assert_planned(call: &Call<u32>, scratch: &mut splitter::Scratch, name: &str) {
-    let (answer, places) = model_plan(call);
-    match cut_plan(lent(&call.store), call.table, scratch) {
-        Ok(ours) => assert_eq!((0, ours), (answer, places), "{name}"),
-        Err(refusal) => assert_eq!(refusal.number(), answer, "{name}"),
-    }
-}
-
 /// One scratch serves them all, and grows as it must.
 #[test]
 fn plans() {
     let mut scratch = splitter::Scratch::new();
-    for case in cases(STORES) {
-        let call = lend::exactly(&case.store, case.table, &mut Random::new(0));
-        assert_planned(&call, &mut scratch, "");
-        assert_planned(&call, &mut splitter::Scratch::new(), "");
+    for tables in TABLES {
+        for case in tables.cases(STORES) {
+            let call = tables.call(&case, &mut Random::new(0));
+            tables.assert_planned(&call, &mut scratch, "");
+            tables.assert_planned(&call, &mut splitter::Scratch::new(), "");
+        }
     }
 }
 
 #[test]
 fn plans_of_damaged_stores() {
-    let damages = damage::all();
     let mut scratch = splitter::Scratch::new();
-    for case in cases(DAMAGED) {
-        let mut random = Random::new(case.table.into());
-        let call = lend::exactly(&case.store, case.table, &mut random);
-        for damage in &damages {
-            if let Some(call) = damage.apply(&call, &mut random) {
-                assert_planned(&call, &mut scratch, damage.name);
+    for tables in TABLES {
+        let damages = (tables.damages)();
+        for case in tables.cases(DAMAGED) {
+            let mut random = Random::new(case.table.into());
+            let call = tables.call(&case, &mut random);
+            for damage in &damages {
+                if let Some(call) = damage.apply(&call, &mut random) {
+                    tables.assert_planned(&call, &mut scratch, damage.name);
+                }
             }
-        }
-        for _ in 0..SCRAMBLES {
-            let call = damage::scramble(&call, &mut random);
-            assert_planned(&call, &mut scratch, "scrambled");
+            for _ in 0..SCRAMBLES {
+                let call = damage::scramble(&call, &mut random);
+                tables.assert_planned(&call, &mut scratch, "scrambled");
+            }
         }
     }
 }
@@ -105,60 +158,59 @@ fn in_use(store: splitter::Store) -> Store {
 #[test]
 fn splits() {
     let mut scratch = splitter::Scratch::new();
-    let mut cut = 0;
-    for case in cases(STORES) {
-        let call = lend::exactly(&case.store, case.table, &mut Random::new(0));
-        let model = Split::by(&Model, &call);
-        let mut store = owned(&case.store);
-        let mut list = vec![0; model.places.len()];
-        let answer = split_into(&mut store, case.table, &mut scratch, &mut list);
-        if !model.places.is_empty() {
-            assert_eq!(answer, Err(Refusal::NoRoom));
-            cut += 1;
-        }
-        assert_eq!(in_use(store.clone()), case.store);
-        let new_tables = split(&mut store, case.table, &mut scratch);
-        assert_eq!(new_tables.as_deref(), Ok(model.new_tables()));
-        assert!(store.view().is_sound());
-        assert_eq!(in_use(store), model.after.store);
+    for tables in TABLES {
+        let cut = tables.cases(STORES).filter(|case| {
+            let call = tables.call(case, &mut Random::new(0));
+            let model = (tables.split)(&call);
+            assert_split(tables.kind, case, &model, &mut scratch);
+            !model.places.is_empty()
+        });
+        assert!(cut.count() > 300);
     }
-    assert!(cut > 500);
+}
+
+/// The store is split as by the model, and grows where it is cut.
+fn assert_split(kind: Kind, case: &Case, model: &Split, scratch: &mut splitter::Scratch) {
+    let mut store = owned(&case.store);
+    let mut list = vec![0; model.places.len()];
+    let answer = kind.split_into(&mut store, case.table, scratch, &mut list);
+    if !model.places.is_empty() {
+        assert_eq!(answer, Err(Refusal::NoRoom));
+    }
+    assert_eq!(in_use(store.clone()), case.store);
+    let new_tables = kind.split(&mut store, case.table, scratch);
+    assert_eq!(new_tables.as_deref(), Ok(model.new_tables()));
+    assert!(store.view().is_sound());
+    assert_eq!(in_use(store), model.after.store);
 }
 
 /// Damaged stores that are sound are refused, and stay; or they are split.
 #[test]
 fn splits_of_damaged_stores() {
     let mut scratch = splitter::Scratch::new();
-    let mut refused = 0;
-    for case in cases(DAMAGED) {
-        let mut random = Random::new(case.table.into());
-        let call = lend::exactly(&case.store, case.table, &mut random);
-        for _ in 0..SCRAMBLES {
-            let mut call = damage::scramble(&call, &mut random);
-            if !lent(&call.store).is_sound() {
-                continue;
-            }
-            call.store = in_use(owned(&call.store));
-            let (answer, places) = model_plan(&call);
-            let mut store = owned(&call.store);
-            match split(&mut store, call.table, &mut scratch) {
-                Ok(new_tables) => assert_eq!((0, new_tables.len()), (answer, places.len())),
-                Err(refusal) => {
-                    assert_eq!(refusal.number(), answer);
-                    assert_eq!(store, owned(&call.store));
-                    refused += 1;
+    for tables in TABLES {
+        let mut refused = 0;
+        for case in tables.cases(DAMAGED) {
+            let mut random = Random::new(case.table.into());
+            let call = tables.call(&case, &mut random);
+            for _ in 0..SCRAMBLES {
+                let mut call = damage::scramble(&call, &mut random);
+                if !lent(&call.store).is_sound() {
+                    continue;
                 }
+                call.store = in_use(owned(&call.store));
+                refused += usize::from(tables.is_refused(&call, &mut scratch));
             }
         }
+        assert!(refused > 250);
     }
-    assert!(refused > 500);
 }
 
 /// The library's names for the sixteen numbers.
 #[test]
 fn values_have_their_names() {
     let (mut found, mut devices) = (0, 0);
-    for case in cases(STORES) {
+    for case in TABLES[0].cases(STORES) {
         for (first, second) in (0..40).map(|glyph| (7 * glyph, 3 * glyph % 11)) {
             let mut pair = Pair::default();
             Model.read_pair(&case.store, case.table, [first, second], &mut pair);
@@ -171,6 +223,29 @@ fn values_have_their_names() {
     }
     println!("pairs found {found}, with devices {devices}");
     assert!(found > 1_000 && devices > 10);
+}
+
+/// The library's names for the two anchors.
+#[test]
+fn anchors_have_their_names() {
+    let mut found = 0;
+    for case in TABLES[1].cases(STORES) {
+        let marks = differential::model::answers::open_marks(&case.store, case.table);
+        let marks = marks.unwrap().unwrap();
+        for (&mark, &base) in marks.mark_glyphs.iter().zip(marks.base_glyphs.iter().rev()) {
+            let mut theirs = Attachment::default();
+            Model.read_mark(&case.store, case.table, [mark, base], &mut theirs);
+            let ours = read_mark(lent(&case.store), case.table, mark, base).unwrap();
+            let anchors = ours.map_or([0; 2], |it| [it.mark_anchor + 1, it.base_anchor + 1]);
+            assert_eq!(
+                (ours.is_some(), anchors),
+                (theirs.found == 1, theirs.anchors)
+            );
+            found += theirs.found;
+        }
+    }
+    println!("attachments found {found}");
+    assert!(found > 500);
 }
 
 fn numbers(pair: PairValues) -> [i32; 16] {

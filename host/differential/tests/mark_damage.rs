@@ -1,12 +1,13 @@
-//! Damaged calls for MarkBasePos tables are refused by their numbers, and nothing else changes.
+//! Damaged calls for MarkBasePos tables are refused by their numbers, and nothing else changes: by the
+//! model, and by the archive as by the model.
 
 #[path = "common/damaged.rs"]
 mod damaged;
 
 use damaged::Kind;
 use differential::{
-    check::{refused_or_marks_as_the_oracle, Split},
-    damage, generate, lend, Attachment, Call, MarkSubject, Marks, Model, Random, Tally,
+    check::{marks_agree, refused_or_marks_as_the_oracle, Split},
+    damage, generate, lend, Archive, Attachment, Call, MarkSubject, Marks, Model, Random, Tally,
 };
 
 const STORES: u64 = 160;
@@ -29,7 +30,9 @@ fn calls() -> Vec<(Call<u32>, Random)> {
     calls.collect()
 }
 
+/// What both answer.
 fn answers(call: &Call<u32>) -> [u32; 3] {
+    assert_eq!(marks_agree(&Archive, call), Ok(()));
     let (store, table) = (&call.store, call.table);
     [
         Model.split_markbasepos(&mut call.clone()),
@@ -62,7 +65,8 @@ fn another_format_is_nothing_to_split() {
 #[test]
 fn anything_may_be_wrong() {
     let mut tally = Tally::default();
-    MARKS.anything_may_be_wrong(|_, split| {
+    MARKS.anything_may_be_wrong(|call, split| {
+        assert_eq!(marks_agree(&Archive, call), Ok(()));
         assert_eq!(refused_or_marks_as_the_oracle(split, &mut tally), Ok(()));
     });
     println!("{tally}");

@@ -1,4 +1,4 @@
-//! Splits of MarkBasePos tables by hand, through the model and the oracle.
+//! Splits of MarkBasePos tables by hand, through the archive, the model and the oracle.
 
 use differential::{
     by_hand::{marks, push_anchor, BASE_ARRAY, BASE_COVERAGE, MARK_ARRAY},
@@ -7,21 +7,21 @@ use differential::{
     edit, lend,
     lend::Need,
     model::{coverage, numbers::bytes, soundness::MAXIMA},
-    MarkSubject, Marks, Model, Random, Tally,
+    Archive, MarkSubject, Marks, Random, Tally,
 };
 use oracle::Store;
 
 const TABLE: u32 = 0;
 
-/// The split, which is the oracle's.
+/// The split, which is the model's and the oracle's.
 fn split(store: &Store) -> Split {
     let call = lend::marks_exactly(store, TABLE, &mut Random::new(0));
-    assert_eq!(marks_agree(&Model, &call), Ok(()));
-    let split = Split::by(&Marks(&Model), &call);
+    assert_eq!(marks_agree(&Archive, &call), Ok(()));
+    let split = Split::by(&Marks(&Archive), &call);
     assert_eq!(split.answer, 0);
     assert_eq!(marks_as_the_oracle(&split, &mut Tally::default()), Ok(()));
     assert_eq!(frame(&split), Ok(()));
-    assert_eq!(again(&Marks(&Model), &split), Ok(()));
+    assert_eq!(again(&Marks(&Archive), &split), Ok(()));
     split
 }
 
@@ -272,7 +272,8 @@ fn all_cuts(classes: u16) -> (Store, u32) {
     call.store.data.resize(MAXIMA[0] + 100, 7);
     call.store.objects.resize(2 * (MAXIMA[1] + 100), 7);
     call.store.links.resize(4 * (MAXIMA[2] + 100), 7);
-    let answer = Model.split_markbasepos(&mut call);
+    assert_eq!(marks_agree(&Archive, &call), Ok(()));
+    let answer = Archive.split_markbasepos(&mut call);
     (store, answer)
 }
 
@@ -299,7 +300,8 @@ fn half_of_the_links_can_be_split() {
         let mut call = lend::marks_exactly(&store, TABLE, &mut Random::new(0));
         assert_eq!(call.list.len(), 2);
         call.store.links.resize(4 * (MAXIMA[2] + 100), 7);
-        Model.split_markbasepos(&mut call)
+        assert_eq!(marks_agree(&Archive, &call), Ok(()));
+        Archive.split_markbasepos(&mut call)
     };
     assert_eq!(answer(131_066), 0);
     assert_eq!(answer(131_067), 8);

@@ -13,10 +13,11 @@ mod files;
 mod font;
 mod help;
 mod look;
+mod mark;
 mod pair;
-mod pairs;
 mod plan;
 mod progress;
+mod readings;
 mod report;
 mod sample;
 mod screen;
@@ -43,6 +44,7 @@ fn follow(request: Request) -> Result<(), Failure> {
         Request::Plan(request) => plan::run(&request, &mut screen),
         Request::Split(request) => split::run(&request, &mut screen),
         Request::Pair(request) => pair::run(&request, &mut screen),
+        Request::Mark(request) => mark::run(&request, &mut screen),
         Request::Font(request) => font::run(&request, &mut screen),
         Request::Help(topic) => screen.text(help::of(topic)),
         Request::Version => screen.text(help::VERSION),

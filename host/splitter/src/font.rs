@@ -5,18 +5,19 @@
 //! a font is a [`FontError`].
 //!
 //! ```
-//! use splitter::font::{find_gpos, load_pairs, FontError, Kind, Lookups, TABLE};
-//! use splitter::{cut_plan, Scratch};
+//! use splitter::font::{find_gpos, load, FontError, Lookups, TABLE};
+//! use splitter::{Kind, Scratch};
 //!
-//! fn show_cuts(file: &[u8]) -> Result<(), FontError> {
+//! fn show_cuts(file: &[u8], kind: Kind) -> Result<(), FontError> {
 //!     let Some(gpos) = find_gpos(file)? else { return Ok(()) };
-//!     for subtable in Lookups::read(gpos, Kind::Pairs)?.subtables {
-//!         let store = load_pairs(gpos, subtable.start)?;
-//!         println!("{:?}", cut_plan(&store, TABLE, &mut Scratch::new())?);
+//!     for subtable in Lookups::read(gpos, kind)?.subtables {
+//!         let store = load(gpos, kind, subtable.start)?;
+//!         println!("{:?}", kind.cut_plan(&store, TABLE, &mut Scratch::new())?);
 //!     }
 //!     Ok(())
 //! }
-//! # assert_eq!(show_cuts(b"a letter to a friend"), Err(FontError::NotAFont));
+//! # let letter = b"a letter to a friend";
+//! # assert_eq!(show_cuts(letter, Kind::Marks), Err(FontError::NotAFont));
 //! ```
 
 mod bytes;
@@ -31,9 +32,19 @@ mod pairs;
 pub use bytes::Bytes;
 pub use directory::find_gpos;
 pub use error::FontError;
-pub use lookups::{Kind, Lookups, Subtable};
+pub use lookups::{Lookups, Subtable};
 pub use marks::load_marks;
 pub use pairs::load_pairs;
 
+use crate::{Kind, Store};
+
 /// The table's number in its store.
 pub const TABLE: u32 = 0;
+
+/// A table of a kind with all that it leads to, as object [`TABLE`] of a store.
+pub fn load(gpos: Bytes, kind: Kind, start: usize) -> Result<Store, FontError> {
+    match kind {
+        Kind::Pairs => load_pairs(gpos, start),
+        Kind::Marks => load_marks(gpos, start),
+    }
+}

@@ -1,4 +1,4 @@
-//! The proved PairPos splitter, for hosts in Rust.
+//! The proved splitter of PairPos and MarkBasePos tables, for hosts in Rust.
 //!
 //! A font's objects and the links between them stand in a [`Store`], or in buffers of the host's own
 //! as a [`StoreRef`] or [`StoreMut`]. Every call answers any input; where it cannot do what it is
@@ -6,11 +6,18 @@
 //! proved, in Rattle, to do exactly what is documented: [`raw`] has them as they are exported, and
 //! the rest of this crate only lends them buffers and puts names on their numbers.
 //!
-//! | to | call |
+//! | to | of pairs | of marks on bases |
+//! |---|---|---|
+//! | split a table that is too large | [`split()`] | [`split_marks`] |
+//! | the same, with a list of the host's own | [`split_into`] | [`split_marks_into`] |
+//! | see where it would be cut | [`cut_plan`] | [`cut_plan_marks`] |
+//! | the same, with a list of the host's own | [`cut_plan_into`] | [`cut_plan_marks_into`] |
+//! | read what a table says of two glyphs | [`read_pair`] | [`read_mark`] |
+//!
+//! The first four are methods of [`Kind`] too, for a host that has tables of both kinds.
+//!
+//! | to | see |
 //! |---|---|
-//! | split a table that is too large | [`split()`], or [`split_into`] with a list of the host's own |
-//! | see where it would be cut | [`cut_plan`], or [`cut_plan_into`] |
-//! | read what a table says of two glyphs | [`read_pair`] |
 //! | keep a store in a file, for the command `splitter` | [`store_file`] |
 //! | take tables out of a font | [`font`] |
 //!
@@ -45,6 +52,8 @@
 #![deny(missing_docs, unsafe_code)]
 
 pub mod font;
+mod kind;
+mod mark;
 mod need;
 mod pair;
 mod plan;
@@ -55,9 +64,11 @@ mod split;
 mod store;
 pub mod store_file;
 
+pub use kind::Kind;
+pub use mark::{read_mark, Attachment};
 pub use pair::{read_pair, PairValues, Values};
-pub use plan::{cut_plan, cut_plan_into};
+pub use plan::{cut_plan, cut_plan_into, cut_plan_marks, cut_plan_marks_into};
 pub use refusal::Refusal;
 pub use scratch::Scratch;
-pub use split::{split, split_into};
+pub use split::{split, split_into, split_marks, split_marks_into};
 pub use store::{Link, Room, Store, StoreMut, StoreRef};

@@ -1,52 +1,97 @@
-//! What a call needs to be lent, by what the headers of the table and of its coverage say.
+//! What a call needs to be lent, by what the headers of the table and of its parts say.
 
-use crate::{Room, StoreRef};
+use crate::{Kind, Room, StoreRef};
 
 /// What a split or a cut plan of a table needs.
 ///
 /// Where a header cannot be read the numbers mean nothing. The call is then refused for that, before it
 /// looks at what it is lent.
 pub(crate) struct Need {
-    /// The table's format.
-    pub format: usize,
-    /// The table's bytes.
-    pub bytes: usize,
     /// The objects in use.
     pub objects: usize,
     /// The covered glyphs.
     pub glyphs: usize,
-    /// The pair sets or rows.
+    /// The pair sets, rows or mark classes.
     pub items: usize,
+    /// The room that each cut needs.
+    each_cut: Room,
+    /// The room that is needed once, with any cut.
+    once: Room,
 }
 
 impl Need {
-    pub fn of(store: StoreRef, table: u32) -> Self {
-        let bytes = |object| store.object(object).unwrap_or_default();
-        let header = bytes(table);
-        let format = word(header, 0);
-        let count = if format == 1 { 8 } else { 12 };
-        let coverage = store.child(table, 2);
+    pub fn of(kind: Kind, store: StoreRef, table: u32) -> Self {
+        let header = store.object(table).unwrap_or_default();
+        let glyphs = covered(part(store, table, 2));
+        let (count, [each_cut, once]) = match (kind, word(header, 0)) {
+            (Kind::Pairs, 1) => (8, pairs_room(header, glyphs, 1, 1)),
+            (Kind::Pairs, _) => (12, pairs_room(header, glyphs, 2, 3)),
+            (Kind::Marks, _) => (6, marks_room(store, table, glyphs)),
+        };
         Self {
-            format,
-            bytes: header.len(),
             objects: (store.counts()[1] as usize).min(Room::MOST.objects),
-            glyphs: coverage.map_or(0, |coverage| covered(bytes(coverage))),
+            glyphs,
             items: word(header, count),
+            each_cut,
+            once,
         }
     }
 
-    /// The room for so many cuts. Of the data it may be more than is needed: no more item bytes are
-    /// moved than the table has, and a covered glyph goes to one coverage, in 2 bytes or less, and to
-    /// one class definition, in 6 or less.
+    /// The room for so many cuts. Of the data it may be more than is needed.
     pub fn room(&self, cuts: usize) -> Room {
-        let (parts, links) = if self.format == 1 { (1, 1) } else { (2, 3) };
-        let headers = 16 * cuts + 4 * parts * (cuts + 1);
+        let Self { each_cut, once, .. } = self;
         Room {
-            data: headers + self.bytes + 8 * self.glyphs,
-            objects: cuts + parts * (cuts + 1),
-            links: links * cuts,
+            data: once.data + cuts * each_cut.data,
+            objects: once.objects + cuts * each_cut.objects,
+            links: once.links + cuts * each_cut.links,
         }
     }
+}
+
+/// For each cut and once, where tables have so many parts that are written, and so many links to
+/// parts. No more item bytes are moved than the table has, and a covered glyph goes to one coverage, in
+/// 2 bytes or less, and to one class definition, in 6 or less.
+fn pairs_room(header: &[u8], glyphs: usize, parts: usize, links: usize) -> [Room; 2] {
+    let each_cut = Room {
+        data: 16 + 4 * parts,
+        objects: 1 + parts,
+        links,
+    };
+    let once = Room {
+        data: 4 * parts + header.len() + 8 * glyphs,
+        objects: parts,
+        links: 0,
+    };
+    [each_cut, once]
+}
+
+/// For each cut and once. A mark goes to one coverage, in 2 bytes or less, and what the arrays have
+/// behind their counts is written once, links and all.
+fn marks_room(store: StoreRef, table: u32, glyphs: usize) -> [Room; 2] {
+    let arrays = [8, 10];
+    let bytes = arrays.map(|position| part(store, table, position).len());
+    let links = arrays.map(|position| {
+        let array = store.child(table, position);
+        array.map_or(0, |array| store.links_of(array).len())
+    });
+    let headers = 4 + 2 + 2;
+    let each_cut = Room {
+        data: 12 + headers,
+        objects: 4,
+        links: 4,
+    };
+    let once = Room {
+        data: headers + 2 * glyphs + bytes[0] + bytes[1],
+        objects: 3,
+        links: links[0] + links[1],
+    };
+    [each_cut, once]
+}
+
+/// The bytes of the object that is linked at a position, or none.
+fn part(store: StoreRef<'_>, table: u32, position: u32) -> &[u8] {
+    let part = store.child(table, position);
+    part.and_then(|part| store.object(part)).unwrap_or_default()
 }
 
 /// How many glyphs a coverage has: what a list counts, or what there is up to the last range's end.

@@ -1,4 +1,4 @@
-//! What a table says of two glyphs.
+//! What a PairPos table says of two glyphs.
 
 use crate::{raw, Refusal, StoreRef};
 
@@ -32,7 +32,7 @@ pub struct Values {
     pub y_advance_device: Option<u32>,
 }
 
-/// Reads what a table says of two glyphs, the first before the second.
+/// Reads what a PairPos table says of two glyphs, the first before the second.
 ///
 /// There is no pair where the table says nothing of the two, or has a format other than 1 and 2.
 ///

@@ -1,38 +1,102 @@
 //! Where a table would be cut.
 
-use crate::{need::Need, Refusal, Scratch, StoreRef};
+use crate::{need::Need, Kind, Refusal, Scratch, StoreRef};
 
-/// Says where a table would be cut: at which pair sets of format 1, or rows of format 2.
+impl Kind {
+    /// Says where a table of this kind would be cut: at which items.
+    ///
+    /// There are no places where the table fits as it is, or has a format that is not split.
+    ///
+    /// # Errors
+    ///
+    /// The first [`Refusal`] that applies; scratch is never short, and there is always room.
+    pub fn cut_plan<'a>(
+        self,
+        store: impl Into<StoreRef<'a>>,
+        table: u32,
+        scratch: &mut Scratch,
+    ) -> Result<Vec<u16>, Refusal> {
+        let store = store.into();
+        let mut places = vec![0; Need::of(self, store, table).items];
+        let count = self.cut_plan_into(store, table, scratch, &mut places)?;
+        places.truncate(count);
+        places.shrink_to_fit();
+        Ok(places)
+    }
+
+    /// Says where a table of this kind would be cut, in a list that is lent, and gives how many places
+    /// there are.
+    ///
+    /// # Errors
+    ///
+    /// The first [`Refusal`] that applies; scratch is never short. [`NoRoom`](Refusal::NoRoom) means
+    /// that the list is too short. The list then stays as it was.
+    pub fn cut_plan_into<'a>(
+        self,
+        store: impl Into<StoreRef<'a>>,
+        table: u32,
+        scratch: &mut Scratch,
+        places: &mut [u16],
+    ) -> Result<usize, Refusal> {
+        scratch.plan(self, store.into(), table, places)
+    }
+}
+
+/// Says where a PairPos table would be cut: at which pair sets of format 1, or rows of format 2.
 ///
 /// There are no places where the table fits as it is, or has a format other than 1 and 2.
 ///
 /// # Errors
 ///
-/// The first [`Refusal`] that applies; scratch is never short, and there is always room.
+/// Those of [`Kind::cut_plan`].
 pub fn cut_plan<'a>(
     store: impl Into<StoreRef<'a>>,
     table: u32,
     scratch: &mut Scratch,
 ) -> Result<Vec<u16>, Refusal> {
-    let store = store.into();
-    let mut places = vec![0; Need::of(store, table).items];
-    let count = cut_plan_into(store, table, scratch, &mut places)?;
-    places.truncate(count);
-    places.shrink_to_fit();
-    Ok(places)
+    Kind::Pairs.cut_plan(store, table, scratch)
 }
 
-/// Says where a table would be cut, in a list that is lent, and gives how many places there are.
+/// Says where a PairPos table would be cut, in a list that is lent, and gives how many places there are.
 ///
 /// # Errors
 ///
-/// The first [`Refusal`] that applies; scratch is never short. [`NoRoom`](Refusal::NoRoom) means that
-/// the list is too short. The list then stays as it was.
+/// Those of [`Kind::cut_plan_into`].
 pub fn cut_plan_into<'a>(
     store: impl Into<StoreRef<'a>>,
     table: u32,
     scratch: &mut Scratch,
     places: &mut [u16],
 ) -> Result<usize, Refusal> {
-    scratch.plan(store.into(), table, places)
+    Kind::Pairs.cut_plan_into(store, table, scratch, places)
+}
+
+/// Says where a MarkBasePos table would be cut: at which mark classes.
+///
+/// There are no places where the table fits as it is, or has a format other than 1.
+///
+/// # Errors
+///
+/// Those of [`Kind::cut_plan`].
+pub fn cut_plan_marks<'a>(
+    store: impl Into<StoreRef<'a>>,
+    table: u32,
+    scratch: &mut Scratch,
+) -> Result<Vec<u16>, Refusal> {
+    Kind::Marks.cut_plan(store, table, scratch)
+}
+
+/// Says where a MarkBasePos table would be cut, in a list that is lent, and gives how many places there
+/// are.
+///
+/// # Errors
+///
+/// Those of [`Kind::cut_plan_into`].
+pub fn cut_plan_marks_into<'a>(
+    store: impl Into<StoreRef<'a>>,
+    table: u32,
+    scratch: &mut Scratch,
+    places: &mut [u16],
+) -> Result<usize, Refusal> {
+    Kind::Marks.cut_plan_into(store, table, scratch, places)
 }

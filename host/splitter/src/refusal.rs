@@ -17,13 +17,14 @@ pub enum Refusal {
     NoTable = 2,
     /// The table has not the length that its header asks for.
     BadTable = 3,
-    /// Coverage or a class definition is not linked, or cannot be read.
+    /// A coverage, a class definition or an array is not linked, or cannot be read.
     BadParts = 4,
-    /// A format 1 table has more pair sets than its coverage has glyphs.
+    /// A table has more pair sets, in PairPos format 1, or more marks than its coverage has glyphs.
     FewGlyphs = 5,
     /// A scratch is too short.
     ShortScratch = 6,
-    /// A link of the table stands at no slot, or the table can be reached from itself.
+    /// A link of the table, or of a mark or base array, stands at no slot, or the table can be reached from
+    /// itself.
     BadLinks = 7,
     /// There is no room for what would be written.
     NoRoom = 8,
@@ -84,21 +85,26 @@ impl Display for Refusal {
             }
             Self::BadTable => {
                 "the table's length is not what its header asks for: make it 10 bytes and 2 for each \
-                 pair set in format 1, or 16 bytes and all class records in format 2"
+                 pair set in PairPos format 1, 16 bytes and all class records in PairPos format 2, or \
+                 12 bytes in MarkBasePos"
             }
             Self::BadParts => {
-                "coverage or a class definition is not linked or cannot be read: link each from the \
-                 table's header, and write it as OpenType lays it out, sorted and with nothing behind it"
+                "a coverage, a class definition or an array is not linked or cannot be read: link each \
+                 from the table's header, and write it as OpenType lays it out, sorted, with nothing \
+                 behind it, and with mark classes below the table's class count"
             }
             Self::FewGlyphs => {
-                "the coverage has fewer glyphs than the table has pair sets: cover a glyph for each set"
+                "the coverage has fewer glyphs than the table has pair sets or marks: cover a glyph for \
+                 each of them"
             }
             Self::ShortScratch => {
                 "a scratch is too short: lend two numbers of walk for each object in use, 8,192 bytes of \
-                 glyph set, glyphs and classes for each covered glyph, and cuts for each pair set or row"
+                 glyph set, glyphs and classes for each covered glyph, and cuts for each pair set, row or \
+                 mark class"
             }
             Self::BadLinks => {
-                "a link of the table stands at no slot or leads back to the table: remove it"
+                "a link of the table, or of its mark or base array, stands at no slot or leads back to \
+                 the table: remove it"
             }
             Self::NoRoom => {
                 "there is no room for what would be written: lend more data, objects, links or result \

@@ -1,13 +1,13 @@
 //! The scratch of a split and of a cut plan.
 
-use crate::{need::Need, raw, Refusal, StoreMut, StoreRef};
+use crate::{need::Need, raw, Kind, Refusal, StoreMut, StoreRef};
 
 const GLYPH_SET: usize = 8_192;
 
 /// Buffers that splits and cut plans work in, kept from call to call.
 ///
-/// They grow as tables need them, up to 1 MB. One is enough for all stores and tables, and no call
-/// leaves anything in it.
+/// They grow as tables need them, up to 1 MB. One is enough for all stores and tables, of both kinds,
+/// and no call leaves anything in it.
 #[derive(Clone, Debug, Default)]
 pub struct Scratch {
     walk: Vec<u32>,
@@ -31,13 +31,18 @@ impl Scratch {
 
     pub(crate) fn split(
         &mut self,
+        kind: Kind,
         store: StoreMut,
         table: u32,
         new_tables: &mut [u32],
     ) -> Result<usize, Refusal> {
-        let need = Need::of(store.view(), table);
+        let need = Need::of(kind, store.view(), table);
+        let split = match kind {
+            Kind::Pairs => raw::split_pairpos,
+            Kind::Marks => raw::split_markbasepos,
+        };
         let mut count = 0;
-        let answer = raw::split_pairpos(
+        let answer = split(
             store.data,
             store.objects,
             store.links,
@@ -56,13 +61,18 @@ impl Scratch {
 
     pub(crate) fn plan(
         &mut self,
+        kind: Kind,
         store: StoreRef,
         table: u32,
         places: &mut [u16],
     ) -> Result<usize, Refusal> {
-        let need = Need::of(store, table);
+        let need = Need::of(kind, store, table);
+        let plan = match kind {
+            Kind::Pairs => raw::cut_plan,
+            Kind::Marks => raw::cut_plan_markbasepos,
+        };
         let mut count = 0;
-        let answer = raw::cut_plan(
+        let answer = plan(
             store.data,
             store.objects,
             store.links,

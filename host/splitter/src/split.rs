@@ -1,46 +1,149 @@
 //! Splitting a table.
 
-use crate::{cut_plan, need::Need, Refusal, Scratch, Store, StoreMut};
+use crate::{need::Need, Kind, Refusal, Scratch, Store, StoreMut};
 
-/// Splits a table, and gives the new tables in order.
-///
-/// The table keeps its number and its first items. There are no new tables, and nothing changes,
-/// where it fits as it is, or has a format other than 1 and 2. The store grows where it has no room;
-/// room that is then left over stays.
-///
-/// # Errors
-///
-/// The first [`Refusal`] that applies. Scratch is never short, and an owned store is always sound.
-/// [`NoRoom`](Refusal::NoRoom) means that the store would go past its maxima. Nothing has changed.
-pub fn split(store: &mut Store, table: u32, scratch: &mut Scratch) -> Result<Vec<u32>, Refusal> {
-    let need = Need::of(store.view(), table);
-    let mut new_tables = vec![0; need.items];
-    let count = match split_into(&mut *store, table, scratch, &mut new_tables) {
-        Err(Refusal::NoRoom) => {
-            let cuts = cut_plan(&*store, table, scratch)?.len();
-            store.with_room(need.room(cuts), |store| {
-                split_into(store, table, scratch, &mut new_tables)
-            })?
-        }
-        answer => answer?,
-    };
-    new_tables.truncate(count);
-    new_tables.shrink_to_fit();
-    Ok(new_tables)
+impl Kind {
+    /// Splits a table of this kind, and gives the new tables in order.
+    ///
+    /// The table keeps its number and its first items. There are no new tables, and nothing changes,
+    /// where it fits as it is, or has a format that is not split. The store grows where it has no room;
+    /// room that is then left over stays.
+    ///
+    /// # Errors
+    ///
+    /// The first [`Refusal`] that applies. Scratch is never short, and an owned store is always sound.
+    /// [`NoRoom`](Refusal::NoRoom) means that the store would go past its maxima. Nothing has changed.
+    pub fn split(
+        self,
+        store: &mut Store,
+        table: u32,
+        scratch: &mut Scratch,
+    ) -> Result<Vec<u32>, Refusal> {
+        let need = Need::of(self, store.view(), table);
+        let mut new_tables = vec![0; need.items];
+        let count = match self.split_into(&mut *store, table, scratch, &mut new_tables) {
+            Err(Refusal::NoRoom) => {
+                let cuts = self.cut_plan(&*store, table, scratch)?.len();
+                store.with_room(need.room(cuts), |store| {
+                    self.split_into(store, table, scratch, &mut new_tables)
+                })?
+            }
+            answer => answer?,
+        };
+        new_tables.truncate(count);
+        new_tables.shrink_to_fit();
+        Ok(new_tables)
+    }
+
+    /// Splits a table of this kind in a store that has what room it has. The list, which is lent, takes
+    /// the new tables from its first entry on. Gives how many there are.
+    ///
+    /// # Errors
+    ///
+    /// The first [`Refusal`] that applies; scratch is never short. [`NoRoom`](Refusal::NoRoom) means
+    /// that data, objects, links or list are too short. Nothing has changed then.
+    pub fn split_into<'a>(
+        self,
+        store: impl Into<StoreMut<'a>>,
+        table: u32,
+        scratch: &mut Scratch,
+        new_tables: &mut [u32],
+    ) -> Result<usize, Refusal> {
+        scratch.split(self, store.into(), table, new_tables)
+    }
 }
 
-/// Splits a table of a store that has what room it has. The list, which is lent, takes the new tables
-/// from its first entry on. Gives how many there are.
+/// Splits a PairPos table between pair sets or rows, and gives the new tables in order.
+///
+/// It is [`Kind::split`] of [`Kind::Pairs`]. Formats other than 1 and 2 are not split.
 ///
 /// # Errors
 ///
-/// The first [`Refusal`] that applies; scratch is never short. [`NoRoom`](Refusal::NoRoom) means that
-/// data, objects, links or list are too short. Nothing has changed then.
+/// Those of [`Kind::split`].
+pub fn split(store: &mut Store, table: u32, scratch: &mut Scratch) -> Result<Vec<u32>, Refusal> {
+    Kind::Pairs.split(store, table, scratch)
+}
+
+/// Splits a PairPos table in a store that has what room it has, and gives how many new tables there are.
+///
+/// It is [`Kind::split_into`] of [`Kind::Pairs`].
+///
+/// # Errors
+///
+/// Those of [`Kind::split_into`].
 pub fn split_into<'a>(
     store: impl Into<StoreMut<'a>>,
     table: u32,
     scratch: &mut Scratch,
     new_tables: &mut [u32],
 ) -> Result<usize, Refusal> {
-    scratch.split(store.into(), table, new_tables)
+    Kind::Pairs.split_into(store, table, scratch, new_tables)
+}
+
+/// Splits a MarkBasePos table between mark classes, and gives the new tables in order.
+///
+/// It is [`Kind::split`] of [`Kind::Marks`]. Formats other than 1 are not split. The kept table gets a mark
+/// coverage, a mark array and a base array of its own, as each new table does; all share the base
+/// coverage and the anchors.
+///
+/// ```
+/// use splitter::{cut_plan_marks, read_mark, split_marks, Attachment, Refusal, Scratch, Store};
+///
+/// // Marks 10, 20 and 30 of classes 1, 0 and 1, on bases 60 and 61.
+/// let mut store = Store::new();
+/// let table = store.add_object(&[0, 1, 0, 0, 0, 0, 0, 2, 0, 0, 0, 0])?;
+/// let mark_coverage = store.add_object(&[0, 1, 0, 3, 0, 10, 0, 20, 0, 30])?;
+/// let base_coverage = store.add_object(&[0, 1, 0, 2, 0, 60, 0, 61])?;
+/// let mark_array = store.add_object(&[0, 3, 0, 1, 0, 0, 0, 0, 0, 0, 0, 1, 0, 0])?;
+/// let base_array = store.add_object(&[0, 2, 0, 0, 0, 0, 0, 0, 0, 0])?;
+/// for (slot, part) in [(2, mark_coverage), (4, base_coverage), (8, mark_array), (10, base_array)] {
+///     store.add_link(table, slot, part)?;
+/// }
+/// // All marks have one anchor. Both classes have one on base 60, which is far too large.
+/// let anchor = store.add_object(&[0, 1, 0, 0, 0, 0])?;
+/// for slot in [4, 8, 12] {
+///     store.add_link(mark_array, slot, anchor)?;
+/// }
+/// for slot in [2, 4] {
+///     let large = store.add_object(&[0; 40_000])?;
+///     store.add_link(base_array, slot, large)?;
+/// }
+///
+/// let mut scratch = Scratch::new();
+/// assert_eq!(cut_plan_marks(&store, table, &mut scratch)?, [1]);
+/// let before = read_mark(&store, table, 30, 60)?;
+/// assert_eq!(before.unwrap(), Attachment { mark_anchor: anchor, base_anchor: anchor + 2 });
+///
+/// let new_tables = split_marks(&mut store, table, &mut scratch)?;
+/// assert_eq!(read_mark(&store, table, 30, 60)?, None);
+/// assert_eq!(read_mark(&store, new_tables[0], 30, 60)?, before);
+/// # Ok::<(), Refusal>(())
+/// ```
+///
+/// # Errors
+///
+/// Those of [`Kind::split`].
+pub fn split_marks(
+    store: &mut Store,
+    table: u32,
+    scratch: &mut Scratch,
+) -> Result<Vec<u32>, Refusal> {
+    Kind::Marks.split(store, table, scratch)
+}
+
+/// Splits a MarkBasePos table in a store that has what room it has, and gives how many new tables there
+/// are.
+///
+/// It is [`Kind::split_into`] of [`Kind::Marks`].
+///
+/// # Errors
+///
+/// Those of [`Kind::split_into`].
+pub fn split_marks_into<'a>(
+    store: impl Into<StoreMut<'a>>,
+    table: u32,
+    scratch: &mut Scratch,
+    new_tables: &mut [u32],
+) -> Result<usize, Refusal> {
+    Kind::Marks.split_into(store, table, scratch, new_tables)
 }

@@ -6,7 +6,7 @@
 //! | at | bytes | what |
 //! |---|---|---|
 //! | 0 | 4 | the letters `KRNS` |
-//! | 4 | 2 | the version, 1 |
+//! | 4 | 2 | the version, 1 or 2 |
 //! | 6 | 2 | T, how many tables are listed |
 //! | 8 | 4 | D, how many data bytes there are |
 //! | 12 | 4 | O, how many objects there are |
@@ -14,16 +14,20 @@
 //! | 20 | D | the data bytes |
 //! | 20 + D | 8 · O | object rows: head and tail, 4 bytes each |
 //! | 20 + D + 8 · O | 16 · L | link rows: parent, position, width and child, 4 bytes each |
-//! | 20 + D + 8 · O + 16 · L | 4 · T | the numbers of the tables, 4 bytes each |
+//! | 20 + D + 8 · O + 16 · L | 4 · T | the tables, 4 bytes each |
 //!
-//! The file ends there. The listed tables are the PairPos tables that the file is about, in the order
-//! in which a shaper asks them: each is an object in use, and none is listed twice. The store is
-//! sound. Whatever is otherwise is refused when the file is read, so what was read is written as the
-//! same bytes again.
+//! The file ends there. The listed tables are those that the file is about, in the order in which a
+//! shaper asks them: each is an object in use, and none is listed twice. In version 1 all are PairPos
+//! tables, and the 4 bytes are the object's number. In version 2 some are MarkBasePos tables, and the
+//! 4 bytes are two numbers: the type of the lookup, which is 2 for PairPos and 4 for MarkBasePos, and
+//! the object's number. The store is sound. Whatever is otherwise is refused when the file is read, so
+//! what was read is written as the same bytes again.
 
 mod error;
+mod table;
 
 pub use error::FileError;
+pub use table::Table;
 
 use crate::Store;
 use std::collections::HashSet;
@@ -31,8 +35,8 @@ use std::collections::HashSet;
 /// The letters that a store file starts with.
 pub const MAGIC: [u8; 4] = *b"KRNS";
 
-/// The version that is written, and the only one that is read.
-pub const VERSION: u16 = 1;
+/// The newest version. A file is written in the lowest one that can say what its tables are.
+pub const VERSION: u16 = 2;
 
 /// The bytes before the data.
 const HEADER: usize = 20;
@@ -40,16 +44,17 @@ const HEADER: usize = 20;
 /// A store, and the tables in it that the file is about.
 ///
 /// ```
-/// use splitter::{store_file::StoreFile, Store};
+/// use splitter::store_file::{StoreFile, Table};
+/// use splitter::Store;
 ///
 /// let mut store = Store::new();
 /// let table = store.add_object(&[0, 1, 0, 0, 0, 4, 0, 0, 0, 0])?;
 /// let coverage = store.add_object(&[0, 1, 0, 0])?;
 /// store.add_link(table, 2, coverage)?;
 ///
-/// let bytes = StoreFile::new(store, vec![table])?.to_bytes();
+/// let bytes = StoreFile::new(store, vec![Table::pairs(table)])?.to_bytes();
 /// let file = StoreFile::from_bytes(&bytes)?;
-/// assert_eq!(file.tables(), [table]);
+/// assert_eq!(file.tables(), [Table::pairs(table)]);
 /// assert_eq!(file.store().view().child(table, 2), Some(coverage));
 /// assert_eq!(file.to_bytes(), bytes);
 /// # Ok::<(), Box<dyn std::error::Error>>(())
@@ -57,7 +62,7 @@ const HEADER: usize = 20;
 #[derive(Clone, Debug, Default, PartialEq, Eq)]
 pub struct StoreFile {
     store: Store,
-    tables: Vec<u32>,
+    tables: Vec<Table>,
 }
 
 impl StoreFile {
@@ -66,10 +71,10 @@ impl StoreFile {
     /// # Errors
     ///
     /// [`FileError::NoTable`], [`FileError::TableTwice`] and [`FileError::ManyTables`].
-    pub fn new(store: Store, tables: Vec<u32>) -> Result<Self, FileError> {
+    pub fn new(store: Store, tables: Vec<Table>) -> Result<Self, FileError> {
         let [_, objects, _] = store.view().counts();
         let mut listed = HashSet::new();
-        for &table in &tables {
+        for &Table { number: table, .. } in &tables {
             if table >= objects {
                 return Err(FileError::NoTable { table, objects });
             }
@@ -89,28 +94,32 @@ impl StoreFile {
     ///
     /// The first [`FileError`] that applies.
     pub fn from_bytes(bytes: &[u8]) -> Result<Self, FileError> {
-        let (counts, rest) = header(bytes)?;
+        let (version, counts, rest) = header(bytes)?;
         let [data, objects, links] = counts;
         let (data, rest) = rest.split_at(data as usize);
         let (objects, rest) = rest.split_at(8 * objects as usize);
         let (links, tables) = rest.split_at(16 * links as usize);
         let store = Store::from_parts(data.to_vec(), numbers(objects), numbers(links), counts);
-        Self::new(store.map_err(FileError::Store)?, numbers(tables))
+        let store = store.map_err(FileError::Store)?;
+        Self::new(store, table::listed(version, &numbers(tables))?)
     }
 
     /// The file's bytes.
     pub fn to_bytes(&self) -> Vec<u8> {
         let view = self.store.view();
         let [data, objects, links] = view.counts();
+        let version = table::version(&self.tables);
+        let tables = self.tables.iter().map(|table| table::entry(version, table));
+        let tables: Vec<u32> = tables.collect();
         let mut bytes = Vec::new();
         bytes.extend(MAGIC);
-        bytes.extend(VERSION.to_be_bytes());
+        bytes.extend(version.to_be_bytes());
         bytes.extend((self.tables.len() as u16).to_be_bytes());
         extend(&mut bytes, &[data, objects, links]);
         bytes.extend(view.data());
         extend(&mut bytes, &view.objects[..2 * objects as usize]);
         extend(&mut bytes, &view.links[..4 * links as usize]);
-        extend(&mut bytes, &self.tables);
+        extend(&mut bytes, &tables);
         bytes
     }
 
@@ -120,19 +129,19 @@ impl StoreFile {
     }
 
     /// The tables that the file is about.
-    pub fn tables(&self) -> &[u32] {
+    pub fn tables(&self) -> &[Table] {
         &self.tables
     }
 
     /// The store, and the tables that the file is about.
-    pub fn into_parts(self) -> (Store, Vec<u32>) {
+    pub fn into_parts(self) -> (Store, Vec<Table>) {
         (self.store, self.tables)
     }
 }
 
-/// How many data bytes, objects and links there are in a file that is exactly as long as its header
-/// asks for, and what comes behind the header.
-fn header(bytes: &[u8]) -> Result<([u32; 3], &[u8]), FileError> {
+/// The version, how many data bytes, objects and links there are in a file that is exactly as long as
+/// its header asks for, and what comes behind the header.
+fn header(bytes: &[u8]) -> Result<(u16, [u32; 3], &[u8]), FileError> {
     if !bytes.starts_with(&MAGIC) {
         return Err(FileError::NotAStoreFile);
     }
@@ -143,7 +152,7 @@ fn header(bytes: &[u8]) -> Result<([u32; 3], &[u8]), FileError> {
     };
     let version = bytes.get(4..6).ok_or(short)?;
     let version = number(version) as u16;
-    if version != VERSION {
+    if !(1..=VERSION).contains(&version) {
         return Err(FileError::Version { version });
     }
     let (header, rest) = bytes.split_at_checked(HEADER).ok_or(short)?;
@@ -152,7 +161,7 @@ fn header(bytes: &[u8]) -> Result<([u32; 3], &[u8]), FileError> {
     let [data, objects, links] = counts.map(u64::from);
     let asked = HEADER as u64 + data + 8 * objects + 16 * links + 4 * u64::from(tables);
     match is == asked {
-        true => Ok((counts, rest)),
+        true => Ok((version, counts, rest)),
         false => Err(FileError::Length { is, asked }),
     }
 }

@@ -4,8 +4,11 @@ mod common;
 #[path = "../src/command/font/tests/made.rs"]
 mod made;
 
-use common::{bytes, format1, store};
-use splitter::{store_file::StoreFile, Refusal, Store};
+use common::{bytes, cut_marks, format1, store};
+use splitter::{
+    store_file::{StoreFile, Table},
+    Refusal, Store,
+};
 use std::{
     ffi::OsStr,
     fs::{self, OpenOptions},
@@ -28,10 +31,15 @@ impl Directory {
         self.0.join(name)
     }
 
-    /// Writes a store file about some tables.
+    /// Writes a store file about some tables for pairs.
     fn store(&self, name: &str, store: Store, tables: &[u32]) -> PathBuf {
+        self.store_of(name, store, pairs(tables))
+    }
+
+    /// Writes a store file about some tables.
+    fn store_of(&self, name: &str, store: Store, tables: Vec<Table>) -> PathBuf {
         let path = self.file(name);
-        let file = StoreFile::new(store, tables.to_vec()).unwrap();
+        let file = StoreFile::new(store, tables).unwrap();
         fs::write(&path, file.to_bytes()).unwrap();
         path
     }
@@ -54,6 +62,15 @@ impl Drop for Directory {
     fn drop(&mut self) {
         let _ = fs::remove_dir_all(&self.0);
     }
+}
+
+/// Tables for pairs.
+fn pairs(numbers: &[u32]) -> Vec<Table> {
+    numbers.iter().map(|&number| Table::pairs(number)).collect()
+}
+
+fn read_store(path: &Path) -> StoreFile {
+    StoreFile::from_bytes(&fs::read(path).unwrap()).unwrap()
 }
 
 fn command(words: &[&OsStr]) -> Command {
@@ -128,7 +145,14 @@ fn the_sample() {
     fits_the_terminal(&plain);
     assert!(plain.is_ascii());
     assert_eq!(plain.matches("Every pair reads as before").count(), 2);
-    assert_eq!(plain.matches("3 tables in its place").count(), 2);
+    assert_eq!(plain.matches("Every attachment reads as before").count(), 1);
+    assert_eq!(plain.matches("3 tables in its place").count(), 3);
+    let titles = ["Sample 1 of 3", "Sample 2 of 3", "Sample 3 of 3"];
+    for (name, title) in ["sets", "rows", "marks"].into_iter().zip(titles) {
+        let one = done(run!("sample", name));
+        assert_eq!(one.matches("Sample ").count(), 1);
+        assert!(one.starts_with(title) && plain.contains(&one[..one.len() / 2]));
+    }
 }
 
 /// Bars by the locale, and never a colour where nobody looks on.
@@ -160,12 +184,13 @@ fn from_samples_to_split_files() {
     let directory = Directory::new("samples");
     let samples = directory.file("in/here");
     let out = done(run!("sample", "-o", samples));
-    assert_eq!(out.matches("Wrote ").count(), 2);
-    for (name, pair) in [
-        ("sample1.krns", ["200", "90"]),
-        ("sample2.krns", ["460", "300"]),
+    assert_eq!(out.matches("Wrote ").count(), 3);
+    for (name, read, glyphs, rows) in [
+        ("sample1.krns", "pair", ["200", "90"], 9),
+        ("sample2.krns", "pair", ["460", "300"], 9),
+        ("sample3.krns", "mark", ["902", "405"], 5),
     ] {
-        let [first, second] = pair;
+        let [first, second] = glyphs;
         let sample = samples.join(name);
         let plan = done(run!("plan", sample));
         fits_the_terminal(&plan[plan.find('\n').unwrap()..]);
@@ -174,9 +199,10 @@ fn from_samples_to_split_files() {
         let once = directory.file("once.krns");
         let out = done(run!("split", sample, "-o", once));
         assert!(out.contains("kept 0") && out.contains("Wrote "));
-        let before = StoreFile::from_bytes(&fs::read(&sample).unwrap()).unwrap();
-        let after = StoreFile::from_bytes(&fs::read(&once).unwrap()).unwrap();
+        let (before, after) = (read_store(&sample), read_store(&once));
         assert_eq!((before.tables().len(), after.tables().len()), (1, 3));
+        let kind = before.tables()[0].kind;
+        assert!(after.tables().iter().all(|table| table.kind == kind));
         let plan = done(run!("plan", once));
         assert_eq!(plan.matches("It fits as it is").count(), 3);
 
@@ -185,12 +211,12 @@ fn from_samples_to_split_files() {
         assert_eq!(fs::read(&once).unwrap(), fs::read(&twice).unwrap());
 
         let values = |out: String| out.lines().skip(1).map(String::from).collect::<Vec<_>>();
-        let old = values(done(run!("pair", sample, "0", first, second)));
-        assert_eq!(old.len(), 9);
-        let last = after.tables()[2].to_string();
-        assert_eq!(values(done(run!("pair", once, last, first, second))), old);
-        let none = done(run!("pair", once, "0", first, second));
-        assert!(none.contains("no pair"));
+        let old = values(done(run!(read, sample, "0", first, second)));
+        assert_eq!(old.len(), rows);
+        let last = after.tables()[2].number.to_string();
+        assert_eq!(values(done(run!(read, once, last, first, second))), old);
+        let none = done(run!(read, once, "0", first, second));
+        assert!(none.contains("no pair") || none.contains("does not attach"));
     }
     assert_eq!(directory.names(), ["in", "once.krns", "twice.krns"]);
 }
@@ -206,8 +232,7 @@ fn a_split_in_place() {
     assert_eq!(fs::read(&file).unwrap(), before);
     let out = done(run!("split", file, "--in-place", "--check"));
     assert!(out.contains("Every pair reads as before: 3 first glyphs x 2 second glyphs"));
-    let after = StoreFile::from_bytes(&fs::read(&file).unwrap()).unwrap();
-    assert_eq!(after.tables(), [0, 5]);
+    assert_eq!(read_store(&file).tables(), pairs(&[0, 5]));
     assert_eq!(directory.names(), ["a.krns"]);
 }
 
@@ -223,16 +248,117 @@ fn tables_by_number() {
     failed(run!("split", unlisted, "-o", split), 1, "lists no table");
     let out = done(run!("split", unlisted, "0", "-o", split));
     assert!(out.contains("It is cut at pair set 2: 2 tables in its place."));
-    let after = StoreFile::from_bytes(&fs::read(&split).unwrap()).unwrap();
-    assert_eq!(after.tables(), [0, 6]);
+    assert_eq!(read_store(&split).tables(), pairs(&[0, 6]));
 
     let number = other.to_string();
     let pair = done(run!("pair", unlisted, number, "10", "70"));
     assert!(pair.contains("only formats 1 and 2 have pairs"));
     assert!(done(run!("plan", unlisted, number)).contains("only formats 1 and 2 are split"));
     done(run!("split", unlisted, number, "-o", split));
-    let same = StoreFile::new(store, vec![other]).unwrap();
+    let same = StoreFile::new(store, pairs(&[other])).unwrap();
     assert_eq!(fs::read(&split).unwrap(), same.to_bytes());
+}
+
+/// The file says which tables are for marks, and without it the words do.
+#[test]
+fn tables_for_marks() {
+    let directory = Directory::new("marks");
+    let (store, _) = cut_marks();
+    let listed = directory.store_of("a.krns", store.clone(), vec![Table::marks(0)]);
+    let unlisted = directory.store("b.krns", store.clone(), &[]);
+    let wrong = directory.store("c.krns", store, &[0]);
+    let split = directory.file("d.krns");
+    let cut = "It is cut at mark classes 1, 2: 3 tables in its place.";
+    assert!(done(run!("plan", listed)).contains(cut));
+    assert!(done(run!("plan", listed, "0")).contains(cut));
+    assert!(done(run!("plan", unlisted, "0", "--marks")).contains(cut));
+    // As a table for pairs it has not the length that its header asks for.
+    failed(run!("plan", unlisted, "0"), 1, "12 bytes in MarkBasePos");
+    failed(run!("plan", wrong), 1, "table 0 is refused by 3 (BadTable)");
+
+    let mut written = Vec::new();
+    for words in [
+        &[listed.as_os_str()][..],
+        &[unlisted.as_ref(), "0".as_ref(), "--marks".as_ref()],
+        &[wrong.as_ref(), "--marks".as_ref()],
+    ] {
+        let before = [
+            "split".as_ref(),
+            "--check".as_ref(),
+            "-o".as_ref(),
+            split.as_ref(),
+        ];
+        let out = done(Ran::of(command(&[&before, words].concat())));
+        assert!(out.contains("Every attachment reads as before: 4 marks x 3 bases"));
+        fits_the_terminal(&directory.named_short(&out));
+        written.push(fs::read(&split).unwrap());
+    }
+    let tables = [0, 9, 13].map(Table::marks);
+    assert_eq!(read_store(&split).tables(), tables);
+    assert!(written.iter().all(|bytes| *bytes == written[0]));
+}
+
+/// Tables for pairs and for marks in one file are split each in its way.
+#[test]
+fn tables_of_both_kinds() {
+    let directory = Directory::new("both");
+    let mut store = three_sets();
+    let (marks, _) = cut_marks();
+    let [_, offset, _] = store.view().counts();
+    let view = marks.view();
+    for object in 0..view.counts()[1] {
+        store.add_object(view.object(object).unwrap()).unwrap();
+    }
+    for link in view.links() {
+        let [parent, child] = [link.parent, link.child].map(|object| object + offset);
+        store.add_link(parent, link.position, child).unwrap();
+    }
+    let tables = vec![Table::marks(offset), Table::pairs(0)];
+    let file = directory.store_of("a.krns", store, tables);
+    let split = directory.file("b.krns");
+    let out = done(run!("split", file, "-o", split, "--check"));
+    assert!(
+        out.contains("It is cut at mark classes 1, 2") && out.contains("It is cut at pair set 2")
+    );
+    let kinds = [offset, 14, 18].map(Table::marks).into_iter();
+    let tables: Vec<Table> = kinds.chain([0, 25].map(Table::pairs)).collect();
+    assert_eq!(read_store(&split).tables(), tables);
+}
+
+/// An attachment, none, another format, and refusals.
+#[test]
+fn a_mark_on_a_base() {
+    let directory = Directory::new("mark");
+    let (mut store, _) = cut_marks();
+    let other = store.add_object(&bytes(&[2, 0])).unwrap().to_string();
+    let file = directory.store("a.krns", store, &[]);
+    let out = done(run!("mark", file, "0", "30", "60"));
+    let lines: Vec<Vec<&str>> = out
+        .lines()
+        .map(|line| line.split_whitespace().collect())
+        .collect();
+    let rows: [&[&str]; 6] = [
+        &["Table", "0,", "mark", "30", "on", "base", "60"],
+        &["mark", "30", "base", "60"],
+        &["anchor", "object", "5", "object", "7"],
+        &["format", "1", "0"],
+        &["X", "100", "0"],
+        &["Y", "200", "0"],
+    ];
+    assert_eq!(lines, rows);
+    for [mark, base] in [["30", "61"], ["31", "60"], ["30", "62"]] {
+        let none = format!("Table 0 does not attach mark {mark} to base {base}.\n");
+        assert_eq!(done(run!("mark", file, "0", mark, base)), none);
+    }
+    let format = done(run!("mark", file, other, "30", "60"));
+    assert!(format.contains("only format 1 has attachments"));
+    let plan = done(run!("plan", file, other, "--marks"));
+    assert!(plan.contains("only format 1 of mark-to-base tables is split"));
+    for (refusal, table) in [(Refusal::NoTable, "99"), (Refusal::BadTable, "5")] {
+        let sentence = refusal.to_string();
+        failed(run!("mark", file, table, "30", "60"), 1, &sentence);
+        failed(run!("plan", file, table, "--marks"), 1, &sentence);
+    }
 }
 
 #[test]
@@ -289,6 +415,7 @@ fn files_that_cannot_be_read() {
         failed(run!("plan", damaged), 1, words);
         failed(run!("split", damaged, "-o", output), 1, words);
         failed(run!("pair", damaged, "0", "1", "2"), 1, words);
+        failed(run!("mark", damaged, "0", "1", "2"), 1, words);
     };
     run_all("there is no such file");
     fs::write(&damaged, &whole[..whole.len() - 1]).unwrap();
@@ -296,9 +423,9 @@ fn files_that_cannot_be_read() {
     fs::write(&damaged, b"something else").unwrap();
     run_all("it is not a store file");
     let mut version = whole.clone();
-    version[5] = 2;
+    version[5] = 3;
     fs::write(&damaged, &version).unwrap();
-    run_all("version 2");
+    run_all("version 3");
     let mut unsound = whole;
     *unsound.iter_mut().nth_back(4).unwrap() = 99;
     fs::write(&damaged, &unsound).unwrap();
@@ -343,15 +470,19 @@ fn a_font() {
     let lookups = [
         made::lookup(2, &[made::pair_sets(), made::pair_rows(false)]),
         made::lookup(9, &[made::extension(2, &made::pair_rows(true))]),
+        made::lookup(4, &[made::mark_table()]),
     ];
     let font = made::font(&[(b"GPOS", made::gpos(&lookups))]);
     let fonts = [font];
     for font in [&made::collection(&fonts), &fonts[0]] {
         fs::write(&path, font).unwrap();
         let out = done(run!("font", path));
-        assert!(out.contains("2 lookups in GPOS, 2 for pairs, with 3 subtables"));
-        assert_eq!(out.matches("  none\n").count(), 3);
-        assert!(out.contains("No pair table would be cut."));
+        let found =
+            "3 lookups in GPOS: 2 for pairs, with 3 subtables; 1 for marks on bases, with 1";
+        assert!(out.contains(found), "{out}");
+        assert_eq!(out.matches("  none\n").count(), 4);
+        assert!(out.contains("2        0  marks       1         82       2       2  none"));
+        assert!(out.contains("No table would be cut."));
         fits_the_terminal(&out[out.find('\n').unwrap()..]);
     }
     fs::write(&path, made::font(&[])).unwrap();
@@ -367,18 +498,21 @@ fn a_damaged_font() {
         made::words(&[1, 0, 4, 0, 0]),
         made::words(&[1, 0, 4, 0, 999]),
     ];
-    let lookup = made::lookup(2, &[&[made::pair_sets()], &bad[..]].concat());
-    fs::write(&path, made::font(&[(b"GPOS", made::gpos(&[lookup]))])).unwrap();
+    let lookups = [
+        made::lookup(2, &[&[made::pair_sets()], &bad[..]].concat()),
+        made::lookup(4, &[made::words(&[1, 0, 0, 2, 0, 0])]),
+    ];
+    fs::write(&path, made::font(&[(b"GPOS", made::gpos(&lookups))])).unwrap();
     let ran = run!("font", path);
     assert_eq!(ran.out.matches("  none\n").count(), 1);
-    assert!(ran.out.contains("refused: BadParts"));
+    assert_eq!(ran.out.matches("refused: BadParts").count(), 2);
     assert!(ran
         .out
         .contains("refused: it is damaged: a pair table at byte"));
     assert!(ran
         .out
-        .contains("\nBadParts: coverage or a class definition is not linked"));
-    failed(ran, 1, "2 of 3 pair tables are refused");
+        .contains("\nBadParts: a coverage, a class definition or an array is not linked"));
+    failed(ran, 1, "3 of 4 tables are refused");
     for (bytes, words) in [
         (
             &b"not a font at all"[..],
@@ -401,7 +535,7 @@ fn a_damaged_font() {
 fn help_and_version() {
     let help = done(run!("--help"));
     assert_eq!(done(run!("help")), help);
-    for name in ["sample", "plan", "split", "pair", "font"] {
+    for name in ["sample", "plan", "split", "pair", "mark", "font"] {
         assert!(help.contains(&format!("splitter {name} ")));
         let text = done(run!("help", name));
         assert!(text.starts_with(&format!("splitter {name} ")));
@@ -439,8 +573,7 @@ fn a_reader_that_goes_away() {
     split.stdout(writer).stderr(Stdio::piped());
     let ran = split.spawn().unwrap().wait_with_output().unwrap();
     assert_eq!((ran.status.code(), &ran.stderr[..]), (Some(0), &b""[..]));
-    let after = StoreFile::from_bytes(&fs::read(&output).unwrap()).unwrap();
-    assert_eq!(after.tables(), [0, 5]);
+    assert_eq!(read_store(&output).tables(), pairs(&[0, 5]));
 }
 
 #[test]

@@ -1,6 +1,6 @@
 //! The header for C and C++, by a program that is compiled with it, linked with the archive and run.
 
-use splitter::{Refusal, Room};
+use splitter::{raw, Refusal, Room};
 use std::{
     env, fs,
     path::{Path, PathBuf},
@@ -13,15 +13,15 @@ fn manifest(path: &str) -> PathBuf {
     Path::new(env!("CARGO_MANIFEST_DIR")).join(path)
 }
 
-/// Compiles the calls in a language, with every warning an error, and runs them.
-fn compile_and_run(language: &str) {
-    let program = Path::new(env!("CARGO_TARGET_TMPDIR")).join(format!("calls-{language}"));
+/// Compiles the calls for a kind of table in a language, with every warning an error, and runs them.
+fn compile_and_run(kind: &str, language: &str) {
+    let program = Path::new(env!("CARGO_TARGET_TMPDIR")).join(format!("{kind}-{language}"));
     let compiler = env::var("CC").unwrap_or("cc".into());
     let status = Command::new(&compiler)
         .args(["-Wall", "-Wextra", "-Wpedantic", "-Werror", "-O1", "-I"])
         .arg(manifest("../include"))
         .args(["-x", language])
-        .arg(manifest("tests/c/calls.c"))
+        .arg(manifest(&format!("tests/c/{kind}.c")))
         .args(["-x", "none", ARCHIVE, "-o"])
         .arg(&program)
         .status();
@@ -32,13 +32,23 @@ fn compile_and_run(language: &str) {
 }
 
 #[test]
-fn calls_in_c() {
-    compile_and_run("c");
+fn pairs_in_c() {
+    compile_and_run("pairs", "c");
 }
 
 #[test]
-fn calls_in_cpp() {
-    compile_and_run("c++");
+fn pairs_in_cpp() {
+    compile_and_run("pairs", "c++");
+}
+
+#[test]
+fn marks_in_c() {
+    compile_and_run("marks", "c");
+}
+
+#[test]
+fn marks_in_cpp() {
+    compile_and_run("marks", "c++");
 }
 
 /// The header's numbers are the library's.
@@ -50,6 +60,8 @@ fn numbers() {
         let digits = rest.split(|c: char| !c.is_ascii_digit()).next();
         digits.unwrap().parse().unwrap()
     };
+    let version = format!("#define SPLITTER_INTERFACE {}\n", raw::INTERFACE);
+    assert_eq!(header.matches(&version).count(), 1);
     for refusal in Refusal::ALL {
         let mut name = String::new();
         for letter in format!("{refusal:?}").chars() {

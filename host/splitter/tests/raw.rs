@@ -2,8 +2,8 @@
 
 mod common;
 
-use common::w7;
-use splitter::{raw, Store};
+use common::{cut_marks, w7};
+use splitter::{raw, Kind, Room, Store};
 
 /// An empty slice is a store of nothing, wherever its pointer leads.
 #[test]
@@ -15,40 +15,46 @@ fn nothing_at_all() {
         let answer = raw::read_pair(&[], &[], &[], &counts, u32::MAX, 0, u16::MAX, v, f);
         assert_eq!(answer, expected);
         assert_eq!((values, found), ([0; 16], 0));
-
-        let (mut after, mut count) = (counts, 7);
-        let answer = raw::split_pairpos(
-            &mut [],
-            &mut [],
-            &mut [],
-            &mut after,
-            u32::MAX,
-            &mut [],
-            &mut [],
-            &mut [],
-            &mut [],
-            &mut [],
-            &mut [],
-            &mut count,
-        );
-        assert_eq!((answer, after, count), (expected, counts, 0));
-
-        count = 7;
-        let answer = raw::cut_plan(
-            &[],
-            &[],
-            &[],
-            &counts,
-            u32::MAX,
-            &mut [],
-            &mut [],
-            &mut [],
-            &mut [],
-            &mut [],
-            &mut [],
-            &mut count,
-        );
-        assert_eq!((answer, count), (expected, 0));
+        let (mut anchors, mut found) = ([7; 2], 7);
+        let (a, f) = (&mut anchors, &mut found);
+        let answer = raw::read_mark(&[], &[], &[], &counts, u32::MAX, 0, u16::MAX, a, f);
+        assert_eq!((answer, anchors, found), (expected, [0; 2], 0));
+        for split in [raw::split_pairpos, raw::split_markbasepos] {
+            let (mut after, mut count) = (counts, 7);
+            let answer = split(
+                &mut [],
+                &mut [],
+                &mut [],
+                &mut after,
+                u32::MAX,
+                &mut [],
+                &mut [],
+                &mut [],
+                &mut [],
+                &mut [],
+                &mut [],
+                &mut count,
+            );
+            assert_eq!((answer, after, count), (expected, counts, 0));
+        }
+        for cut_plan in [raw::cut_plan, raw::cut_plan_markbasepos] {
+            let mut count = 7;
+            let answer = cut_plan(
+                &[],
+                &[],
+                &[],
+                &counts,
+                u32::MAX,
+                &mut [],
+                &mut [],
+                &mut [],
+                &mut [],
+                &mut [],
+                &mut [],
+                &mut count,
+            );
+            assert_eq!((answer, count), (expected, 0));
+        }
     }
 }
 
@@ -66,9 +72,42 @@ fn half_a_row() {
     assert_eq!(read(&[0, 2, 2], &[0, 0, 2, 0], [2, 1, 1]), 0);
 }
 
-/// What a table of five objects, three glyphs and three sets needs: walk, glyph set, glyphs, classes
-/// and cuts.
-const ENOUGH: [usize; 5] = [10, 8_192, 3, 3, 3];
+/// What is known of a store that is cut: it, the room that it needs, its cut places and new tables, and
+/// how much its calls need of walk, glyph set, glyphs, classes and cuts.
+struct Known {
+    kind: Kind,
+    store: (Store, Room),
+    places: &'static [u16],
+    new_tables: &'static [u32],
+    enough: [usize; 5],
+}
+
+/// Five objects, three glyphs and three sets; nine objects, four marks and three classes.
+fn known() -> [Known; 2] {
+    [
+        Known {
+            kind: Kind::Pairs,
+            store: w7(),
+            places: &[2],
+            new_tables: &[5],
+            enough: [10, 8_192, 3, 3, 3],
+        },
+        Known {
+            kind: Kind::Marks,
+            store: cut_marks(),
+            places: &[1, 2],
+            new_tables: &[9, 13],
+            enough: [18, 8_192, 4, 4, 3],
+        },
+    ]
+}
+
+/// A list of three entries in which these come first.
+fn list<N: Copy + From<u8>>(first: &[N]) -> [N; 3] {
+    let mut list = [77.into(); 3];
+    list[..first.len()].copy_from_slice(first);
+    list
+}
 
 /// Scratch of these lengths, full of junk.
 struct Scratch {
@@ -93,13 +132,17 @@ impl Scratch {
     }
 }
 
-/// The answer of a cut plan of W7.
-fn plan(lengths: [usize; 5]) -> u32 {
-    let (data, objects, links, counts) = w7().0.into_parts();
+/// The answer of a cut plan.
+fn plan(known: &Known, lengths: [usize; 5]) -> u32 {
+    let (data, objects, links, counts) = known.store.0.clone().into_parts();
     let mut scratch = Scratch::new(lengths);
     let [glyphs, classes, cuts] = &mut scratch.others;
-    let (mut places, mut count) = ([77; 2], 77);
-    let answer = raw::cut_plan(
+    let cut_plan = match known.kind {
+        Kind::Pairs => raw::cut_plan,
+        Kind::Marks => raw::cut_plan_markbasepos,
+    };
+    let (mut places, mut count) = ([77; 3], 77);
+    let answer = cut_plan(
         &data,
         &objects,
         &links,
@@ -113,26 +156,26 @@ fn plan(lengths: [usize; 5]) -> u32 {
         &mut places,
         &mut count,
     );
-    let planned = if answer == 0 {
-        ([2, 77], 1)
-    } else {
-        ([77; 2], 0)
-    };
-    assert_eq!((places, count), planned);
+    let planned = if answer == 0 { known.places } else { &[] };
+    assert_eq!((places, count as usize), (list(planned), planned.len()));
     assert!(scratch.is_zero());
     answer
 }
 
-/// The answer of a split of W7, with exact room.
-fn split(lengths: [usize; 5]) -> u32 {
-    let (mut store, room) = w7();
+/// The answer of a split, with exact room.
+fn split(known: &Known, lengths: [usize; 5]) -> u32 {
+    let (mut store, room) = known.store.clone();
     store.reserve(room);
     let before = store.clone();
     let (mut data, mut objects, mut links, mut counts) = store.into_parts();
     let mut scratch = Scratch::new(lengths);
     let [glyphs, classes, cuts] = &mut scratch.others;
-    let (mut new_tables, mut count) = ([77; 2], 77);
-    let answer = raw::split_pairpos(
+    let split = match known.kind {
+        Kind::Pairs => raw::split_pairpos,
+        Kind::Marks => raw::split_markbasepos,
+    };
+    let (mut new_tables, mut count) = ([77; 3], 77);
+    let answer = split(
         &mut data,
         &mut objects,
         &mut links,
@@ -146,31 +189,30 @@ fn split(lengths: [usize; 5]) -> u32 {
         &mut new_tables,
         &mut count,
     );
-    let listed = if answer == 0 {
-        ([5, 77], 1)
-    } else {
-        ([77; 2], 0)
-    };
-    assert_eq!((new_tables, count), listed);
+    let listed = if answer == 0 { known.new_tables } else { &[] };
+    assert_eq!((new_tables, count as usize), (list(listed), listed.len()));
     assert!(scratch.is_zero());
     let after = Store::from_parts(data, objects, links, counts).unwrap();
     assert_eq!(after == before, answer != 0);
     answer
 }
 
-fn with_scratch(lengths: [usize; 5]) -> [u32; 2] {
-    [split(lengths), plan(lengths)]
+fn with_scratch(known: &Known, lengths: [usize; 5]) -> [u32; 2] {
+    [split(known, lengths), plan(known, lengths)]
 }
 
 /// Exactly enough, more, one short of each, and none.
 #[test]
 fn scratch_at_its_edge() {
-    assert_eq!(with_scratch(ENOUGH), [0; 2]);
-    assert_eq!(with_scratch(ENOUGH.map(|len| len + 3)), [0; 2]);
-    for short in 0..5 {
-        let mut lengths = ENOUGH;
-        lengths[short] -= 1;
-        assert_eq!(with_scratch(lengths), [6; 2]);
+    for known in known() {
+        let enough = known.enough;
+        assert_eq!(with_scratch(&known, enough), [0; 2]);
+        assert_eq!(with_scratch(&known, enough.map(|len| len + 3)), [0; 2]);
+        for short in 0..5 {
+            let mut lengths = enough;
+            lengths[short] -= 1;
+            assert_eq!(with_scratch(&known, lengths), [6; 2]);
+        }
+        assert_eq!(with_scratch(&known, [0; 5]), [6; 2]);
     }
-    assert_eq!(with_scratch([0; 5]), [6; 2]);
 }

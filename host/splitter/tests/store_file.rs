@@ -5,15 +5,35 @@ mod common;
 use common::store;
 use splitter::{
     read_pair,
-    store_file::{FileError, StoreFile},
+    store_file::{FileError, StoreFile, Table},
     Refusal, Store,
 };
+
+/// Tables for pairs.
+fn pairs(numbers: &[u32]) -> Vec<Table> {
+    numbers.iter().map(|&number| Table::pairs(number)).collect()
+}
 
 /// A table of one pair set, its coverage, and an object that nothing leads to.
 fn small() -> StoreFile {
     let objects: [&[u16]; 4] = [&[1, 0, 4, 0, 1, 0], &[1, 1, 7], &[1, 70, 0xFFE2], &[]];
     let store = store(&objects, &[[0, 2, 1], [0, 10, 2]]);
-    StoreFile::new(store, vec![0, 2]).unwrap()
+    StoreFile::new(store, pairs(&[0, 2])).unwrap()
+}
+
+/// The same, as if the second one were for marks.
+fn small_marks() -> StoreFile {
+    let tables = vec![Table::pairs(0), Table::marks(2)];
+    StoreFile::new(small().into_parts().0, tables).unwrap()
+}
+
+/// The same in a file: version 2, and the lookups' types beside the numbers.
+fn small_marks_bytes() -> Vec<u8> {
+    let mut bytes = small_bytes();
+    let end = bytes.len();
+    bytes[5] = 2;
+    bytes[end - 8..].copy_from_slice(&[0, 2, 0, 0, 0, 4, 0, 2]);
+    bytes
 }
 
 /// The same in a file.
@@ -49,6 +69,39 @@ fn error(bytes: &[u8]) -> FileError {
 fn the_layout() {
     assert_eq!(small().to_bytes(), small_bytes());
     assert_eq!(StoreFile::from_bytes(&small_bytes()), Ok(small()));
+    assert_eq!(small_marks().to_bytes(), small_marks_bytes());
+    assert_eq!(
+        StoreFile::from_bytes(&small_marks_bytes()),
+        Ok(small_marks())
+    );
+}
+
+/// Kinds that are not known, and a version that is not needed.
+#[test]
+fn kinds() {
+    for (kind, known) in [(0, false), (2, true), (3, false), (4, true), (260, false)] {
+        let mut bytes = small_marks_bytes();
+        let place = bytes.len() - 8;
+        bytes[place..place + 2].copy_from_slice(&u16::to_be_bytes(kind));
+        match known {
+            true => assert!(StoreFile::from_bytes(&bytes).is_ok()),
+            false => assert_eq!(error(&bytes), FileError::Kind { kind }),
+        }
+    }
+    let mut bytes = small_marks_bytes();
+    let place = bytes.len() - 3;
+    bytes[place] = 2;
+    assert_eq!(error(&bytes), FileError::NoMarks);
+    let none = [&bytes[..6], &[0, 0], &bytes[8..bytes.len() - 8]].concat();
+    assert_eq!(error(&none), FileError::NoMarks);
+}
+
+/// One table is of one kind.
+#[test]
+fn a_table_of_two_kinds() {
+    let tables = vec![Table::pairs(0), Table::marks(0)];
+    let refused = StoreFile::new(small().into_parts().0, tables).unwrap_err();
+    assert_eq!(refused, FileError::TableTwice { table: 0 });
 }
 
 /// The example in the document: numbers of two digits at the start of its lines.
@@ -62,7 +115,7 @@ fn the_documents_example() {
         .map(|word| u8::from_str_radix(word, 16).unwrap())
         .collect();
     let file = StoreFile::from_bytes(&bytes).unwrap();
-    assert_eq!(file.tables(), [0]);
+    assert_eq!(file.tables(), pairs(&[0]));
     assert_eq!(file.to_bytes(), bytes);
     let pair = read_pair(file.store(), 0, 7, 70).unwrap().unwrap();
     assert_eq!(pair.first.x_advance, -30);
@@ -85,7 +138,7 @@ fn what_is_written() {
     links.extend([7; 9]);
     objects[7] = 26;
     let store = Store::from_parts(data, objects, links, counts).unwrap();
-    let bytes = StoreFile::new(store, vec![0, 2]).unwrap().to_bytes();
+    let bytes = StoreFile::new(store, pairs(&[0, 2])).unwrap().to_bytes();
     assert_eq!(bytes.len(), small_bytes().len() + 3);
     let file = StoreFile::from_bytes(&bytes).unwrap();
     assert_eq!(file.store().view().object(3), Some(&[9, 9][..]));
@@ -97,7 +150,7 @@ fn other_files() {
     for bytes in [&b""[..], b"KRN", b"SNRK, and more", b"\0\x01\0\0"] {
         assert_eq!(error(bytes), FileError::NotAStoreFile);
     }
-    for version in [0, 2, 256, 65_535] {
+    for version in [0, 3, 256, 65_535] {
         let mut bytes = small_bytes();
         bytes[4..6].copy_from_slice(&u16::to_be_bytes(version));
         assert_eq!(error(&bytes), FileError::Version { version });
@@ -131,11 +184,18 @@ fn the_largest_counts() {
 /// Any byte may be any other: what is then read is written as it was.
 #[test]
 fn a_damaged_byte() {
-    let bytes = small_bytes();
+    for bytes in [small_bytes(), small_marks_bytes()] {
+        let read = damage_each_byte(&bytes);
+        assert!(read > 24 * 256);
+    }
+}
+
+/// How many of the damaged files were read.
+fn damage_each_byte(bytes: &[u8]) -> usize {
     let mut read = 0;
     for place in 0..bytes.len() {
         for byte in 0..=u8::MAX {
-            let mut bytes = bytes.clone();
+            let mut bytes = bytes.to_vec();
             bytes[place] = byte;
             match StoreFile::from_bytes(&bytes) {
                 Ok(file) => {
@@ -146,13 +206,13 @@ fn a_damaged_byte() {
             }
         }
     }
-    assert!(read > 24 * 256);
+    read
 }
 
 #[test]
 fn tables_that_cannot_be_listed() {
     let listed = |tables: &[u32]| {
-        let refused = StoreFile::new(small().into_parts().0, tables.to_vec()).unwrap_err();
+        let refused = StoreFile::new(small().into_parts().0, pairs(tables)).unwrap_err();
         let mut bytes = small_bytes();
         let end = bytes.len() - 8;
         bytes.truncate(end);
@@ -175,10 +235,13 @@ fn tables_without_end() {
     for _ in 0..65_536 {
         store.add_object(&[]).unwrap();
     }
-    let all: Vec<u32> = (0..65_536).collect();
-    let most = StoreFile::new(store.clone(), all[1..].to_vec()).unwrap();
-    assert_eq!(StoreFile::from_bytes(&most.to_bytes()), Ok(most));
-    assert_eq!(StoreFile::new(store, all), Err(FileError::ManyTables));
+    for table in [Table::pairs, Table::marks] {
+        let all: Vec<Table> = (0..65_536).map(table).collect();
+        let most = StoreFile::new(store.clone(), all[1..].to_vec()).unwrap();
+        assert_eq!(StoreFile::from_bytes(&most.to_bytes()), Ok(most));
+        let refused = StoreFile::new(store.clone(), all);
+        assert_eq!(refused, Err(FileError::ManyTables));
+    }
 }
 
 /// The store's own sentence says what is wrong with it.

@@ -6,12 +6,12 @@
 //!
 //! Each seed makes a store of each format of PairPos, or one with a MarkBasePos table, which is split
 //! whole and damaged. The first difference ends the run, with the seed. Otherwise it ends with how
-//! often each case occurred. Marks are split by the model alone.
+//! often each case occurred.
 
 use differential::{
     check::Outcome,
     generate::{self, Case},
-    runs, Archive, Model, Subject, Tally,
+    runs, Archive, MarkSubject, Model, Subject, Tally,
 };
 use std::{
     env,
@@ -83,12 +83,11 @@ impl Args {
                 _ => return None,
             }
         }
-        let has_subject = args.is_model || !args.kinds.contains(&Kind::Marks);
-        (has_subject && !args.seeds.is_empty()).then_some(args)
+        (!args.seeds.is_empty()).then_some(args)
     }
 }
 
-fn run(subject: &impl Subject, args: &Args) -> Outcome {
+fn run(subject: &(impl Subject + MarkSubject), args: &Args) -> Outcome {
     let start = Instant::now();
     let mut said = start;
     let mut tally = Tally::default();
@@ -114,11 +113,16 @@ fn run(subject: &impl Subject, args: &Args) -> Outcome {
 }
 
 /// The store of a seed, whole and damaged. A panic is a difference too.
-fn check(subject: &impl Subject, kind: Kind, seed: u64, tally: &mut Tally) -> Outcome {
+fn check(
+    subject: &(impl Subject + MarkSubject),
+    kind: Kind,
+    seed: u64,
+    tally: &mut Tally,
+) -> Outcome {
     let checked = catch_unwind(AssertUnwindSafe(|| match kind {
         Kind::Format1 => check_pairs(subject, &generate::format1(seed), seed, tally),
         Kind::Format2 => check_pairs(subject, &generate::format2(seed), seed, tally),
-        Kind::Marks => check_marks(&generate::marks(seed), seed, tally),
+        Kind::Marks => check_marks(subject, &generate::marks(seed), seed, tally),
     }));
     checked.unwrap_or(Err("panicked".into()))
 }
@@ -128,9 +132,9 @@ fn check_pairs(subject: &impl Subject, case: &Case, seed: u64, tally: &mut Tally
     runs::damaged(subject, case, seed, tally)
 }
 
-fn check_marks(case: &Case, seed: u64, tally: &mut Tally) -> Outcome {
-    runs::marks_whole(&Model, case, seed, tally)?;
-    runs::marks_damaged(&Model, case, seed, tally)
+fn check_marks(subject: &impl MarkSubject, case: &Case, seed: u64, tally: &mut Tally) -> Outcome {
+    runs::marks_whole(subject, case, seed, tally)?;
+    runs::marks_damaged(subject, case, seed, tally)
 }
 
 fn rate(stores: u64, start: Instant) -> u64 {

@@ -32,8 +32,11 @@ pub fn all() -> Vec<Case> {
     cases
 }
 
+/// The store of a seed.
+type Generate = fn(u64) -> generate::Case;
+
 fn generated() -> Vec<Case> {
-    let formats: [(&str, fn(u64) -> generate::Case); 2] = [
+    let formats: [(&str, Generate); 2] = [
         ("a generated store of format one", generate::format1),
         ("a generated store of format two", generate::format2),
     ];
@@ -50,7 +53,7 @@ fn generated() -> Vec<Case> {
 }
 
 /// Generated stores that are short to store, and for which the program has room.
-fn calls(generate: fn(u64) -> generate::Case) -> impl Iterator<Item = Call<u32>> {
+fn calls(generate: Generate) -> impl Iterator<Item = Call<u32>> {
     (0..).filter_map(move |seed| {
         let case = generate(seed);
         let rows = case.store.objects.len() + case.store.links.len();

@@ -6,7 +6,10 @@ mod words;
 pub use name::Name;
 
 use super::failure::Failure;
-use std::{ffi::OsString, path::PathBuf};
+use std::{
+    ffi::{OsStr, OsString},
+    path::PathBuf,
+};
 use words::Words;
 
 /// What the words ask for.
@@ -20,6 +23,8 @@ pub enum Request {
     Split(Split),
     /// Read a pair.
     Pair(Pair),
+    /// Read an attachment.
+    Mark(Mark),
     /// Look into a font.
     Font(Font),
     /// Say how the command is used, or one of its commands.
@@ -31,10 +36,23 @@ pub enum Request {
 /// What `sample` is asked for.
 #[derive(Debug, Default, PartialEq, Eq)]
 pub struct Sample {
+    /// The sample; without one, all of them.
+    pub which: Option<Which>,
     /// Where the samples are written, in place of being split.
     pub directory: Option<PathBuf>,
     /// Whether bars are drawn in ASCII.
     pub ascii: bool,
+}
+
+/// A sample.
+#[derive(Clone, Copy, Debug, PartialEq, Eq)]
+pub enum Which {
+    /// Pairs, format 1.
+    Sets,
+    /// Pairs, format 2.
+    Rows,
+    /// Marks on bases.
+    Marks,
 }
 
 /// What `plan` is asked for.
@@ -44,6 +62,8 @@ pub struct Plan {
     pub file: PathBuf,
     /// The table; without one, those that the file lists.
     pub table: Option<u32>,
+    /// Whether tables are mark-to-base, whatever the file says.
+    pub marks: bool,
     /// Whether long lists are shown whole.
     pub all: bool,
     /// Whether bars are drawn in ASCII.
@@ -57,7 +77,7 @@ pub struct Split {
     pub plan: Plan,
     /// The file that is written. It is the store file itself only where that was asked for.
     pub output: Output,
-    /// Whether all pairs are read before and after.
+    /// Whether all pairs or attachments are read before and after.
     pub check: bool,
 }
 
@@ -79,6 +99,19 @@ pub struct Pair {
     pub table: u32,
     /// The first glyph and the second.
     pub glyphs: [u16; 2],
+}
+
+/// What `mark` is asked for.
+#[derive(Debug, PartialEq, Eq)]
+pub struct Mark {
+    /// The store file.
+    pub file: PathBuf,
+    /// The table.
+    pub table: u32,
+    /// The mark's glyph.
+    pub mark: u16,
+    /// The base's glyph.
+    pub base: u16,
 }
 
 /// What `font` is asked for.
@@ -107,10 +140,11 @@ fn read_command(name: Name, words: impl Iterator<Item = OsString>) -> Result<Req
         return Ok(Request::Help(Some(name)));
     }
     let request = match name {
-        Name::Sample => Request::Sample(sample(&mut words)),
+        Name::Sample => Request::Sample(sample(&mut words)?),
         Name::Plan => Request::Plan(plan(&mut words)?),
         Name::Split => Request::Split(split(&mut words)?),
         Name::Pair => Request::Pair(pair(&mut words)?),
+        Name::Mark => Request::Mark(mark(&mut words)?),
         Name::Font => Request::Font(Font {
             file: words.operand("FILE")?.into(),
         }),
@@ -120,10 +154,26 @@ fn read_command(name: Name, words: impl Iterator<Item = OsString>) -> Result<Req
     Ok(request)
 }
 
-fn sample(words: &mut Words) -> Sample {
-    Sample {
+fn sample(words: &mut Words) -> Result<Sample, Failure> {
+    Ok(Sample {
+        which: words
+            .optional()
+            .map(|word| which(words, &word))
+            .transpose()?,
         directory: words.value("--output").map(PathBuf::from),
         ascii: words.has("--ascii"),
+    })
+}
+
+fn which(words: &Words, word: &OsStr) -> Result<Which, Failure> {
+    match word.to_str() {
+        Some("sets") => Ok(Which::Sets),
+        Some("rows") => Ok(Which::Rows),
+        Some("marks") => Ok(Which::Marks),
+        _ => {
+            let word = word.to_string_lossy();
+            Err(words.failure(&format!("has sets, rows and marks, and no \"{word}\"")))
+        }
     }
 }
 
@@ -131,6 +181,7 @@ fn plan(words: &mut Words) -> Result<Plan, Failure> {
     Ok(Plan {
         file: words.operand("FILE")?.into(),
         table: words.optional_number("TABLE")?,
+        marks: words.has("--marks"),
         all: words.has("--all"),
         ascii: words.has("--ascii"),
     })
@@ -158,6 +209,15 @@ fn pair(words: &mut Words) -> Result<Pair, Failure> {
         file: words.operand("FILE")?.into(),
         table: words.number("TABLE")?,
         glyphs: [words.number("G1")?, words.number("G2")?],
+    })
+}
+
+fn mark(words: &mut Words) -> Result<Mark, Failure> {
+    Ok(Mark {
+        file: words.operand("FILE")?.into(),
+        table: words.number("TABLE")?,
+        mark: words.number("MARK")?,
+        base: words.number("BASE")?,
     })
 }
 

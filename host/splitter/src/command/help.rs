@@ -13,19 +13,22 @@ pub const fn of(topic: Option<Name>) -> &'static str {
         Some(Name::Plan) => PLAN,
         Some(Name::Split) => SPLIT,
         Some(Name::Pair) => PAIR,
+        Some(Name::Mark) => MARK,
         Some(Name::Font) => FONT,
     }
 }
 
 const ALL: &str = "\
-Cuts OpenType pair-kerning tables (GPOS PairPos) that are too large into several
-that fit. The cutting is done by functions that are proved to lose nothing.
+Cuts OpenType tables for pairs of glyphs (GPOS PairPos) and for marks on bases
+(MarkBasePos) that are too large into several that fit. The cutting is done by
+functions that are proved to lose nothing.
 
     splitter                               the same as splitter sample
-    splitter sample [-o DIR]               split two samples and show them
+    splitter sample [-o DIR]               split three samples and show them
     splitter plan FILE [TABLE]             show where tables would be cut
     splitter split FILE [TABLE] -o FILE    split tables
     splitter pair FILE TABLE G1 G2         read what a table says of two glyphs
+    splitter mark FILE TABLE MARK BASE     read how it attaches a mark to a base
     splitter font FILE                     look into the GPOS table of a font
     splitter help [COMMAND]                say more of a command
     splitter --version                     say which version this is
@@ -38,27 +41,33 @@ that cannot be followed. Errors are one sentence on standard error.
 ";
 
 const SAMPLE: &str = "\
-splitter sample [-o DIR] [--ascii]
+splitter sample [sets | rows | marks] [-o DIR] [--ascii]
 
-Splits two built-in stores, one of each format, and shows the old table, where
-it is cut, what comes of it, and that every pair reads as before.
+Splits built-in stores: pairs in each format, and marks on bases. Shows the old
+table, where it is cut, what comes of it, and that every pair or attachment
+reads as before.
 
-    -o, --output DIR    write the two stores into a directory, as sample1.krns
-                        and sample2.krns, in place of splitting them
+    sets, rows, marks   one of them: pairs in format 1, pairs in format 2, marks
+    -o, --output DIR    write the stores into a directory, as sample1.krns,
+                        sample2.krns and sample3.krns, and split nothing
     --ascii             draw bars in ASCII, whatever the locale
 
 Columns: items are the pair sets or rows of a table; glyphs, the first glyphs
 that it covers; bytes, of the table and all that it leads to; itself, of the
 table alone; coverage, class 1 and class 2, of its coverage and its class
-definitions.
+definitions. For marks: classes are mark classes; marks, those that it covers;
+coverage, marks and bases, of its mark coverage and its two arrays.
 ";
 
 const PLAN: &str = "\
-splitter plan FILE [TABLE] [--all] [--ascii]
+splitter plan FILE [TABLE] [--marks] [--all] [--ascii]
 
 Shows where the tables of a store file would be cut, and changes nothing. TABLE
 is the number of an object; without it all tables that the file lists are shown.
+The file says which of these are mark-to-base tables. Bytes do not tell, so a
+table that it does not list is for pairs, unless --marks is there.
 
+    --marks    the tables are mark-to-base, whatever the file says
     --all      show long lists whole
     --ascii    draw bars in ASCII, whatever the locale
 
@@ -67,7 +76,8 @@ is 1.
 ";
 
 const SPLIT: &str = "\
-splitter split FILE [TABLE] (-o FILE | --in-place) [--check] [--all] [--ascii]
+splitter split FILE [TABLE] (-o FILE | --in-place) [--check] [--marks] [--all]
+               [--ascii]
 
 Splits the tables of a store file and writes the store with kept and new tables.
 TABLE is the number of an object; without it all tables that the file lists are
@@ -77,10 +87,13 @@ refused, not at all.
 
     -o, --output FILE    where to write; the file that is read is refused here
     --in-place           write over the file that is read
-    --check              read every pair before and after; this can take long
+    --check              read all pairs or attachments before and after; this
+                         can take long
+    --marks              the tables are mark-to-base, whatever the file says
     --all                show long lists whole
     --ascii              draw bars in ASCII, whatever the locale
 
+\"splitter help plan\" says how tables for pairs and for marks are told apart,
 \"splitter help sample\" explains the columns.
 ";
 
@@ -92,13 +105,22 @@ and four devices for each. TABLE is the number of an object. That there is no
 pair is no error.
 ";
 
+const MARK: &str = "\
+splitter mark FILE TABLE MARK BASE
+
+Reads by which anchors a mark-to-base table of a store file attaches the glyph
+MARK to the glyph BASE: the two objects, and their coordinates. TABLE is the
+number of an object. That there is no attachment is no error.
+";
+
 const FONT: &str = "\
 splitter font FILE
 
-Shows the pair tables of a TrueType or OpenType font, or of the first font of a
-collection: the subtables of lookups of type 2, and those of type 9 that extend
-type 2. For each: lookup, subtable, format, bytes with all that it leads to,
-pair sets or rows, covered glyphs, and cut places or why it is refused.
+Shows the tables for pairs and for marks on bases of a TrueType or OpenType
+font, or of the first font of a collection: the subtables of lookups of types 2
+and 4, and those of type 9 that extend these. For each: lookup, subtable, kind,
+format, bytes with all that it leads to, items (pair sets, rows or mark
+classes), covered glyphs, and cut places or why it is refused.
 
 What is in a font fits its offsets already, so most tables have no cut places.
 But the rule counts whole parts, where an offset only has to reach the start of
@@ -115,7 +137,7 @@ mod tests {
 
     #[test]
     fn help_keeps_to_the_columns() {
-        for text in [ALL, SAMPLE, PLAN, SPLIT, PAIR, FONT] {
+        for text in [ALL, SAMPLE, PLAN, SPLIT, PAIR, MARK, FONT] {
             for line in text.lines() {
                 assert!(line.len() <= COLUMNS, "{line}");
             }

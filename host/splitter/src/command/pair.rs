@@ -1,7 +1,9 @@
 //! `splitter pair`: what a table says of two glyphs.
 
-use super::{arguments::Pair, failure::Failure, files, look::Look, screen::Screen};
-use splitter::{read_pair, Store, Values};
+use super::{
+    arguments::Pair, failure::Failure, files, look::Look, screen::Screen, text::two_columns,
+};
+use splitter::{read_pair, store_file::Table, Store, Values};
 
 /// Shows what a table of a store file says of two glyphs.
 pub fn run(request: &Pair, screen: &mut Screen) -> Result<(), Failure> {
@@ -16,19 +18,19 @@ pub fn run(request: &Pair, screen: &mut Screen) -> Result<(), Failure> {
     screen.heading(&format!(
         "Table {table}, glyph {first} before glyph {second}"
     ))?;
-    let [firsts, seconds] = [first, second].map(|glyph| format!("glyph {glyph}"));
-    screen.line(&format!("  {:<20}{firsts:>14}{seconds:>14}", ""))?;
+    let heads = [first, second].map(|glyph| format!("glyph {glyph}"));
+    screen.line(&two_columns("", &heads))?;
     let values = fields(&pair.first).into_iter().zip(fields(&pair.second));
     for ((name, first), (_, second)) in values {
-        screen.line(&format!("  {name:<20}{first:>14}{second:>14}"))?;
+        screen.line(&two_columns(name, &[first, second]))?;
     }
     Ok(())
 }
 
 /// Why there is no pair.
 fn no_pair(store: &Store, table: u32, [first, second]: [u16; 2]) -> String {
-    match Look::at(store.view(), table) {
-        Some(look) if !matches!(look.format, 1 | 2) => format!(
+    match Look::at(store.view(), Table::pairs(table)) {
+        Some(look) if !look.is_split() => format!(
             "Table {table} has format {}: only formats 1 and 2 have pairs.",
             look.format
         ),

@@ -8,7 +8,10 @@ use super::{
     screen::Screen,
     text::{counted, wrapped},
 };
-use splitter::{cut_plan, store_file::StoreFile, Scratch, Store};
+use splitter::{
+    store_file::{StoreFile, Table},
+    Kind, Scratch, Store,
+};
 
 /// Shows where the tables of a store file would be cut.
 pub fn run(request: &Plan, screen: &mut Screen) -> Result<(), Failure> {
@@ -20,13 +23,14 @@ pub fn run(request: &Plan, screen: &mut Screen) -> Result<(), Failure> {
     let mut refused = 0;
     for &table in &tables {
         screen.line("")?;
-        match cut_plan(file.store(), table, &mut scratch) {
+        let number = table.number;
+        match table.kind.cut_plan(file.store(), number, &mut scratch) {
             Ok(cuts) => show(file.store(), table, cuts, request.amount(), screen)?,
             Err(refusal) if tables.len() == 1 => {
-                return Err(Failure::refused(table, refusal).at(&request.file));
+                return Err(Failure::refused(number, refusal).at(&request.file));
             }
             Err(refusal) => {
-                screen.lines(&wrapped(&refusal_in_words(table, refusal), 0))?;
+                screen.lines(&wrapped(&refusal_in_words(number, refusal), 0))?;
                 refused += 1;
             }
         }
@@ -46,7 +50,7 @@ pub fn run(request: &Plan, screen: &mut Screen) -> Result<(), Failure> {
 /// Shows where a table would be cut.
 fn show(
     store: &Store,
-    table: u32,
+    table: Table,
     cuts: Vec<u16>,
     amount: Amount,
     screen: &mut Screen,
@@ -63,16 +67,26 @@ fn show(
 }
 
 impl Plan {
-    /// The table that was asked for, or those that the file lists.
-    pub fn tables(&self, file: &StoreFile) -> Result<Vec<u32>, Failure> {
-        match (self.table, file.tables()) {
-            (Some(table), _) => Ok(vec![table]),
-            (None, []) => Err(files::about(
-                &self.file,
-                "it lists no table: say which one, by its number behind the file's name",
-            )),
-            (None, tables) => Ok(tables.to_vec()),
+    /// The table that was asked for, or those that the file lists. What they are for the words say, or
+    /// the file; a table that it does not list is for pairs.
+    pub fn tables(&self, file: &StoreFile) -> Result<Vec<Table>, Failure> {
+        let mut tables = match (self.table, file.tables()) {
+            (Some(number), listed) => {
+                let listed = listed.iter().find(|table| table.number == number);
+                vec![listed.copied().unwrap_or(Table::pairs(number))]
+            }
+            (None, []) => {
+                return Err(files::about(
+                    &self.file,
+                    "it lists no table: say which one, by its number behind the file's name",
+                ));
+            }
+            (None, tables) => tables.to_vec(),
+        };
+        if self.marks {
+            tables.iter_mut().for_each(|table| table.kind = Kind::Marks);
         }
+        Ok(tables)
     }
 
     /// How much is shown.

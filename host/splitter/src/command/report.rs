@@ -5,9 +5,9 @@ use super::{
     failure::Failure,
     look::Look,
     screen::Screen,
-    text::{counted, grouped, listed, or_dash, wrapped},
+    text::{counted, grouped, listed, or_dash, plural, wrapped},
 };
-use splitter::StoreRef;
+use splitter::{store_file::Table, Kind, StoreRef};
 use std::ops::Range;
 
 /// So many rows and bars are shown, unless all are asked for.
@@ -32,7 +32,7 @@ pub enum Amount {
 
 impl Before {
     /// A table as it is, and where it is cut.
-    pub fn new(store: StoreRef, table: u32, cuts: Vec<u16>) -> Option<Self> {
+    pub fn new(store: StoreRef, table: Table, cuts: Vec<u16>) -> Option<Self> {
         let look = Look::at(store, table)?;
         let pieces = look.pieces(&cuts);
         Some(Self {
@@ -46,25 +46,20 @@ impl Before {
     /// What the table is, and where it is cut, in words.
     pub fn describe(&self, screen: &mut Screen, amount: Amount) -> Result<(), Failure> {
         let look = &self.look;
-        if !matches!(look.format, 1 | 2) {
-            let sentence = format!(
-                "Table {} has format {}: only formats 1 and 2 are split.",
-                look.table, look.format
-            );
-            return screen.line(&sentence);
+        let number = look.table.number;
+        if !look.is_split() {
+            let split = match look.table.kind {
+                Kind::Pairs => "only formats 1 and 2 are split",
+                Kind::Marks => "only format 1 of mark-to-base tables is split",
+            };
+            return screen.line(&format!(
+                "Table {number} has format {}: {split}.",
+                look.format
+            ));
         }
-        let columns = match look.format {
-            1 => String::new(),
-            _ => format!(" of {}", counted(look.columns, "record")),
-        };
-        let [first, second] = look.value_formats;
         let sentence = format!(
-            "Table {}: format {}, {}{columns}, {} covered, value formats {first:04X} and \
-             {second:04X}; {} bytes with all that it leads to.",
-            look.table,
-            look.format,
-            counted(look.items, look.item_name()),
-            counted(look.glyphs, "glyph"),
+            "Table {number}: {}; {} bytes with all that it leads to.",
+            in_words(look),
             grouped(look.all_bytes),
         );
         screen.lines(&wrapped(&sentence, 0))?;
@@ -76,8 +71,12 @@ impl Before {
         match self.cuts.len() {
             0 => "It fits as it is, and is not cut.".into(),
             count => format!(
-                "It is cut at {name}{} {}: {} in its place.",
-                if count == 1 { "" } else { "s" },
+                "It is cut at {} {}: {} in its place.",
+                if count == 1 {
+                    name.into()
+                } else {
+                    plural(name)
+                },
                 listed(&self.cuts, amount == Amount::All),
                 counted(count + 1, "table"),
             ),
@@ -90,7 +89,7 @@ impl Before {
     }
 
     fn label(&self) -> String {
-        format!("old {}", self.look.table)
+        format!("old {}", self.look.table.number)
     }
 
     fn bars(&self, screen: &Screen) -> Bars {
@@ -108,16 +107,16 @@ impl Before {
     pub fn show_after(
         &self,
         store: StoreRef,
-        tables: &[u32],
+        tables: &[Table],
         screen: &mut Screen,
         amount: Amount,
     ) -> Result<(), Failure> {
         let looks: Vec<Look> = tables.iter().filter_map(|&t| Look::at(store, t)).collect();
         let label = |place: usize| match place {
-            0 => format!("kept {}", tables[0]),
-            _ => format!("new {}", tables[place]),
+            0 => format!("kept {}", tables[0].number),
+            _ => format!("new {}", tables[place].number),
         };
-        screen.line(HEADINGS)?;
+        screen.line(headings(self.look.table.kind))?;
         screen.line(&row(&self.label(), &(0..self.look.items), &self.look))?;
         show_some(looks.len(), amount, screen, |place| {
             row(&label(place), &self.pieces[place], &looks[place])
@@ -153,24 +152,53 @@ fn notes(looks: &[Look]) -> Vec<String> {
         notes.push(format!(
             "Still past the limit: {count}, {} the first. \"splitter plan\" says whether it can be \
              cut again; a single {} that is too large cannot.",
-            look.table,
+            look.table.number,
             look.item_name(),
         ));
     }
     notes
 }
 
-const HEADINGS: &str =
-    "  table      items        glyphs      bytes     itself coverage class 1 class 2";
+/// What a table has, as far as it has a format that is split.
+fn in_words(look: &Look) -> String {
+    let format = look.format;
+    let items = counted(look.items, look.item_name());
+    let [first, second] = look.value_formats;
+    let values = format!("value formats {first:04X} and {second:04X}");
+    let glyphs = |what| format!("{} covered", counted(look.glyphs, what));
+    match (look.table.kind, format) {
+        (Kind::Pairs, 1) => format!("format 1, {items}, {}, {values}", glyphs("glyph")),
+        (Kind::Pairs, _) => {
+            let records = counted(look.columns, "record");
+            let glyphs = glyphs("glyph");
+            format!("format {format}, {items} of {records}, {glyphs}, {values}")
+        }
+        (Kind::Marks, _) => {
+            let bases = counted(look.columns, "base");
+            format!("mark-to-base, {items}, {}, {bases}", glyphs("mark"))
+        }
+    }
+}
+
+const fn headings(kind: Kind) -> &'static str {
+    match kind {
+        Kind::Pairs => {
+            "  table      items        glyphs      bytes     itself coverage class 1 class 2"
+        }
+        Kind::Marks => {
+            "  table      classes       marks      bytes     itself coverage   marks   bases"
+        }
+    }
+}
 
 fn row(label: &str, items: &Range<usize>, look: &Look) -> String {
     let items = match items.len() {
         0 => "none".into(),
         _ => format!("{}-{}", items.start, items.end - 1),
     };
-    let [class_def1, class_def2] = look.class_defs.map(or_dash);
+    let [first, second] = look.parts.map(or_dash);
     format!(
-        "  {label:<11}{items:<12}{:>7}{:>11}{:>11}{:>9}{class_def1:>8}{class_def2:>8}",
+        "  {label:<11}{items:<12}{:>7}{:>11}{:>11}{:>9}{first:>8}{second:>8}",
         grouped(look.glyphs),
         grouped(look.all_bytes),
         grouped(look.own_bytes),

@@ -1,13 +1,23 @@
-//! `splitter sample`: two stores that are there to be tried.
+//! `splitter sample`: three stores that are there to be tried.
 
+mod marks;
 mod rows;
 mod sets;
 mod words;
 
 use super::{
-    arguments::Sample, failure::Failure, files, report::Amount, screen::Screen, split::Show,
+    arguments::{Sample, Which},
+    failure::Failure,
+    files,
+    report::Amount,
+    screen::Screen,
+    split::Show,
+    text::wrapped,
 };
-use splitter::{store_file::StoreFile, Refusal, Scratch, Store};
+use splitter::{
+    store_file::{StoreFile, Table},
+    Refusal, Scratch, Store,
+};
 use std::{fs, path::Path};
 
 /// A store, and the table in it that is too large.
@@ -15,13 +25,13 @@ struct Example {
     title: &'static str,
     file_name: &'static str,
     store: Store,
-    table: u32,
+    table: Table,
 }
 
 /// Splits the samples and shows what comes of it, or writes them.
 pub fn run(request: &Sample, screen: &mut Screen) -> Result<(), Failure> {
     screen.style.unicode &= !request.ascii;
-    let examples = examples()
+    let examples = examples(request.which)
         .map_err(|refusal| Failure::Undone(format!("the samples are refused: {refusal}")))?;
     match &request.directory {
         Some(directory) => write(examples, directory, screen),
@@ -29,26 +39,48 @@ pub fn run(request: &Sample, screen: &mut Screen) -> Result<(), Failure> {
     }
 }
 
-/// One of each format.
-fn examples() -> Result<[Example; 2], Refusal> {
-    let ((sets, sets_table), (rows, rows_table)) = (sets::store()?, rows::store()?);
-    Ok([
-        Example {
-            title: "Sample 1 of 2: a table of pair sets, for glyph before glyph",
-            file_name: "sample1.krns",
-            store: sets,
-            table: sets_table,
-        },
-        Example {
-            title: "Sample 2 of 2: a table of rows, for class before class",
-            file_name: "sample2.krns",
-            store: rows,
-            table: rows_table,
-        },
-    ])
+/// The sample that is asked for, or all of them.
+fn examples(which: Option<Which>) -> Result<Vec<Example>, Refusal> {
+    match which {
+        Some(which) => Ok(vec![example(which)?]),
+        None => [Which::Sets, Which::Rows, Which::Marks]
+            .into_iter()
+            .map(example)
+            .collect(),
+    }
 }
 
-fn show(examples: [Example; 2], screen: &mut Screen) -> Result<(), Failure> {
+fn example(which: Which) -> Result<Example, Refusal> {
+    let (title, file_name, (store, number)) = match which {
+        Which::Sets => (
+            "Sample 1 of 3: a table of pair sets, for glyph before glyph",
+            "sample1.krns",
+            sets::store()?,
+        ),
+        Which::Rows => (
+            "Sample 2 of 3: a table of rows, for class before class",
+            "sample2.krns",
+            rows::store()?,
+        ),
+        Which::Marks => (
+            "Sample 3 of 3: a table of anchors, for mark on base",
+            "sample3.krns",
+            marks::store()?,
+        ),
+    };
+    let table = match which {
+        Which::Sets | Which::Rows => Table::pairs(number),
+        Which::Marks => Table::marks(number),
+    };
+    Ok(Example {
+        title,
+        file_name,
+        store,
+        table,
+    })
+}
+
+fn show(examples: Vec<Example>, screen: &mut Screen) -> Result<(), Failure> {
     let show = Show {
         amount: Amount::Some,
         check: true,
@@ -64,11 +96,12 @@ fn show(examples: [Example; 2], screen: &mut Screen) -> Result<(), Failure> {
         show.split(&mut store, table, &mut scratch, screen)?;
     }
     screen.line("")?;
-    screen
-        .line("\"splitter sample -o DIR\" writes these stores as files, for plan, split and pair.")
+    let files =
+        "\"splitter sample -o DIR\" writes such stores as files, for plan, split, pair and mark.";
+    screen.lines(&wrapped(files, 0))
 }
 
-fn write(examples: [Example; 2], directory: &Path, screen: &mut Screen) -> Result<(), Failure> {
+fn write(examples: Vec<Example>, directory: &Path, screen: &mut Screen) -> Result<(), Failure> {
     fs::create_dir_all(directory).map_err(|error| {
         files::about(directory, format!("the directory cannot be made: {error}"))
     })?;

@@ -3,12 +3,15 @@
 use super::{
     arguments::{Output, Split},
     failure::Failure,
-    files, pairs,
+    files, readings,
     report::{Amount, Before},
     screen::Screen,
     text::counted,
 };
-use splitter::{cut_plan, split, store_file::StoreFile, Scratch, Store};
+use splitter::{
+    store_file::{StoreFile, Table},
+    Scratch, Store,
+};
 use std::{fs, path::Path};
 
 /// Splits the tables of a store file, and writes the store.
@@ -28,9 +31,8 @@ pub fn run(request: &Split, screen: &mut Screen) -> Result<(), Failure> {
     };
     for &table in &tables {
         screen.line("")?;
-        let new_tables = show.split(&mut store, table, &mut scratch, screen);
-        let new_tables = new_tables.map_err(|failure| failure.at(input))?;
-        list(&mut listed, table, &new_tables);
+        let split = show.split(&mut store, table, &mut scratch, screen);
+        list(&mut listed, &split.map_err(|failure| failure.at(input))?);
     }
     let file = StoreFile::new(store, listed).map_err(|error| files::about(output, error))?;
     let bytes = file.to_bytes();
@@ -56,14 +58,12 @@ fn output(request: &Split) -> Result<&Path, Failure> {
     }
 }
 
-/// New tables are listed behind the one that they came of.
-fn list(listed: &mut Vec<u32>, table: u32, new_tables: &[u32]) {
-    let place = listed.iter().position(|&other| other == table);
-    let place = place.unwrap_or_else(|| {
-        listed.push(table);
-        listed.len() - 1
-    });
-    listed.splice(place + 1..place + 1, new_tables.iter().copied());
+/// New tables, which stand behind the kept one, are listed behind it too.
+fn list(listed: &mut Vec<Table>, tables: &[Table]) {
+    let place = listed.iter().position(|it| it.number == tables[0].number);
+    let place = place.unwrap_or(listed.len());
+    let end = listed.len().min(place + 1);
+    listed.splice(place..end, tables.iter().copied());
 }
 
 /// How a split is shown.
@@ -71,24 +71,26 @@ fn list(listed: &mut Vec<u32>, table: u32, new_tables: &[u32]) {
 pub struct Show {
     /// How much of it.
     pub amount: Amount,
-    /// Whether all pairs are read before and after.
+    /// Whether all pairs or attachments are read before and after.
     pub check: bool,
 }
 
 impl Show {
-    /// Splits a table, shows what came of it, and gives the new tables.
+    /// Splits a table, shows what came of it, and gives the kept table and the new ones.
     pub fn split(
         self,
         store: &mut Store,
-        table: u32,
+        table: Table,
         scratch: &mut Scratch,
         screen: &mut Screen,
-    ) -> Result<Vec<u32>, Failure> {
-        let refused = |refusal| Failure::refused(table, refusal);
+    ) -> Result<Vec<Table>, Failure> {
+        let Table { number, kind } = table;
+        let refused = |refusal| Failure::refused(number, refusal);
         let old = store.clone();
-        let cuts = cut_plan(&old, table, scratch).map_err(refused)?;
-        let new_tables = split(store, table, scratch).map_err(refused)?;
-        let tables = [&[table], &new_tables[..]].concat();
+        let cuts = kind.cut_plan(&old, number, scratch).map_err(refused)?;
+        let new_tables = kind.split(store, number, scratch).map_err(refused)?;
+        let new_tables = new_tables.into_iter().map(|number| Table { number, kind });
+        let tables: Vec<Table> = [table].into_iter().chain(new_tables).collect();
         if let Some(before) = Before::new(old.view(), table, cuts) {
             before.describe(screen, self.amount)?;
             if before.is_cut() {
@@ -98,10 +100,10 @@ impl Show {
         }
         if self.check {
             screen.flush()?;
-            let compared = pairs::compare(&old, table, store, &tables).map_err(refused)?;
+            let compared = readings::compare(&old, table, store, &tables).map_err(refused)?;
             screen.line("")?;
             compared.show(screen)?;
         }
-        Ok(new_tables)
+        Ok(tables)
     }
 }

@@ -16,10 +16,23 @@ pub fn grouped(number: usize) -> String {
     grouped
 }
 
+/// The plural of something that has a regular one.
+pub fn plural(what: &str) -> String {
+    let ending = if what.ends_with('s') { "es" } else { "s" };
+    format!("{what}{ending}")
+}
+
 /// How many there are of something that has a regular plural.
 pub fn counted(number: usize, what: &str) -> String {
-    let plural = if number == 1 { "" } else { "s" };
-    format!("{} {what}{plural}", grouped(number))
+    match number {
+        1 => format!("1 {what}"),
+        _ => format!("{} {}", grouped(number), plural(what)),
+    }
+}
+
+/// A line of a table of two glyphs.
+pub fn two_columns(name: &str, [first, second]: &[String; 2]) -> String {
+    format!("  {name:<20}{first:>14}{second:>14}")
 }
 
 /// A number, or a dash where there is none.
@@ -71,6 +84,13 @@ mod tests {
         let numbers = [0, 999, 1_000, 65_535, 1_234_567];
         let words = ["0", "999", "1,000", "65,535", "1,234,567"];
         assert_eq!(numbers.map(grouped), words);
+    }
+
+    #[test]
+    fn plurals() {
+        assert_eq!(counted(1, "mark class"), "1 mark class");
+        assert_eq!(counted(0, "mark class"), "0 mark classes");
+        assert_eq!(counted(1_000, "base"), "1,000 bases");
     }
 
     #[test]

@@ -1,20 +1,12 @@
 //! The lookups of a GPOS table.
 
 use super::{bytes::Bytes, error::FontError};
+use crate::Kind;
 
 /// The type of lookups whose subtables lead to those of another type.
 const EXTENSION: usize = 9;
 
 const MOST_SUBTABLES: usize = 65_536;
-
-/// What lookups are for.
-#[derive(Clone, Copy, Debug, PartialEq, Eq)]
-pub enum Kind {
-    /// PairPos: pairs of glyphs.
-    Pairs,
-    /// MarkBasePos: marks on bases.
-    Marks,
-}
 
 /// The lookups of a GPOS table, and the subtables of one kind.
 #[derive(Debug, Default, PartialEq, Eq)]
@@ -38,16 +30,6 @@ pub struct Subtable {
     pub start: usize,
 }
 
-impl Kind {
-    /// The type of its lookups.
-    fn lookup_type(self) -> usize {
-        match self {
-            Self::Pairs => 2,
-            Self::Marks => 4,
-        }
-    }
-}
-
 impl Lookups {
     /// Reads the list of lookups, and those of a kind, as they are or through extensions.
     pub fn read(gpos: Bytes, kind: Kind) -> Result<Self, FontError> {
@@ -64,7 +46,7 @@ impl Lookups {
         lookups.count = gpos.u16(list, "the list of lookups")?;
         for lookup in 0..lookups.count {
             let start = list + gpos.u16(list + 2 + 2 * lookup, "the list of lookups")?;
-            lookups.add(gpos, kind.lookup_type(), lookup, start)?;
+            lookups.add(gpos, kind.lookup_type().into(), lookup, start)?;
         }
         Ok(lookups)
     }

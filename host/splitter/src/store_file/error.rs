@@ -13,7 +13,7 @@ use std::{
 pub enum FileError {
     /// It does not start with [`MAGIC`](super::MAGIC).
     NotAStoreFile,
-    /// It has a version other than [`VERSION`].
+    /// It has version 0, or one that is newer than [`VERSION`].
     Version {
         /// The version that it has.
         version: u16,
@@ -27,6 +27,13 @@ pub enum FileError {
     },
     /// Its store is refused.
     Store(Refusal),
+    /// It lists a table of a kind that is not known.
+    Kind {
+        /// The type of lookup that it gives.
+        kind: u16,
+    },
+    /// It has version 2, and lists no MarkBasePos table.
+    NoMarks,
     /// It lists a table that is not in use.
     NoTable {
         /// The table.
@@ -51,8 +58,8 @@ impl Display for FileError {
             ),
             Self::Version { version } => write!(
                 f,
-                "it is a store file of version {version}, and only version {VERSION} is known: write \
-                 it in that version, or take a splitter that knows this one"
+                "it is a store file of version {version}, and only versions 1 to {VERSION} are known: \
+                 write it in one of these, or take a splitter that knows this one"
             ),
             Self::Length { is, asked } => write!(
                 f,
@@ -60,6 +67,14 @@ impl Display for FileError {
                  with nothing behind it"
             ),
             Self::Store(refusal) => refusal.fmt(f),
+            Self::Kind { kind } => write!(
+                f,
+                "it lists a table of lookup type {kind}, and only 2 (PairPos) and 4 (MarkBasePos) are \
+                 known: list only tables of these"
+            ),
+            Self::NoMarks => f.write_str(
+                "it is a store file of version 2 that lists no MarkBasePos table: write it in version 1",
+            ),
             Self::NoTable { table, objects } => write!(
                 f,
                 "it lists table {table}, and has {objects} objects: list only numbers below that"

@@ -43,6 +43,39 @@ pub fn format1(lengths: &[usize]) -> Store {
     store
 }
 
+/// A mark-to-base table, object 0, of three classes: marks 10, 20, 30 and 40 of classes 2, 0, 1 and 0,
+/// on bases 60 and 61. Its parts are objects 1 to 4, and all marks have the anchor that is object 5.
+/// Base 60 has an anchor in each class, objects 6, 7 and 8, of these lengths; base 61 has none.
+pub fn marks(lengths: [usize; 3]) -> Store {
+    let objects: [&[u16]; 6] = [
+        &[1, 0, 0, 3, 0, 0],
+        &[1, 4, 10, 20, 30, 40],
+        &[2, 1, 60, 61, 0],
+        &[4, 2, 0, 0, 0, 1, 0, 0, 0],
+        &[2, 0, 0, 0, 0, 0, 0],
+        &[1, 100, 200],
+    ];
+    let parts = [[0, 2, 1], [0, 4, 2], [0, 8, 3], [0, 10, 4]];
+    let of_marks = [4, 8, 12, 16].map(|slot| [3, slot, 5]);
+    let mut store = store(&objects, &[&parts[..], &of_marks].concat());
+    for (slot, length) in [2, 4, 6].into_iter().zip(lengths) {
+        let anchor = store.add_object(&vec![0; length]).unwrap();
+        store.add_link(4, slot, anchor).unwrap();
+    }
+    store
+}
+
+/// It is cut at 1 and 2, and needs exactly this room. Classes 1 and 2 have one mark each: table, coverage,
+/// mark array and base array. The kept class has two. 4K + 3 objects; 4K links and those of both arrays.
+pub fn cut_marks() -> (Store, Room) {
+    let room = Room {
+        data: 2 * (12 + 6 + 6 + 6) + (8 + 10 + 6),
+        objects: 11,
+        links: 8 + 4 + 3,
+    };
+    (marks([40_000; 3]), room)
+}
+
 /// W7: it is cut at 2, and needs exactly this room.
 pub fn w7() -> (Store, Room) {
     let room = Room {

@@ -14,6 +14,8 @@ pub enum Name {
     Split,
     /// `pair`
     Pair,
+    /// `mark`
+    Mark,
     /// `font`
     Font,
     /// `help`
@@ -21,11 +23,12 @@ pub enum Name {
 }
 
 impl Name {
-    const ALL: [Self; 6] = [
+    const ALL: [Self; 7] = [
         Self::Sample,
         Self::Plan,
         Self::Split,
         Self::Pair,
+        Self::Mark,
         Self::Font,
         Self::Help,
     ];
@@ -37,6 +40,7 @@ impl Name {
             Self::Plan => "plan",
             Self::Split => "split",
             Self::Pair => "pair",
+            Self::Mark => "mark",
             Self::Font => "font",
             Self::Help => "help",
         }
@@ -46,15 +50,16 @@ impl Name {
     pub const fn options(self) -> &'static [(&'static str, bool)] {
         match self {
             Self::Sample => &[("--output", true), ("--ascii", false)],
-            Self::Plan => &[("--all", false), ("--ascii", false)],
+            Self::Plan => &[("--marks", false), ("--all", false), ("--ascii", false)],
             Self::Split => &[
                 ("--output", true),
                 ("--in-place", false),
                 ("--check", false),
+                ("--marks", false),
                 ("--all", false),
                 ("--ascii", false),
             ],
-            Self::Pair | Self::Font | Self::Help => &[],
+            Self::Pair | Self::Mark | Self::Font | Self::Help => &[],
         }
     }
 

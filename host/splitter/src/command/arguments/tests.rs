@@ -14,6 +14,7 @@ fn plan_of(file: &str, table: Option<u32>) -> Plan {
     Plan {
         file: file.into(),
         table,
+        marks: false,
         all: false,
         ascii: false,
     }
@@ -21,16 +22,24 @@ fn plan_of(file: &str, table: Option<u32>) -> Plan {
 
 #[test]
 fn requests() {
-    let sample = |directory: Option<&str>| {
+    let sample = |which, directory: Option<&str>| {
         Request::Sample(Sample {
+            which,
             directory: directory.map(PathBuf::from),
             ascii: false,
         })
     };
-    assert_eq!(of(""), Ok(sample(None)));
-    assert_eq!(of("sample"), Ok(sample(None)));
+    assert_eq!(of(""), Ok(sample(None, None)));
+    assert_eq!(of("sample"), Ok(sample(None, None)));
     for words in ["sample -o D", "sample --output D", "sample --output=D"] {
-        assert_eq!(of(words), Ok(sample(Some("D"))));
+        assert_eq!(of(words), Ok(sample(None, Some("D"))));
+    }
+    for (words, which, directory) in [
+        ("sample sets", Which::Sets, None),
+        ("sample rows", Which::Rows, None),
+        ("sample -o D marks", Which::Marks, Some("D")),
+    ] {
+        assert_eq!(of(words), Ok(sample(Some(which), directory)));
     }
     assert_eq!(of("plan f"), Ok(Request::Plan(plan_of("f", None))));
     assert_eq!(of("plan f 0x1F"), Ok(Request::Plan(plan_of("f", Some(31)))));
@@ -41,6 +50,18 @@ fn requests() {
         glyphs: [65_535, 0],
     };
     assert_eq!(of("pair f 3 65535 0"), Ok(Request::Pair(pair)));
+    let mark = Mark {
+        file: "f".into(),
+        table: 3,
+        mark: 65_535,
+        base: 0,
+    };
+    assert_eq!(of("mark f 3 65535 0"), Ok(Request::Mark(mark)));
+    let marks = Plan {
+        marks: true,
+        ..plan_of("f", Some(3))
+    };
+    assert_eq!(of("plan --marks f 3"), Ok(Request::Plan(marks)));
     assert_eq!(of("font f"), Ok(Request::Font(Font { file: "f".into() })));
     assert_eq!(of("--version"), Ok(Request::Version));
 }
@@ -97,7 +118,14 @@ fn words_that_cannot_be_followed() {
         ("pair f 0 1", "pair wants G2"),
         ("pair f 0 1 65536", "from 0 to 65535"),
         ("font", "font wants FILE"),
-        ("sample x", "no use for the word \"x\""),
+        ("mark f 0 1", "mark wants BASE"),
+        (
+            "mark f 0 65536 1",
+            "wants MARK to be a number from 0 to 65535",
+        ),
+        ("font f --marks", "has no option --marks"),
+        ("sample x", "has sets, rows and marks, and no \"x\""),
+        ("sample sets x", "no use for the word \"x\""),
     ] {
         let sentence = of(words).unwrap_err();
         assert!(sentence.contains(what), "{words}: {sentence}");

@@ -4,8 +4,12 @@ mod made;
 mod marks;
 
 use super::*;
-use made::{collection, extension, font, gpos, lookup, pair_rows, pair_sets, words};
-use splitter::{font::lengths, read_pair, PairValues, Store, Values};
+use made::{collection, extension, font, gpos, lookup, mark_table, pair_rows, pair_sets, words};
+use splitter::{
+    cut_plan,
+    font::{lengths, load_pairs},
+    read_pair, PairValues, Store, Values,
+};
 
 /// All that the command does with a font but to show it.
 fn look_into(file: &[u8]) -> Result<Vec<Seen>, FontError> {
@@ -16,8 +20,8 @@ fn look_into_by(file: &[u8], scratch: &mut Scratch) -> Result<Vec<Seen>, FontErr
     let Some(gpos) = find_gpos(file)? else {
         return Ok(Vec::new());
     };
-    let lookups = Lookups::read(gpos, Kind::Pairs)?;
-    Ok(see_all(gpos, &lookups.subtables, scratch))
+    let subtables = Found::read(gpos)?.subtables();
+    Ok(see_all(gpos, &subtables, scratch))
 }
 
 /// The store of the only subtable of a lookup for pairs.
@@ -28,12 +32,18 @@ fn load(subtable: Vec<u8>) -> Result<Store, FontError> {
     load_pairs(gpos, lookups.subtables[0].start)
 }
 
-/// Two lookups for pairs among others: one as it is, and one of extensions.
+/// Two lookups for pairs among others: one as it is, and one of extensions, which has a table for marks
+/// too.
 fn small_font() -> Vec<u8> {
+    let extensions = [
+        extension(2, &pair_rows(true)),
+        extension(4, &mark_table()),
+        extension(3, &[]),
+    ];
     let lookups = [
         lookup(1, &[words(&[1, 0, 0])]),
         lookup(2, &[pair_sets(), pair_rows(false)]),
-        lookup(9, &[extension(2, &pair_rows(true)), extension(4, &[])]),
+        lookup(9, &extensions),
     ];
     font(&[(b"GDEF", words(&[1, 0])), (b"GPOS", gpos(&lookups))])
 }
@@ -89,14 +99,16 @@ fn parts_are_shared() {
 }
 
 #[test]
-fn lookups_for_pairs() {
+fn lookups_of_both_kinds() {
     let file = small_font();
     let seen = look_into(&file).unwrap();
     let places: Vec<_> = seen
         .iter()
-        .map(|seen| (seen.subtable.lookup, seen.subtable.number))
+        .map(|seen| (seen.kind, seen.subtable.lookup, seen.subtable.number))
         .collect();
-    assert_eq!(places, [(1, 0), (1, 1), (2, 0)]);
+    let (pairs, marks) = (Kind::Pairs, Kind::Marks);
+    let expected = [(pairs, 1, 0), (pairs, 1, 1), (pairs, 2, 0), (marks, 2, 1)];
+    assert_eq!(places, expected);
     let looks: Vec<_> = seen
         .iter()
         .map(|seen| {
@@ -105,17 +117,20 @@ fn lookups_for_pairs() {
             (look.format, look.items, look.glyphs, look.all_bytes)
         })
         .collect();
-    assert_eq!(looks, [(1, 4, 4, 72), (2, 2, 3, 68), (2, 2, 3, 58)]);
+    let expected = [(1, 4, 4, 72), (2, 2, 3, 68), (2, 2, 3, 58), (1, 2, 2, 82)];
+    assert_eq!(looks, expected);
     let gpos = find_gpos(&file).unwrap().unwrap();
-    let lookups = Lookups::read(gpos, Kind::Pairs).unwrap();
-    assert_eq!((lookups.count, lookups.of_kind), (3, 2));
+    let found = Found::read(gpos).unwrap().in_words();
+    let expected = "3 lookups in GPOS: 2 for pairs, with 3 subtables; \
+                    1 for marks on bases, with 1 subtable";
+    assert_eq!(found, expected);
 }
 
 #[test]
 fn the_first_font_of_a_collection() {
     let fonts = [small_font(), font(&[])];
     let seen = look_into(&collection(&fonts)).unwrap();
-    assert_eq!(seen.len(), 3);
+    assert_eq!(seen.len(), 4);
     assert!(seen.iter().all(|seen| seen.cuts.is_ok()));
     let none = look_into(&collection(&[])).map(|seen| seen.len());
     assert_eq!(none, Err(FontError::NoFonts));
@@ -205,7 +220,7 @@ fn shown(file: &[u8], scratch: &mut Scratch) -> Result<usize, String> {
 fn fonts_that_end_anywhere() {
     let mut scratch = Scratch::new();
     for file in [small_font(), collection(&[small_font()])] {
-        assert_eq!(shown(&file, &mut scratch), Ok(3));
+        assert_eq!(shown(&file, &mut scratch), Ok(4));
         for len in 0..file.len() {
             assert!(shown(&file[..len], &mut scratch).is_err(), "{len}");
         }

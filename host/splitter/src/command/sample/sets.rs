@@ -1,7 +1,7 @@
 //! Format 1: letters before letters.
 
-use super::words::{bytes, coverage, device};
-use splitter::{Link, Refusal, Store};
+use super::words::{bytes, coverage, device, link};
+use splitter::{Refusal, Store};
 
 /// X advance and its device for the first glyph, X placement for the second.
 const VALUE_FORMATS: [u16; 2] = [0x0044, 0x0001];
@@ -77,12 +77,4 @@ fn devices(store: &mut Store) -> Result<Vec<u32>, Refusal> {
         .iter()
         .map(|&deltas| store.add_object(&device(deltas)))
         .collect()
-}
-
-fn link(parent: u32, position: u32, child: u32) -> Link {
-    Link {
-        parent,
-        position,
-        child,
-    }
 }

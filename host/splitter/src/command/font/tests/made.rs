@@ -106,3 +106,26 @@ pub fn pair_rows(shared: bool) -> Vec<u8> {
         .concat(),
     )
 }
+
+/// Mark glyphs 5 and 7 of classes 1 and 0, and bases 60 and 61. Both marks have one anchor, of format
+/// 1, which is that of base 60 in class 0 too; in class 1 it has one of format 3, with one device for
+/// both directions, and base 61 one of format 2 in class 1 alone.
+pub fn mark_table() -> Vec<u8> {
+    let table = [1, 12, 20, 2, 30, 40];
+    let mark_coverage = [1, 2, 5, 7];
+    let base_coverage = [2, 1, 60, 61, 0];
+    let mark_array = [2, 1, 50 - 30, 0, 50 - 30];
+    let base_array = [2, 50 - 40, 56 - 40, 0, 66 - 40];
+    let anchors = [1, 100, 200, 3, 300, 400, 74 - 56, 74 - 56, 2, 500, 600, 7];
+    let device = [11, 14, 2, 0x1111];
+    let parts: [&[u16]; 7] = [
+        &table,
+        &mark_coverage,
+        &base_coverage,
+        &mark_array,
+        &base_array,
+        &anchors,
+        &device,
+    ];
+    words(&parts.concat())
+}

@@ -1,33 +1,11 @@
 //! Mark tables of small fonts by hand, whole and damaged.
 
-use super::made::{extension, gpos, lookup, pair_sets, words};
+use super::made::{extension, gpos, lookup, mark_table, pair_sets, words};
 use splitter::{
-    font::{lengths, load_marks, Bytes, FontError, Kind, Lookups, TABLE},
-    Store,
+    cut_plan_marks,
+    font::{lengths, load_marks, Bytes, FontError, Lookups, TABLE},
+    Kind, Scratch, Store,
 };
-
-/// Mark glyphs 5 and 7 of classes 1 and 0, and bases 60 and 61. Both marks have one anchor, of format
-/// 1, which is that of base 60 in class 0 too; in class 1 it has one of format 3, with one device for
-/// both directions, and base 61 one of format 2 in class 1 alone.
-fn mark_table() -> Vec<u8> {
-    let table = [1, 12, 20, 2, 30, 40];
-    let mark_coverage = [1, 2, 5, 7];
-    let base_coverage = [2, 1, 60, 61, 0];
-    let mark_array = [2, 1, 50 - 30, 0, 50 - 30];
-    let base_array = [2, 50 - 40, 56 - 40, 0, 66 - 40];
-    let anchors = [1, 100, 200, 3, 300, 400, 74 - 56, 74 - 56, 2, 500, 600, 7];
-    let device = [11, 14, 2, 0x1111];
-    let parts: [&[u16]; 7] = [
-        &table,
-        &mark_coverage,
-        &base_coverage,
-        &mark_array,
-        &base_array,
-        &anchors,
-        &device,
-    ];
-    words(&parts.concat())
-}
 
 /// The stores of all mark tables of some lookups.
 fn load(lookups: &[Vec<u8>]) -> Result<Vec<Store>, FontError> {
@@ -97,6 +75,23 @@ fn parts_that_are_shared_or_unknown() {
     assert_eq!(store.view().child(TABLE, 8), store.view().child(TABLE, 10));
     let store = load_one(words(&[2, 12, 12, 2, 16, 16])).unwrap();
     assert_eq!(store.view().counts(), [2, 1, 0]);
+}
+
+/// Offsets are those of an array or an anchor, so that a table of more than 65,535 bytes is packed with
+/// ease: two classes, each with an anchor that has a device of 40,006.
+#[test]
+fn cut_places_on_disk() {
+    let mut table = words(&[1, 12, 18, 2, 24, 30]);
+    table.extend(words(&[1, 1, 5, 1, 1, 60]));
+    table.extend(words(&[1, 0, 0, 1, 36 - 30, 40_052 - 30]));
+    for _ in 0..2 {
+        table.extend(words(&[3, 100, 200, 10, 0, 0, 39_999, 3]));
+        table.resize(table.len() + 40_000, 0);
+    }
+    let store = load_one(table).unwrap();
+    assert_eq!(store.view().counts(), [36 + 2 * 40_016, 9, 8]);
+    let cuts = cut_plan_marks(&store, TABLE, &mut Scratch::new());
+    assert_eq!(cuts, Ok(vec![1]));
 }
 
 /// Offsets of 0 lead nowhere.

@@ -1,20 +1,7 @@
-/* Calls each exported function through splitter.h: in C, and in C++ too. */
+/* Calls each function for PairPos tables through splitter.h: in C, and in C++ too. */
 #include "splitter.h"
 
-#include <stdio.h>
-#include <stdlib.h>
-#include <string.h>
-
-static int failures = 0;
-
-static void expect(int holds, const char *what, int line) {
-    if (!holds) {
-        fprintf(stderr, "line %d: %s\n", line, what);
-        failures += 1;
-    }
-}
-
-#define EXPECT(condition) expect((condition), #condition, __LINE__)
+#include "expect.h"
 
 /* Three pair sets of 30,000 bytes, and exactly the room that a cut at 2 needs. */
 enum { SET = 30000, USED = 26 + 3 * SET, ROOM = 26 };
@@ -35,20 +22,6 @@ typedef struct {
     uint16_t cuts[3];
     uint16_t behind;
 } scratch;
-
-static void put(uint8_t *data, const uint16_t *words, size_t count) {
-    for (size_t i = 0; i < count; i++) {
-        data[2 * i] = (uint8_t)(words[i] >> 8);
-        data[2 * i + 1] = (uint8_t)words[i];
-    }
-}
-
-static void row(uint32_t *links, uint32_t parent, uint32_t position, uint32_t child) {
-    links[0] = parent;
-    links[1] = position;
-    links[2] = 2;
-    links[3] = child;
-}
 
 /* A format 1 table with X advances, its coverage of glyphs 10, 20 and 30, and three sets, each with a
  * pair with glyph 70 whose advance is minus the set's number. */
@@ -75,12 +48,7 @@ static void make(store *s) {
 }
 
 static int is_zero(const scratch *s) {
-    const uint8_t *bytes = (const uint8_t *)s;
-    uint8_t any = 0;
-    for (size_t i = 0; i < offsetof(scratch, behind); i++) {
-        any |= bytes[i];
-    }
-    return any == 0 && s->behind == 0xA5A5;
+    return all_zero(s, offsetof(scratch, behind)) && s->behind == 0xA5A5;
 }
 
 static uint32_t plan(const store *s, uint32_t table, scratch *w, uint16_t *places, size_t places_len, uint32_t *count) {
