@@ -4,7 +4,6 @@ use call_rules::Lent;
 use call_rules::Needs;
 use store_reader::PER_LINK;
 ghost use mathlib.Core.Path.{_≡_};
-ghost use Rattle.folds.specs.Moments.{came};
 ghost use Rattle.call_rules.specs.Needs.{InUse, shortBy};
 
 // Whether what is lent is too little for what is in use and what is needed.

@@ -25,7 +25,7 @@ use Rattle.cut_rules.proofs.CutPlaces.{cuts-rise}
 use Rattle.cut_rules.specs.Places.{Places}
 use Rattle.glyph_sort.specs.ByClass.{ByClass}
 use Rattle.cut_parts.specs.Tables.{paired, lowAt, highAt, entriesAt, PartEnd, Halved, Parted}
-use Rattle.cut_parts.specs.Order.{Sorted, Ordered, Arranged}
+use Rattle.cut_parts.specs.Order.{Sorted, PartsOrdered, Arranged}
 use Rattle.cut_parts.proofs.Parting.{halved-none, halved-next, paired-maps, within-part}
 use Rattle.cut_parts.proofs.Ordering.{halved-only, halved-rise, low-high, high-low}
 use Rattle.cut_parts.proofs.Keys.{Small, items-many, glyphs-many, items-ascend, range-glyphs, range-items}
@@ -55,7 +55,7 @@ first-end (k ∷ ks) h = ⊎-elim (λ lt. more lt (first-end ks h)) (λ ge. (0, 
 
 -- ---- order by glyph
 
-module _ (gs ks cs : List ℕ) (n : ℕ) (es : List Entry) (gs′ ks′ : List ℕ) (o : ByClass es gs ks) (up : Ascends 0 es) (small : Small es) (s : Sorted gs ks cs n) (r : Ordered gs ks cs n gs′ ks′) where
+module _ (gs ks cs : List ℕ) (n : ℕ) (es : List Entry) (gs′ ks′ : List ℕ) (o : ByClass es gs ks) (up : Ascends 0 es) (small : Small es) (s : Sorted gs ks cs n) (r : PartsOrdered gs ks cs n gs′ ks′) where
   -- how many items lie below h
   end : ℕ → ℕ
   end h = first-end ks h .0

@@ -16,7 +16,7 @@ use Rattle.folds.proofs.Each.{Each, each-sift, each-then}
 use Rattle.ot_layouts.specs.Coverage.{Entry, Ascends}
 use Rattle.glyph_rules.specs.Entries.{within}
 use Rattle.glyph_rules.proofs.Entries.{inRange, within-ascends}
-use Rattle.glyph_sort.specs.Pairs.{pairAt, pairs, keysOf, besideOf, inOrder}
+use Rattle.glyph_sort.specs.Pairs.{keyedAt, pairs, keysOf, besideOf, inOrder}
 use Rattle.glyph_sort.specs.ByClass.{classPairs, ByClass}
 use Rattle.glyph_sort.proofs.Order.{Rises, Alike, inOrder-only, inOrder-alike, inOrder-rises, length-inOrder, rises-at, sift-inOrder}
 use Rattle.cut_parts.specs.Tables.{Halved}
@@ -40,10 +40,10 @@ abbrev pub Small : List Entry → Type 0
 Small es = Each (λ e. (e .glyph < 65536) × (e .class < 65536)) es
 
 pairs-maps : {A : Type 0} (f g : A → ℕ) (xs : List A) → pairs (map f xs) (map g xs) ≡ map (λ x. 65536 * f x + g x) xs
-unfolding pairs pairAt flat
+unfolding pairs keyedAt flat
 pairs-maps f g [] = refl
 pairs-maps f g (x ∷ xs) =
-    upto-cons (pairAt (map f (x ∷ xs)) (map g (x ∷ xs))) (length (map f xs)) ∙ ap (λ (l : List ℕ). (65536 * f x + g x) ∷ l) (pairs-maps f g xs)
+    upto-cons (keyedAt (map f (x ∷ xs)) (map g (x ∷ xs))) (length (map f xs)) ∙ ap (λ (l : List ℕ). (65536 * f x + g x) ∷ l) (pairs-maps f g xs)
 
 pub small-within : (lo hi : ℕ) (es : List Entry) → Small es → Small (within lo hi es)
 unfolding within

@@ -16,10 +16,10 @@ use Rattle.folds.proofs.Put.{length-put, put-below, put-above}
 use Rattle.folds.proofs.WrittenPart.{part-written}
 use Rattle.folds.proofs.Moved.{length-map}
 use Rattle.cut_rules.specs.Ranges.{from}
-use Rattle.glyph_sort.specs.Pairs.{pairAt, pairs, keysOf, besideOf, inOrder}
+use Rattle.glyph_sort.specs.Pairs.{keyedAt, pairs, keysOf, besideOf, inOrder}
 use Rattle.glyph_sort.proofs.Order.{length-inOrder}
 use Rattle.cut_parts.specs.Tables.{lowAt, highAt, PartEnd, Halved}
-use Rattle.cut_parts.specs.Order.{glyphOrder, itemOrder, Sorted, Ordered}
+use Rattle.cut_parts.specs.Order.{glyphOrder, itemOrder, Sorted, PartsOrdered}
 use Rattle.cut_parts.proofs.Parting.{halved-none, halved-next}
 
 -- ---- one part
@@ -27,12 +27,12 @@ use Rattle.cut_parts.proofs.Parting.{halved-none, halved-next}
 pub glyph-order-long : (gs ks : List ℕ) (a b : ℕ) → a ≤ b → b ≤ length gs → length (glyphOrder gs ks a b) ≡ b - a
 unfolding keysOf pairs
 glyph-order-long gs ks a b h l =
-    length-map _ (inOrder (pairs (part gs a b) (part ks a b))) ∙ length-inOrder (pairs (part gs a b) (part ks a b)) ∙ length-upto (pairAt (part gs a b) (part ks a b)) (length (part gs a b)) ∙ length-part gs a b h l
+    length-map _ (inOrder (pairs (part gs a b) (part ks a b))) ∙ length-inOrder (pairs (part gs a b) (part ks a b)) ∙ length-upto (keyedAt (part gs a b) (part ks a b)) (length (part gs a b)) ∙ length-part gs a b h l
 
 pub item-order-long : (gs ks : List ℕ) (a b : ℕ) → a ≤ b → b ≤ length gs → length (itemOrder gs ks a b) ≡ b - a
 unfolding besideOf pairs
 item-order-long gs ks a b h l =
-    length-map _ (inOrder (pairs (part gs a b) (part ks a b))) ∙ length-inOrder (pairs (part gs a b) (part ks a b)) ∙ length-upto (pairAt (part gs a b) (part ks a b)) (length (part gs a b)) ∙ length-part gs a b h l
+    length-map _ (inOrder (pairs (part gs a b) (part ks a b))) ∙ length-inOrder (pairs (part gs a b) (part ks a b)) ∙ length-upto (keyedAt (part gs a b) (part ks a b)) (length (part gs a b)) ∙ length-part gs a b h l
 
 -- a part that was lent is back
 pub put-back : (xs ys zs : List ℕ) (a b : ℕ) → a ≤ b → ys ≡ zs → length zs ≡ b - a → take a xs ++ (ys ++ drop (b - a) (drop a xs)) ≡ put xs a zs
@@ -217,7 +217,7 @@ module _ (gs ks cs : List ℕ) (n : ℕ) (gs′ ks′ : List ℕ) (at k : ℕ) (
             items-rest = items-after;
           }
 
-      pub order-stop : length cs ≤ k → Ordered gs ks cs n gs″ ks″
+      pub order-stop : length cs ≤ k → PartsOrdered gs ks cs n gs″ ks″
       order-stop h =
           let z : k ≡ length cs = omega (arith, t .some) in
           let top : highAt n cs k ≡ n = List·getD-eq-default cs n {n = k} h in

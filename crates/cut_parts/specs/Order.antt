@@ -25,7 +25,7 @@ pub record Sorted (gs ks cs : List ℕ) (n : ℕ) : Type 0 where
   pub rising : (i j : ℕ) → i ≤ j → j < length cs → from cs i ≤ from cs j
 
 -- each table's part is put in order by glyph, and what belongs to no table stays
-pub record Ordered (gs ks cs : List ℕ) (n : ℕ) (gs′ ks′ : List ℕ) : Type 0 where
+pub record PartsOrdered (gs ks cs : List ℕ) (n : ℕ) (gs′ ks′ : List ℕ) : Type 0 where
   pub same-glyphs : length gs′ ≡ length gs
   pub same-items : length ks′ ≡ length ks
   pub tables : (k a b : ℕ) → k ≤ length cs → Halved ks (lowAt cs k) a → Halved ks (highAt n cs k) b → (part gs′ a b ≡ glyphOrder gs ks a b) × (part ks′ a b ≡ itemOrder gs ks a b)

@@ -6,7 +6,7 @@ ghost use lib.ListN.{length, getD};
 ghost use Rattle.folds.specs.Lists.{put};
 ghost use Rattle.folds.specs.Moments.{came, left};
 ghost use Rattle.cut_parts.specs.Tables.{PartEnd};
-ghost use Rattle.cut_parts.specs.Order.{glyphOrder, itemOrder, Sorted, Ordered};
+ghost use Rattle.cut_parts.specs.Order.{glyphOrder, itemOrder, Sorted, PartsOrdered};
 
 // Where the part of the classes from `from` on that lie below `hi` ends.
 pub fn part_end(classes: &[u16], from: usize, hi: u16) -> usize
@@ -46,7 +46,7 @@ fn order_part(glyphs: &mut [u16], classes: &mut [u16], a: usize, b: usize)
 // Puts the part of each table back in order by glyph, where glyphs and classes are in order by class.
 pub fn order_parts(glyphs: &mut [u16], classes: &mut [u16], cuts: &[u16], count: u16)
     requires { ⌜ Sorted (now glyphs) (now classes) (now cuts) count ⌝ }
-    ensures { λ _. ⌜ Ordered (came glyphs) (came classes) (came cuts) count (left glyphs) (left classes) ⌝ }
+    ensures { λ _. ⌜ PartsOrdered (came glyphs) (came classes) (came cuts) count (left glyphs) (left classes) ⌝ }
 {
     let mut at = 0;
     let mut k = 0;

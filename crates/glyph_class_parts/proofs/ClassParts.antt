@@ -18,7 +18,7 @@ use Rattle.folds.proofs.Moved.{sift-both}
 use Rattle.ot_layouts.specs.Coverage.{Entry, Ascends, Under}
 use Rattle.ot_layouts.proofs.Runs.{ascends-sift, under-sift}
 use Rattle.glyph_rules.specs.Entries.{within}
-use Rattle.glyph_sort.specs.Pairs.{pairAt, pairs, inOrder, keysOf, besideOf}
+use Rattle.glyph_sort.specs.Pairs.{keyedAt, pairs, inOrder, keysOf, besideOf}
 use Rattle.glyph_sort.specs.ByClass.{classPairs, ByClass}
 use Rattle.glyph_sort.proofs.Order.{Rises, inOrder-rises, inOrder-alike, inOrder-again, length-inOrder}
 use Rattle.glyph_sort.proofs.Between.{parted, key-part}
@@ -71,10 +71,10 @@ abbrev pairOf : Entry → ℕ
 pairOf e = 65536 * e .class + e .glyph
 
 pairs-map : (es : List Entry) → pairs (map (λ e. e .class) es) (map (λ e. e .glyph) es) ≡ map pairOf es
-unfolding pairs pairAt flat
+unfolding pairs keyedAt flat
 pairs-map [] = refl
 pairs-map (e ∷ es) =
-    upto-cons (pairAt (map (λ e. e .class) (e ∷ es)) (map (λ e. e .glyph) (e ∷ es))) (length (map (λ e. e .class) es))
+    upto-cons (keyedAt (map (λ e. e .class) (e ∷ es)) (map (λ e. e .glyph) (e ∷ es))) (length (map (λ e. e .class) es))
     ∙ ap {B = List ℕ} (λ (l : List ℕ). pairOf e ∷ l) (pairs-map es)
 
 -- a pair is below class c exactly if its class is

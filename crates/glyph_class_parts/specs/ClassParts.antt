@@ -8,7 +8,7 @@ use Rattle.glyph_rules.specs.Entries.{within}
 use Rattle.glyph_sort.specs.ByClass.{ByClass}
 
 -- the glyphs are those of the entries, each once, in the order of their classes
-pub record Ordered (es : List Entry) (gs cs : List ℕ) : Type 0 where
+pub record OrderedByClass (es : List Entry) (gs cs : List ℕ) : Type 0 where
   pub up : Ascends 0 es
   pub under : Under 65536 es
   pub byClass : ByClass es gs cs

@@ -25,7 +25,7 @@ use Rattle.glyph_set.proofs.Marks.{mark-here, mark-other, length-mark}
 use Rattle.glyph_set.proofs.Members.{members-of}
 use Rattle.glyph_set.proofs.Emptied.{member-empty}
 use Rattle.glyph_estimator.specs.declared.Estimator.{Estimator}
-use Rattle.glyph_estimator.specs.States.{valuesOf, Counts, rangesSize, Ready, Added, Small, Estimates}
+use Rattle.glyph_estimator.specs.States.{valuesOf, Counts, rangesSize, EstimatorReady, Added, Small, Estimates}
 use Rattle.glyph_estimator.proofs.Counting.{length-sift, members-le, runs-le}
 use Rattle.glyph_estimator.proofs.ByClass.{has-more, has-apart, runs-more, class-size}
 
@@ -180,7 +180,7 @@ module _ (all : List Entry) (up : Ascends 0 all) (under : Under 65536 all) where
 
     -- class i, whose glyphs are gs
     module _ (order : a ≤ i) (long : 8192 ≤ length s) (gs : List ℕ) (q : gs ≡ map (λ e. e .glyph) (within i (i + 1) all)) where
-      pub ready : Ready e s gs
+      pub ready : EstimatorReady e s gs
       ready =
           record {
             long = long;

@@ -16,7 +16,7 @@ use Rattle.ot_layouts.proofs.RunCount.{alone, many, gap, many-none, many-one, m
 use Rattle.glyph_set.specs.GlyphSet.{member, mark, markAll}
 use Rattle.glyph_set.proofs.Emptied.{markAll-more, length-markAll}
 use Rattle.glyph_estimator.specs.declared.Estimator.{Estimator}
-use Rattle.glyph_estimator.specs.States.{rangesSize, Ready, Added, Takes, Taken, Covered, startsRun}
+use Rattle.glyph_estimator.specs.States.{rangesSize, EstimatorReady, Added, Takes, Taken, Covered, startsRun}
 
 -- ---- runs
 
@@ -91,12 +91,12 @@ taken-some e s class gs k r t a c z n q =
 
 -- of a class whose glyphs can be added, the first k are
 pub record Adding (e : Estimator) (s : List ℕ) (class : ℕ) (gs : List ℕ) (r : Estimator) (t : List ℕ) (k : ℕ) : Type 0 where
-  pub ready : Ready e s gs
+  pub ready : EstimatorReady e s gs
   pub some : k ≤ length gs
   pub added : Added e s class (take k gs) r t
 
 module _ (e : Estimator) (s : List ℕ) (class : ℕ) (gs : List ℕ) where
-  pub start : Ready e s gs → Adding e s class gs e s 0
+  pub start : EstimatorReady e s gs → Adding e s class gs e s 0
   unfolding markAll
   start y = record { ready = y; some = omega arith; added = record { marked = refl; counts = y .counts; ranged = omega (arith, ranges-none class) } }
 

@@ -33,7 +33,7 @@ unfoldable pub rangesSize : ℕ → List ℕ → ℕ
 rangesSize class gs = cond (eqb class 0) 0 (6 * length (runs (plain gs)))
 
 -- the glyphs can be added to the state and the set: each is new where those before it are in
-pub record Ready (e : Estimator) (s gs : List ℕ) : Type 0 where
+pub record EstimatorReady (e : Estimator) (s gs : List ℕ) : Type 0 where
   pub long : 8192 ≤ length s
   pub counts : Counts e s
   pub new : (k : ℕ) → k < length gs → member (markAll s (take k gs)) (getD gs k 0) ≡ false

@@ -10,7 +10,7 @@ ghost use lib.ListN.{length, getD};
 ghost use Rattle.glyph_set.specs.GlyphSet.{blankAll};
 ghost use Rattle.glyph_rules.specs.Estimates.{estimate, coverSize, classSize, besideRows};
 ghost use Rattle.folds.specs.Moments.{came, left};
-ghost use Rattle.glyph_estimator.specs.States.{valuesOf, startsRun, Takes, Taken, Covered, Ready, Added, Small};
+ghost use Rattle.glyph_estimator.specs.States.{valuesOf, startsRun, Takes, Taken, Covered, EstimatorReady, Added, Small};
 
 // First and last glyph, glyphs and runs for coverage, and the two sizes of class definition 1: listed and in ranges.
 pub struct Estimator {
@@ -52,7 +52,7 @@ impl Estimator {
 
     // Adds a class with its glyphs, which are not in the set yet, and puts them in. A class with no glyphs changes nothing.
     pub fn add(mut self, class: u16, glyphs: &[u16], set: &mut [u8]) -> Self
-        requires { ⌜ Ready self (now set) (now glyphs) ⌝ }
+        requires { ⌜ EstimatorReady self (now set) (now glyphs) ⌝ }
         ensures { λ r. ⌜ Added self (came set) class (came glyphs) r (left set) ⌝ }
     {
         let mut k: usize = 0;

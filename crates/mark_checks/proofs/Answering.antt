@@ -2,7 +2,7 @@
 use Prim.Native.Nat.{ℕ, _≤_, _<_}
 use mathlib.Core.Path.{_≡_}
 use mathlib.Core.Bool.{true, false}
-use mathlib.Core.Option.{some, none}
+use mathlib.Core.Option.{some}
 use native.Mathlib.Omega.{arith}
 use lib.ListN.{length}
 use borrow.Author.Tests.{lt-ltb, le-ltb, lt-leb, le-leb, eq-eqb, ne-eqb}
@@ -65,17 +65,4 @@ module _ (s : Store) (t : ℕ) where
             eq-eqb (length (bytesOf s t)) tableSize (k .exactly),
             b,
             lt-ltb (length (glyphsOf s t)) (marksIn s t) h,
-          )
-
-      pub none-first : marksIn s t ≤ length (glyphsOf s t) → none ≡ firstCase (readCases s t)
-      unfolding firstCase readCases
-      none-first h =
-          rw (
-            k .sounds,
-            lt-leb (s .objectCount) t (k .used),
-            le-ltb (length (bytesOf s t)) 2 long,
-            eq-eqb (formatOf (bytesOf s t)) 1 (k .known),
-            eq-eqb (length (bytesOf s t)) tableSize (k .exactly),
-            b,
-            le-ltb (length (glyphsOf s t)) (marksIn s t) h,
           )

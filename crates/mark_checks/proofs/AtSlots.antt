@@ -8,7 +8,7 @@ use lib.ListN.{getD}
 use borrow.Author.Tests.{not-true, not-false}
 use Rattle.folds.proofs.Tests.{and-first, and-second}
 use Rattle.ot_layouts.specs.MarkBasePos.{isTableSlot, isMarkSlot, isBaseSlot}
-use Rattle.store_rules.specs.Store.{Store, perLink, allAt}
+use Rattle.store_rules.specs.Store.{Store, perLink, rowPosition, allAt}
 use Rattle.store_rules.proofs.Sound.{sound-fits}
 use Rattle.store_rules.proofs.Lookups.{child-used}
 use Rattle.store_reader.specs.Rows.{InOrder}
@@ -23,7 +23,7 @@ use Rattle.mark_checks.specs.Opens.{LinkedArray, Opens}
 
 -- the row i behind row `first` stands at a slot
 abbrev pub slotAt : List ℕ → Holder → ℕ → ℕ → Bool
-slotAt l holder first i = slotOf holder (getD l (perLink * (first + i) + 1) 0)
+slotAt l holder first i = slotOf holder (getD l (perLink * (first + i) + rowPosition) 0)
 
 module _ {s : Store} {t : ℕ} {p : MarkTable} (o : Opens s t p) where
   pub opened-in-order : InOrder (s .links) (s .linkCount)

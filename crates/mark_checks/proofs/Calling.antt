@@ -14,13 +14,13 @@ use Rattle.call_rules.specs.Scratch.{Scratch, lengthsOf, lengthsShort}
 use Rattle.call_rules.proofs.Cases.{first-skip, first-stands}
 use Rattle.mark_rules.specs.Table.{allAtSlots}
 use Rattle.mark_rules.specs.Calls.{readCases, scratchShort, cutCases}
+use Rattle.mark_rules.proofs.Checks.{reads-no-case}
 use Rattle.mark_checks.specs.declared.MarkTable.{MarkTable}
 use Rattle.mark_checks.specs.declared.Checked.{Checked}
 use Rattle.mark_checks.specs.declared.Checked.the-variants.{Open, Settled}
 use Rattle.mark_checks.specs.Opens.{Opens}
 use Rattle.mark_checks.specs.Checked.{Checks}
 use Rattle.mark_checks.specs.Called.{Passed, Calls}
-use Rattle.mark_checks.proofs.Answering.{none-first}
 
 -- the call has its answer
 settles : {s : Store} {t : ℕ} {n : Lengths} (a : Answer) → ((w : Scratch) → lengthsOf w ≡ n → firstCase (cutCases s t w) ≡ some (number a)) → Calls s t n (Settled a)
@@ -37,9 +37,7 @@ call-settled {s} {t} {a = a} v y = let z = rw y at (v .answers) in settles a (λ
 module _ {s : Store} {t : ℕ} {p : MarkTable} (o : Opens s t p) (n : Lengths) where
   -- nothing refuses it before its scratch is asked
   reads : firstCase (readCases s t) ≡ none
-  reads =
-      let r = o .reads in
-      sym (none-first s t (record { sounds = r .sounds; used = r .used; known = r .known; exactly = r .exactly; count = o .classes }) (r .parts) (r .enough))
+  reads = reads-no-case s t (o .reads)
 
   scratch-is : (w : Scratch) → lengthsOf w ≡ n → scratchShort s t w ≡ lengthsShort n (s .objectCount) (p .glyphs) (p .classes)
   unfolding scratchShort

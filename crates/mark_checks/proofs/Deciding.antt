@@ -34,8 +34,11 @@ use Rattle.mark_checks.specs.declared.FoundArray.{FoundArray}
 use Rattle.mark_checks.specs.declared.FoundArray.the-variants as Found
 use Rattle.mark_checks.specs.declared.Checked.the-variants.{Open, Settled}
 use Rattle.mark_checks.specs.Opens.{LinkedArray, Opens}
-use Rattle.mark_checks.specs.Checked.{Known, Covered, FindsArray, Checks}
-use Rattle.mark_checks.proofs.Answering.{unsound-first, unused-first, short-first, other-first, length-first, parts-first, few-first, none-first}
+use Rattle.mark_rules.specs.Reads.{Reads}
+use Rattle.mark_rules.proofs.Checks.{reads-no-case}
+use Rattle.mark_checks.specs.declared.MarkTable.{MarkTable}
+use Rattle.mark_checks.specs.Checked.{Known, CoveragesRead, FindsArray, Checks}
+use Rattle.mark_checks.proofs.Answering.{unsound-first, unused-first, short-first, other-first, length-first, parts-first, few-first}
 use Rattle.mark_checks.proofs.Parts.{coverTest, arrayTest, all-parts}
 
 -- the call has its answer
@@ -81,7 +84,7 @@ module _ (kind : ArrayKind) (s : Store) (t : ℕ) {classes : ℕ} (e : classes �
 pub bad-parts : {s : Store} {t classes : ℕ} → Known s t classes → partsReadable s t ≡ false → Checks s t (Settled BadParts)
 bad-parts {s} {t} k e = settles BadParts (parts-first s t k e)
 
-module _ {s : Store} {t classes : ℕ} {cover base : Part} (v : Covered s t classes cover base) {marks bases : Array}
+module _ {s : Store} {t classes : ℕ} {cover base : Part} (v : CoveragesRead s t classes cover base) {marks bases : Array}
     (m : LinkedArray Marks s t classes marks) (b : LinkedArray Bases s t classes bases) {glyphs : ℕ} (n : glyphs ≡ length (coverGlyphs (bytesOf s (cover .object)))) where
   parts : partsReadable s t ≡ true
   parts =
@@ -96,14 +99,17 @@ module _ {s : Store} {t classes : ℕ} {cover base : Part} (v : Covered s t clas
   pub few-glyphs : glyphs < marks .count → Checks s t (Settled FewGlyphs)
   few-glyphs h = settles FewGlyphs (few-first s t (v .known) parts (omega (arith, covered, counted)))
 
-  pub opened : marks .count ≤ glyphs
-      → Checks s t (Open (record { classes = classes; coverage = cover; glyphs = glyphs; «base_coverage» = base; marks = marks; bases = bases }))
+  abbrev table : MarkTable
+  table = record { classes = classes; coverage = cover; glyphs = glyphs; «base_coverage» = base; marks = marks; bases = bases }
+
+  pub opened : marks .count ≤ glyphs → Checks s t (Open table)
   opened h =
-      let enough : marksIn s t ≤ length (glyphsOf s t) = omega (arith, covered, counted) in
       let k = v .known in
-      let own : Opens s t (record { classes = classes; coverage = cover; glyphs = glyphs; «base_coverage» = base; marks = marks; bases = bases }) =
+      let enough : marksIn s t ≤ length (glyphsOf s t) = omega (arith, covered, counted) in
+      let reads : Reads s t = record { sounds = k .sounds; used = k .used; known = k .known; exactly = k .exactly; parts = parts; enough = enough } in
+      let own : Opens s t table =
       record {
-        reads = record { sounds = k .sounds; used = k .used; known = k .known; exactly = k .exactly; parts = parts; enough = enough };
+        reads = reads;
         classes = k .count;
         coverage = v .coverage;
         glyphs = covered;
@@ -111,7 +117,7 @@ module _ {s : Store} {t classes : ℕ} {cover base : Part} (v : Covered s t clas
         marks = m;
         bases = b;
       } in
-      record { answers = none-first s t k parts enough; opens = λ p x. let same : record { classes = classes; coverage = cover; glyphs = glyphs; «base_coverage» = base; marks = marks; bases = bases } ≡ p = cc in rw (← same) own }
+      record { answers = sym (reads-no-case s t reads); opens = λ p x. let same : table ≡ p = cc in rw (← same) own }
 
 -- ---- 1 to 3, by the bytes that were handed out
 

@@ -32,7 +32,7 @@ pub record Known (s : Store) (t classes : ℕ) : Type 0 where
   pub count : classes ≡ classesOf s t
 
 -- both coverages have been read too
-pub record Covered (s : Store) (t classes : ℕ) (cover base : Part) : Type 0 where
+pub record CoveragesRead (s : Store) (t classes : ℕ) (cover base : Part) : Type 0 where
   pub known : Known s t classes
   pub coverage : LinkedPart coverageOf s t coverAt cover
   pub baseCoverage : LinkedPart coverageOf s t baseCoverAt base

@@ -21,7 +21,7 @@ ghost use mathlib.Core.Bool.{true};
 ghost use Rattle.ot_markbasepos.specs.Kinds.{arrayAt};
 ghost use Rattle.store_rules.specs.Store.{sound};
 ghost use Rattle.store_rules.specs.Moments.{storeCameWith, storeNowWith};
-ghost use Rattle.mark_checks.specs.Checked.{Known, FindsArray, Covered, Checks};
+ghost use Rattle.mark_checks.specs.Checked.{Known, FindsArray, CoveragesRead, Checks};
 
 // A readable array: the object, and how many marks or bases it has.
 pub struct Array {
@@ -124,7 +124,7 @@ fn check_arrays(
     coverage: Part,
     base_coverage: Part,
 ) -> Checked
-    requires { ⌜ Covered (storeNowWith «data» objects links counts) table classes coverage «base_coverage» ⌝ }
+    requires { ⌜ CoveragesRead (storeNowWith «data» objects links counts) table classes coverage «base_coverage» ⌝ }
     ensures { λ r. ⌜ Checks (storeCameWith «data» objects links counts) table r ⌝ }
 {
     let first = linked_array(

@@ -22,7 +22,7 @@ use Rattle.folds.specs.Folds.{flat}
 use Rattle.folds.proofs.Tests.{either}
 use Rattle.ot_layouts.specs.MarkBasePos.{baseSlot}
 use Rattle.store_rules.specs.Store.{Link}
-use Rattle.mark_links.specs.Copies.{inUse, slotCopy, oldSlot, Room, Copied}
+use Rattle.mark_links.specs.Copies.{inUse, slotCopy, oldSlot, RowsRoom, Copied}
 use Rattle.mark_links.proofs.Copying.{Turns, turns-start, turns-room, turns-turn}
 
 -- ---- slot k of rows of w
@@ -80,7 +80,7 @@ pub record Bases (ls counts : List ℕ) (at array bases classes lo w p : ℕ) (o
   pub old-is : old ≡ oldSlot classes lo w k
 
 module _ (ls counts : List ℕ) (at array bases classes lo w p : ℕ) where
-  pub bases-start : Room ls counts at (flat (baseTurn array classes lo w p (inUse ls counts)) (bases * w))
+  pub bases-start : RowsRoom ls counts at (flat (baseTurn array classes lo w p (inUse ls counts)) (bases * w))
       → Bases ls counts at array bases classes lo w p ls at 0 lo 0
   bases-start room =
       record {
@@ -102,7 +102,7 @@ module _ (ls counts : List ℕ) (at array bases classes lo w p : ℕ) where
       omega (arith, t .column-is, mod-lt k some),
     )
 
-    pub bases-room : Room out counts next (slotCopy (inUse out counts) array (baseSlot old) p (baseSlot 0 + 2 * k))
+    pub bases-room : RowsRoom out counts next (slotCopy (inUse out counts) array (baseSlot old) p (baseSlot 0 + 2 * k))
     bases-room = rw (t .old-is) (turns-room ls counts at (baseTurn array classes lo w p) (bases * w) (t .turns) l)
 
     module _ {out′ : List ℕ} {next′ : ℕ} (more : Copied out next (slotCopy (inUse out counts) array (baseSlot old) p (baseSlot 0 + 2 * k)) out′ next′) where

@@ -8,13 +8,13 @@ use Rattle.folds.specs.Folds.{flat}
 use Rattle.folds.specs.Lists.{put}
 use Rattle.folds.proofs.Folds.{flat-none, flat-more, flat-split, upto-same}
 use Rattle.folds.proofs.Put.{put-nil, put-put, put-below, length-put}
-use Rattle.store_rules.specs.Store.{Link, lent, perLink, linkAt, linksOf}
+use Rattle.store_rules.specs.Store.{Link, lent, perLink, rowParent, rowPosition, rowWidth, rowChild, linkAt, linksOf}
 use Rattle.store_rules.specs.Appended.{rowNumbers}
 use Rattle.store_rules.proofs.LinkRows.{rows-numbers}
 use Rattle.store_reader.specs.declared.LinkRows.{LinkRows}
 use Rattle.store_reader.specs.Rows.{rowKey, keyOf, FirstRow}
 use Rattle.store_link_rows.proofs.Links.{numbers-append}
-use Rattle.mark_links.specs.Copies.{inUse, Source, Room, Copied}
+use Rattle.mark_links.specs.Copies.{inUse, Source, RowsRoom, Copied}
 
 -- ---- rows that agree below the count are the same links
 
@@ -27,14 +27,14 @@ module _ (ls out counts : List ℕ) (same : (i : ℕ) → i < perLink * getD cou
   in-use-same =
       upto-same (linkAt (lent [] [] out counts)) (linkAt (lent [] [] ls counts)) count
       (λ k l i. record {
-        parent = same (perLink * k + 0) (omega arith) i;
-        position = same (perLink * k + 1) (omega arith) i;
-        width = same (perLink * k + 2) (omega arith) i;
-        child = same (perLink * k + 3) (omega arith) i;
+        parent = same (perLink * k + rowParent) (omega arith) i;
+        position = same (perLink * k + rowPosition) (omega arith) i;
+        width = same (perLink * k + rowWidth) (omega arith) i;
+        child = same (perLink * k + rowChild) (omega arith) i;
       })
 
   key-same : (k : ℕ) → k < count → rowKey out k ≡ rowKey ls k
-  key-same k l = ap₂ (λ (p q : ℕ). keyOf p q) (same (perLink * k + 0) (omega arith)) (same (perLink * k + 1) (omega arith))
+  key-same k l = ap₂ (λ (p q : ℕ). keyOf p q) (same (perLink * k + rowParent) (omega arith)) (same (perLink * k + rowPosition) (omega arith))
 
   first-same : (key r : ℕ) → FirstRow ls count key r → FirstRow out count key r
   first-same key r f =
@@ -60,7 +60,7 @@ module _ (ls out counts : List ℕ) (same : (i : ℕ) → i < perLink * getD cou
 
 -- ---- one write
 
-module _ (ls counts : List ℕ) (at : ℕ) (new : List Link) (room : Room ls counts at new) (out : List ℕ) (r : ℕ) (done : Copied ls at new out r) where
+module _ (ls counts : List ℕ) (at : ℕ) (new : List Link) (room : RowsRoom ls counts at new) (out : List ℕ) (r : ℕ) (done : Copied ls at new out r) where
   pub copied-long : length out ≡ length ls
   copied-long = ap length (done .rows-are) ∙ length-put ls (perLink * at) (rowNumbers new) (omega (arith, room .fits, rows-numbers new))
 
@@ -77,12 +77,12 @@ module _ (ls counts : List ℕ) (at : ℕ) (new : List Link) (room : Room ls cou
 
 -- ---- one behind another
 
-module _ {ls counts : List ℕ} {at : ℕ} (xs ys : List Link) (room : Room ls counts at (xs ++ ys)) where
-  pub room-first : Room ls counts at xs
+module _ {ls counts : List ℕ} {at : ℕ} (xs ys : List Link) (room : RowsRoom ls counts at (xs ++ ys)) where
+  pub room-first : RowsRoom ls counts at xs
   room-first = record { behind = room .behind; fits = omega (arith, room .fits, length-append xs ys) }
 
   module _ {out : List ℕ} {r : ℕ} (done : Copied ls at xs out r) where
-    pub room-rest : Room out counts r ys
+    pub room-rest : RowsRoom out counts r ys
     room-rest =
         record {
           behind = omega (arith, room .behind, done .next);
@@ -106,13 +106,13 @@ unfolding rowNumbers
 copied-none ls at = record { rows-are = put-nil ls (perLink * at); next = omega arith }
 
 -- the same, where what is written second is copied from the links in use as they are then
-module _ {ls counts : List ℕ} {at : ℕ} (xs : List Link) (ys : List Link → List Link) (room : Room ls counts at (xs ++ ys (inUse ls counts)))
+module _ {ls counts : List ℕ} {at : ℕ} (xs : List Link) (ys : List Link → List Link) (room : RowsRoom ls counts at (xs ++ ys (inUse ls counts)))
     {out : List ℕ} {r : ℕ} (done : Copied ls at xs out r) where
   in-use : inUse out counts ≡ inUse ls counts
   in-use = still-in-use ls counts at xs (room-first xs (ys (inUse ls counts)) room) out r done
 
-  pub room-then : Room out counts r (ys (inUse out counts))
-  room-then = subst (λ (old : List Link). Room out counts r (ys old)) (sym in-use) (room-rest xs (ys (inUse ls counts)) room done)
+  pub room-then : RowsRoom out counts r (ys (inUse out counts))
+  room-then = subst (λ (old : List Link). RowsRoom out counts r (ys old)) (sym in-use) (room-rest xs (ys (inUse ls counts)) room done)
 
   pub copied-then : {out′ : List ℕ} {r′ : ℕ} → Copied out r (ys (inUse out counts)) out′ r′ → Copied ls at (xs ++ ys (inUse ls counts)) out′ r′
   copied-then {out′} {r′} more = copied-more xs (ys (inUse ls counts)) room done (subst (λ (old : List Link). Copied out r (ys old) out′ r′) in-use more)
@@ -124,7 +124,7 @@ module _ {ls counts : List ℕ} {at : ℕ} (xs : List Link) (ys : List Link → 
 
 pub record Turns (ls counts : List ℕ) (at : ℕ) (new : List Link → ℕ → List Link) (n : ℕ) (out : List ℕ) (next k : ℕ) : Type 0 where
   pub some : k ≤ n
-  pub room : Room ls counts at (flat (new (inUse ls counts)) n)
+  pub room : RowsRoom ls counts at (flat (new (inUse ls counts)) n)
   pub copied : Copied ls at (flat (new (inUse ls counts)) k) out next
   pub same : length out ≡ length ls
 
@@ -133,7 +133,7 @@ module _ (ls counts : List ℕ) (at : ℕ) (new : List Link → ℕ → List Lin
   abbrev turn : ℕ → List Link
   turn k = new (inUse ls counts) k
 
-  pub turns-start : Room ls counts at (flat turn n) → Turns ls counts at new n ls at 0
+  pub turns-start : RowsRoom ls counts at (flat turn n) → Turns ls counts at new n ls at 0
   turns-start room =
       record {
         some = omega arith;
@@ -147,15 +147,15 @@ module _ (ls counts : List ℕ) (at : ℕ) (new : List Link → ℕ → List Lin
     turns-stop l = let e : k ≡ n = omega (arith, t .some) in subst (λ (m : ℕ). Copied ls at (flat turn m) out next) e (t .copied)
 
     module _ (l : k < n) where
-      more-room : Room ls counts at (flat turn k ++ turn k)
+      more-room : RowsRoom ls counts at (flat turn k ++ turn k)
       more-room =
           let (rest, e) = flat-split turn k n l in
-          room-first (flat turn k ++ turn k) rest (subst (λ (x : List Link). Room ls counts at x) e (t .room))
+          room-first (flat turn k ++ turn k) rest (subst (λ (x : List Link). RowsRoom ls counts at x) e (t .room))
 
       pub turns-source : (p : ℕ) (rows : LinkRows) → Source ls counts p rows → Source out counts p rows
       turns-source p rows s = source-then (flat turn k) (λ old. new old k) more-room (t .copied) p rows s
 
-      pub turns-room : Room out counts next (new (inUse out counts) k)
+      pub turns-room : RowsRoom out counts next (new (inUse out counts) k)
       turns-room = room-then (flat turn k) (λ old. new old k) more-room (t .copied)
 
       pub turns-turn : {out′ : List ℕ} {next′ : ℕ} → Copied out next (new (inUse out counts) k) out′ next′ → Turns ls counts at new n out′ next′ (k + 1)

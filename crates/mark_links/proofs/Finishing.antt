@@ -17,7 +17,7 @@ use Rattle.store_rules.proofs.Sound.{Fits, sound-fits, size-bytes}
 use Rattle.store_rules.proofs.Lookups.{child-used, linked-some}
 use Rattle.store_rules.proofs.LinkRows.{rows-numbers}
 use Rattle.store_reader.proofs.Rows.{in-order}
-use Rattle.store_link_rows.specs.Rows.{span, row, keptRow}
+use Rattle.store_link_rows.specs.Rows.{segment, row, keptRow}
 use Rattle.store_link_rows.proofs.Spans.{span-ext}
 use Rattle.store_link_rows.proofs.RowLaws.{row-below}
 use Rattle.store_link_rows.proofs.Links.{numbers-append}
@@ -31,7 +31,7 @@ use Rattle.mark_rules.proofs.LinkCounts.{fresh-many, many-links}
 use Rattle.mark_links.specs.declared.Arrays.{Arrays}
 use Rattle.mark_links.specs.Copies.{inUse, Copied}
 use Rattle.mark_order.specs.Marks.{markPlaces}
-use Rattle.mark_links.specs.Splitting.{newCopies, Ready, Splitting, Split}
+use Rattle.mark_links.specs.Splitting.{newCopies, CopyReady, Splitting, LinksSplit}
 use Rattle.mark_links.proofs.SameLinks.{same-links}
 
 module _ (b o ls counts : List ℕ) (t : ℕ) (a : Arrays) (ps ks cs : List ℕ) (g : Splitting (lent b o ls counts) t a ps ks cs) where
@@ -64,7 +64,7 @@ module _ (b o ls counts : List ℕ) (t : ℕ) (a : Arrays) (ps ks cs : List ℕ)
   many : length new ≡ needLinks s t (length cs)
   many = ap length (sym same) ∙ fresh-many s t cs (g .cuts) (g .some) (g .reads) fits (at-slots s t (g .atSlots))
 
-  pub ready : Ready ls counts a ps ks cs
+  pub ready : CopyReady ls counts a ps ks cs
   ready =
       let marks = linked-short markArrayAt (parts .marks) in
       let bases = linked-short baseArrayAt (parts .bases) in
@@ -87,7 +87,7 @@ module _ (b o ls counts : List ℕ) (t : ℕ) (a : Arrays) (ps ks cs : List ℕ)
   v = getD counts 1 0 + perTable * length cs
 
   abbrev stays : List ℕ
-  stays = span (keptRow ls own t v) 0 (getD counts 2 0)
+  stays = segment (keptRow ls own t v) 0 (getD counts 2 0)
 
   link-numbers : rowNumbers (newLinks s t cs) ≡ stays ++ rowNumbers new
   unfolding newLinks
@@ -96,14 +96,14 @@ module _ (b o ls counts : List ℕ) (t : ℕ) (a : Arrays) (ps ks cs : List ℕ)
       ∙ ap₂ (λ (x y : List ℕ). x ++ y) (kept-numbers s own t v) (ap rowNumbers same)
 
   module _ {mid : List ℕ} {r : ℕ} (copied : Copied ls (getD counts 2 0) new mid r) where
-    stay : span (keptRow mid own t v) 0 (getD counts 2 0) ≡ stays
+    stay : segment (keptRow mid own t v) 0 (getD counts 2 0) ≡ stays
     stay =
         span-ext (keptRow mid own t v) (keptRow ls own t v) 0 (getD counts 2 0)
         (λ k l h.
         kept-is ls mid own t v k k
         (ap (λ (x : List ℕ). row x k) (copied .rows-are) ∙ row-below ls (4 * getD counts 2 0) (rowNumbers new) (omega (arith, fits .linksIn)) k (omega arith)))
 
-    pub split-done : {out : List ℕ} → out ≡ put mid 0 (span (keptRow mid own t v) 0 (getD counts 2 0)) → Split s t cs out r
+    pub split-done : {out : List ℕ} → out ≡ put mid 0 (segment (keptRow mid own t v) 0 (getD counts 2 0)) → LinksSplit s t cs out r
     split-done h =
         let long = kept-long ls own t v 0 (getD counts 2 0) (omega arith) in
         record {

@@ -16,7 +16,7 @@ use Rattle.cut_parts.proofs.TableParts.{kept-half, kept-entries, same-part, new
 use Rattle.mark_rules.specs.Written.{perTable}
 use Rattle.mark_links.specs.declared.Arrays.{Arrays}
 use Rattle.mark_links.specs.declared.ArrayRows.{ArrayRows}
-use Rattle.mark_links.specs.Copies.{inUse, tableCopies, Sources, Room, Copied}
+use Rattle.mark_links.specs.Copies.{inUse, tableCopies, Sources, RowsRoom, Copied}
 use Rattle.mark_links.specs.Splitting.{placesIn, tableTurn}
 use Rattle.mark_links.proofs.Copying.{Turns, turns-start, turns-source, turns-room, turns-turn}
 
@@ -27,7 +27,7 @@ pub record NewTables (ls counts : List ℕ) (a : Arrays) (ps ks cs : List ℕ) (
   pub table-is : table ≡ first + perTable * j
 
 module _ (ls counts : List ℕ) (a : Arrays) (ps ks cs : List ℕ) (at first : ℕ) (p : Parted ps ks cs (a .classes)) where
-  pub tables-start : (start : ℕ) → PartEnd ks 0 (from cs 0) start → Room ls counts at (flat (tableTurn a ps ks cs first (inUse ls counts)) (length cs))
+  pub tables-start : (start : ℕ) → PartEnd ks 0 (from cs 0) start → RowsRoom ls counts at (flat (tableTurn a ps ks cs first (inUse ls counts)) (length cs))
       → NewTables ls counts a ps ks cs at first ls start at first 0
   tables-start start e room =
       record {
@@ -70,9 +70,9 @@ module _ (ls counts : List ℕ) (a : Arrays) (ps ks cs : List ℕ) (at first : �
       turn-is : (old : List Link) → tableTurn a ps ks cs first old j ≡ tableCopies old a (part ps start end) (from cs j) hi table
       turn-is old = λ i. tableCopies old a (its-places i) (from cs j) (sym b i) (sym (t .table-is) i)
 
-      pub turn-room : Room out counts next (tableCopies (inUse out counts) a (part ps start end) (from cs j) hi table)
+      pub turn-room : RowsRoom out counts next (tableCopies (inUse out counts) a (part ps start end) (from cs j) hi table)
       turn-room =
-          subst (λ (x : List Link). Room out counts next x) (turn-is (inUse out counts))
+          subst (λ (x : List Link). RowsRoom out counts next x) (turn-is (inUse out counts))
           (turns-room ls counts at (tableTurn a ps ks cs first) (length cs) (t .turns) h)
 
       pub tables-turn : {out′ : List ℕ} {next′ : ℕ} → Copied out next (tableCopies (inUse out counts) a (part ps start end) (from cs j) hi table) out′ next′

@@ -19,7 +19,7 @@ use Rattle.store_rules.specs.Header.{ownChild, headerLinks}
 use Rattle.store_rules.specs.SlotLinks.{slotLink, slotLinks}
 use Rattle.cut_rules.specs.Ranges.{from, to}
 use Rattle.cut_parts.proofs.Arranging.{kept-same, new-same}
-use Rattle.mark_rules.specs.Table.{Mark, inRange, classesOf, markBytes, marksIn, markAt, marksOf, markAnchor, within, baseAnchor}
+use Rattle.mark_rules.specs.Table.{Mark, inClasses, classesOf, markBytes, marksIn, markAt, marksOf, markAnchor, within, baseAnchor}
 use Rattle.mark_rules.specs.Written.{noMark, perTable, markLinks, baseLinks, arrayLinks, tableLinks, freshLinks}
 use Rattle.mark_links.specs.declared.Arrays.{Arrays}
 use Rattle.mark_links.specs.Copies.{oldSlot, markCopies, baseCopies, arrayCopies, tableCopies}
@@ -36,7 +36,7 @@ module _ (s : Store) (t : ℕ) (a : Arrays) (ps ks cs : List ℕ) (g : Splitting
 
   -- mark i is one of them
   abbrev inside : ℕ → ℕ → ℕ → Bool
-  inside lo hi i = inRange lo hi (markClass (markBytes s t) i)
+  inside lo hi i = inClasses lo hi (markClass (markBytes s t) i)
 
   -- their places
   abbrev places : ℕ → ℕ → List ℕ
@@ -45,13 +45,13 @@ module _ (s : Store) (t : ℕ) (a : Arrays) (ps ks cs : List ℕ) (g : Splitting
   marks-placed : (lo hi : ℕ) → within lo hi (marksOf s t) ≡ map (markAt s t) (places lo hi)
   unfolding within marksOf markAt
   marks-placed lo hi =
-      sift-upto (λ m. inRange lo hi (m .class)) (markAt s t) (marksIn s t) ∙ sym (map-picked (markAt s t) (inside lo hi) (λ i. i) (marksIn s t))
+      sift-upto (λ m. inClasses lo hi (m .class)) (markAt s t) (marksIn s t) ∙ sym (map-picked (markAt s t) (inside lo hi) (λ i. i) (marksIn s t))
 
   entries-placed : (lo hi : ℕ) → map (λ (e : Entry). e .glyph) (entries.within lo hi (markPlaces s t)) ≡ places lo hi
   unfolding entries.within
   entries-placed lo hi =
       let entryAt : ℕ → Entry = λ i. record { glyph = i; class = markClass (markBytes s t) i } in
-      ap (map (λ (e : Entry). e .glyph)) (sift-upto (λ e. inRange lo hi (e .class)) entryAt (marksIn s t))
+      ap (map (λ (e : Entry). e .glyph)) (sift-upto (λ e. inClasses lo hi (e .class)) entryAt (marksIn s t))
       ∙ map-picked (λ (e : Entry). e .glyph) (inside lo hi) entryAt (marksIn s t)
 
   kept-placed : placesIn ps ks 0 (from cs 0) ≡ places 0 (from cs 0)

@@ -7,14 +7,14 @@ use native.Mathlib.Omega.{arith}
 use lib.ListN.{length, getD}
 use Rattle.folds.specs.Lists.{put}
 use Rattle.ot_layouts.specs.MarkBasePos.{markSlot}
-use Rattle.store_rules.specs.Store.{Link, lent, perLink, lookup, childAt}
+use Rattle.store_rules.specs.Store.{Link, lent, perLink, rowChild, lookup, childAt}
 use Rattle.store_rules.specs.Appended.{rowNumbers}
 use Rattle.store_rules.specs.SlotLinks.{slotLink}
 use Rattle.store_reader.specs.declared.Child.{Child}
 use Rattle.store_reader.specs.declared.Child.the-variants.{Of, Nowhere}
 use Rattle.store_reader.specs.Children.{childFound}
 use Rattle.store_link_rows.specs.Rows.{four}
-use Rattle.mark_links.specs.Copies.{inUse, slotCopy, Room, Copied}
+use Rattle.mark_links.specs.Copies.{inUse, slotCopy, RowsRoom, Copied}
 use Rattle.mark_links.proofs.Copying.{copied-none}
 
 module _ (ls counts : List ℕ) (array q p slot at : ℕ) {r : Child} (e : childFound r ≡ childAt (lent [] [] ls counts) array q) where
@@ -27,7 +27,7 @@ module _ (ls counts : List ℕ) (array q p slot at : ℕ) {r : Child} (e : child
     unfolding childAt
     there = sym e ∙ ap childFound y
 
-    pub room-for-one : Room ls counts at (slotCopy (inUse ls counts) array q p slot) → perLink * at + 3 < length ls
+    pub room-for-one : RowsRoom ls counts at (slotCopy (inUse ls counts) array q p slot) → perLink * at + rowChild < length ls
     unfolding slotLink
     room-for-one room = omega (arith, room .fits, ap (λ (o : Option ℕ). length (slotLink p slot o)) there)
 

@@ -12,24 +12,24 @@ use Rattle.store_rules.specs.Header.{headerLinks}
 use Rattle.store_reader.specs.declared.LinkRows.{LinkRows}
 use Rattle.mark_links.specs.declared.Arrays.{Arrays}
 use Rattle.mark_links.specs.declared.ArrayRows.{ArrayRows}
-use Rattle.mark_links.specs.Copies.{inUse, markCopies, baseCopies, arrayCopies, tableCopies, Source, Sources, Room, Copied}
+use Rattle.mark_links.specs.Copies.{inUse, markCopies, baseCopies, arrayCopies, tableCopies, Source, Sources, RowsRoom, Copied}
 use Rattle.mark_links.proofs.Copying.{room-first, room-then, copied-then, source-then}
 
 -- ---- arrays
 
-module _ (ls counts : List ℕ) (a : Arrays) (places : List ℕ) (lo hi at p : ℕ) (room : Room ls counts at (arrayCopies (inUse ls counts) a places lo hi p)) where
+module _ (ls counts : List ℕ) (a : Arrays) (places : List ℕ) (lo hi at p : ℕ) (room : RowsRoom ls counts at (arrayCopies (inUse ls counts) a places lo hi p)) where
   abbrev marks : List Link
   marks = markCopies (inUse ls counts) (a .«mark_array») places p
 
   abbrev bases : List Link → List Link
   bases old = baseCopies old (a .«base_array») (a .bases) (a .classes) lo hi (p + 1)
 
-  pub marks-room : Room ls counts at marks
+  pub marks-room : RowsRoom ls counts at marks
   unfolding arrayCopies
   marks-room = room-first marks (bases (inUse ls counts)) room
 
   module _ {mid : List ℕ} {r : ℕ} (done : Copied ls at marks mid r) where
-    pub bases-room : Room mid counts r (bases (inUse mid counts))
+    pub bases-room : RowsRoom mid counts r (bases (inUse mid counts))
     unfolding arrayCopies
     bases-room = room-then marks bases room done
 
@@ -44,7 +44,7 @@ module _ (ls counts : List ℕ) (a : Arrays) (places : List ℕ) (lo hi at p : �
 
 -- ---- a table
 
-module _ (ls counts : List ℕ) (a : Arrays) (places : List ℕ) (lo hi at u : ℕ) (room : Room ls counts at (tableCopies (inUse ls counts) a places lo hi u)) where
+module _ (ls counts : List ℕ) (a : Arrays) (places : List ℕ) (lo hi at u : ℕ) (room : RowsRoom ls counts at (tableCopies (inUse ls counts) a places lo hi u)) where
   abbrev header : List Link
   header = headerLinks own heads u (λ q. a .«base_coverage»)
 
@@ -60,7 +60,7 @@ module _ (ls counts : List ℕ) (a : Arrays) (places : List ℕ) (lo hi at u : �
     unfolding headerLinks
     done = record { rows-are = written; next = omega arith }
 
-    pub arrays-room : Room mid counts (at + 4) (arrays (inUse mid counts))
+    pub arrays-room : RowsRoom mid counts (at + 4) (arrays (inUse mid counts))
     unfolding tableCopies
     arrays-room = room-then header arrays room done
 

@@ -14,12 +14,12 @@ use Rattle.cut_parts.specs.Tables.{PartEnd}
 use Rattle.mark_rules.specs.Written.{perTable}
 use Rattle.mark_links.specs.declared.Arrays.{Arrays}
 use Rattle.mark_links.specs.declared.ArrayRows.{ArrayRows}
-use Rattle.mark_links.specs.Copies.{inUse, arrayCopies, Sources, Room, Copied}
-use Rattle.mark_links.specs.Splitting.{placesIn, tablesCopies, newCopies, Ready}
+use Rattle.mark_links.specs.Copies.{inUse, arrayCopies, Sources, RowsRoom, Copied}
+use Rattle.mark_links.specs.Splitting.{placesIn, tablesCopies, newCopies, CopyReady}
 use Rattle.mark_links.proofs.Copying.{room-first, room-then, copied-then, source-then}
 use Rattle.mark_links.proofs.NewTables.{kept-places}
 
-module _ (ls counts : List ℕ) (a : Arrays) (ps ks cs : List ℕ) (g : Ready ls counts a ps ks cs) where
+module _ (ls counts : List ℕ) (a : Arrays) (ps ks cs : List ℕ) (g : CopyReady ls counts a ps ks cs) where
   -- how many rows and objects are in use
   abbrev rows : ℕ
   rows = getD counts 2 0
@@ -38,7 +38,7 @@ module _ (ls counts : List ℕ) (a : Arrays) (ps ks cs : List ℕ) (g : Ready ls
       → Sources ls counts a (record { marks = marks; bases = bases })
   all-sources m b = record { marks = record { order = g .order; rows-are = m }; bases = record { order = g .order; rows-are = b }; short = g .short }
 
-  pub tables-room : Room ls counts rows tables
+  pub tables-room : RowsRoom ls counts rows tables
   unfolding newCopies
   tables-room = room-first tables (keptArrays (placesIn ps ks 0 (from cs 0)) (inUse ls counts)) (g .room)
 
@@ -62,10 +62,10 @@ module _ (ls counts : List ℕ) (a : Arrays) (ps ks cs : List ℕ) (g : Ready ls
           short = s .short;
         }
 
-    pub kept-room : Room mid counts r (keptArrays (part ps 0 end) (inUse mid counts))
+    pub kept-room : RowsRoom mid counts r (keptArrays (part ps 0 end) (inUse mid counts))
     unfolding newCopies
     kept-room =
-        subst (λ (places : List ℕ). Room mid counts r (keptArrays places (inUse mid counts))) its-part
+        subst (λ (places : List ℕ). RowsRoom mid counts r (keptArrays places (inUse mid counts))) its-part
         (room-then tables (keptArrays (placesIn ps ks 0 (from cs 0))) (g .room) done)
 
     pub all-copied : {out : List ℕ} {r′ : ℕ} → Copied mid r (keptArrays (part ps 0 end) (inUse mid counts)) out r′

@@ -60,7 +60,7 @@ pub record Sources (ls counts : List ℕ) (a : Arrays) (rows : ArrayRows) : Type
   pub short : 2 + 2 * (a .bases * a .classes) < 4294967296
 
 -- there is room for new links from row `at` on, behind the rows in use
-pub record Room (ls counts : List ℕ) (at : ℕ) (new : List Link) : Type 0 where
+pub record RowsRoom (ls counts : List ℕ) (at : ℕ) (new : List Link) : Type 0 where
   pub behind : getD counts 2 0 ≤ at
   pub fits : perLink * (at + length new) ≤ length ls
 

@@ -20,7 +20,7 @@ use Rattle.mark_order.specs.Marks.{markPlaces}
 use Rattle.mark_rules.specs.Written.{perTable, needLinks, newLinks}
 use Rattle.mark_rules.specs.Reads.{Reads}
 use Rattle.mark_links.specs.declared.Arrays.{Arrays}
-use Rattle.mark_links.specs.Copies.{inUse, arrayCopies, tableCopies, Room}
+use Rattle.mark_links.specs.Copies.{inUse, arrayCopies, tableCopies, RowsRoom}
 
 -- ---- from the link rows, and from the marks' places with their classes
 
@@ -43,14 +43,14 @@ newCopies old a ps ks cs first =
     tablesCopies old a ps ks cs first ++ arrayCopies old a (placesIn ps ks 0 (from cs 0)) 0 (from cs 0) (first + perTable * length cs + 1)
 
 -- all of it can be written
-pub record Ready (ls counts : List ℕ) (a : Arrays) (ps ks cs : List ℕ) : Type 0 where
+pub record CopyReady (ls counts : List ℕ) (a : Arrays) (ps ks cs : List ℕ) : Type 0 where
   pub order : InOrder ls (getD counts 2 0)
   pub used : (a .«mark_array» < 65536) × (a .«base_array» < 65536)
   pub short : 2 + 2 * (a .bases * a .classes) < 4294967296
   pub parts : Parted ps ks cs (a .classes)
   pub few : length ps ≤ 16777216
   pub numbers : getD counts 1 0 + perTable * length cs + 2 < 4294967296
-  pub room : Room ls counts (getD counts 2 0) (newCopies (inUse ls counts) a ps ks cs (getD counts 1 0))
+  pub room : RowsRoom ls counts (getD counts 2 0) (newCopies (inUse ls counts) a ps ks cs (getD counts 1 0))
 
 -- ---- for a caller
 
@@ -77,7 +77,7 @@ pub record SplittingLent (ls counts : List ℕ) (t : ℕ) (a : Arrays) (ps ks cs
   pub known : Splitting (lent bytes objects ls counts) t a ps ks cs
 
 -- the link rows and their count after the split
-pub record Split (s : Store) (t : ℕ) (cs out : List ℕ) (count : ℕ) : Type 0 where
+pub record LinksSplit (s : Store) (t : ℕ) (cs out : List ℕ) (count : ℕ) : Type 0 where
   pub count-is : count ≡ length (newLinks s t cs)
   pub added : count ≡ s .linkCount + needLinks s t (length cs)
   pub rows-are : out ≡ put (s .links) 0 (rowNumbers (newLinks s t cs))

@@ -5,9 +5,9 @@ ghost use lib.ListN.{length, getD};
 ghost use Rattle.store_rules.specs.Store.{lent};
 ghost use Rattle.cut_parts.specs.Tables.{PartEnd, Parted};
 ghost use Rattle.mark_rules.specs.Written.{perTable};
-ghost use Rattle.mark_links.specs.Splitting.{tablesCopies, newCopies, Ready, Splitting, SplittingLent, Split};
+ghost use Rattle.mark_links.specs.Splitting.{tablesCopies, newCopies, CopyReady, Splitting, SplittingLent, LinksSplit};
 ghost use Rattle.folds.specs.Moments.{came, left};
-ghost use Rattle.mark_links.specs.Copies.{inUse, slotCopy, markCopies, baseCopies, arrayCopies, tableCopies, Source, Sources, Room, Copied};
+ghost use Rattle.mark_links.specs.Copies.{inUse, slotCopy, markCopies, baseCopies, arrayCopies, tableCopies, Source, Sources, RowsRoom, Copied};
 use cut_parts::cut_after;
 use cut_parts::part_end;
 use store_link_rows::keep_rows;
@@ -47,7 +47,7 @@ fn copy_slot(
     slot: u32,
 ) -> usize
     requires { ⌜ Source (now links) counts array rows × (near < 4294967296) ⌝ }
-    requires { ⌜ Room (now links) counts at (slotCopy (inUse (now links) counts) array position parent slot) ⌝ }
+    requires { ⌜ RowsRoom (now links) counts at (slotCopy (inUse (now links) counts) array position parent slot) ⌝ }
     ensures { λ r. ⌜ Copied (came links) at (slotCopy (inUse (came links) counts) array position parent slot) (left links) r ⌝ }
 {
     let Child::Of(child) = child_near(links, counts, rows, near, array, position) else {
@@ -68,7 +68,7 @@ fn copy_marks(
     parent: u32,
 ) -> usize
     requires { ⌜ Source (now links) counts array rows × (length (now places) ≤ 16777216) ⌝ }
-    requires { ⌜ Room (now links) counts at (markCopies (inUse (now links) counts) array (now places) parent) ⌝ }
+    requires { ⌜ RowsRoom (now links) counts at (markCopies (inUse (now links) counts) array (now places) parent) ⌝ }
     ensures { λ r. ⌜ Copied (came links) at (markCopies (inUse (came links) counts) array (came places) parent) (left links) r ⌝ }
 {
     let mut next = at;
@@ -106,7 +106,7 @@ fn copy_bases(
 ) -> usize
     requires { ⌜ Source (now links) counts array rows ⌝ }
     requires { ⌜ (lo ≤ hi) × (hi ≤ classes) × (classes < 65536) × (2 + 2 * (bases * classes) < 4294967296) ⌝ }
-    requires { ⌜ Room (now links) counts at (baseCopies (inUse (now links) counts) array bases classes lo hi parent) ⌝ }
+    requires { ⌜ RowsRoom (now links) counts at (baseCopies (inUse (now links) counts) array bases classes lo hi parent) ⌝ }
     ensures { λ r. ⌜ Copied (came links) at (baseCopies (inUse (came links) counts) array bases classes lo hi parent) (left links) r ⌝ }
 {
     let width = hi - lo;
@@ -153,7 +153,7 @@ fn copy_arrays(
 ) -> usize
     requires { ⌜ Sources (now links) counts arrays rows × (length (now places) ≤ 16777216) ⌝ }
     requires { ⌜ (lo ≤ hi) × (hi ≤ arrays .classes) × (parent + 1 < 4294967296) ⌝ }
-    requires { ⌜ Room (now links) counts at (arrayCopies (inUse (now links) counts) arrays (now places) lo hi parent) ⌝ }
+    requires { ⌜ RowsRoom (now links) counts at (arrayCopies (inUse (now links) counts) arrays (now places) lo hi parent) ⌝ }
     ensures { λ r. ⌜ Copied (came links) at (arrayCopies (inUse (came links) counts) arrays (came places) lo hi parent) (left links) r ⌝ }
 {
     let middle = copy_marks(
@@ -193,7 +193,7 @@ fn copy_table(
 ) -> usize
     requires { ⌜ Sources (now links) counts arrays rows × (length (now places) ≤ 16777216) ⌝ }
     requires { ⌜ (lo ≤ hi) × (hi ≤ arrays .classes) × (table + 3 < 4294967296) ⌝ }
-    requires { ⌜ Room (now links) counts at (tableCopies (inUse (now links) counts) arrays (now places) lo hi table) ⌝ }
+    requires { ⌜ RowsRoom (now links) counts at (tableCopies (inUse (now links) counts) arrays (now places) lo hi table) ⌝ }
     ensures { λ r. ⌜ Copied (came links) at (tableCopies (inUse (came links) counts) arrays (came places) lo hi table) (left links) r ⌝ }
 {
     let own = [2u32, 8, 10];
@@ -229,7 +229,7 @@ fn copy_tables(
     requires { ⌜ (length (now places) ≤ 16777216) × (first + perTable * length (now cuts) ≤ 4294967296) ⌝ }
     requires { ⌜ PartEnd (now classes) 0 (getD (now cuts) 0 0) start ⌝ }
     requires { ⌜
-        Room (now links) counts at (tablesCopies (inUse (now links) counts) arrays (now places) (now classes) (now cuts) first)
+        RowsRoom (now links) counts at (tablesCopies (inUse (now links) counts) arrays (now places) (now classes) (now cuts) first)
         ⌝ }
     ensures { λ r. ⌜
         Copied (came links) at (tablesCopies (inUse (came links) counts) arrays (came places) (came classes) (came cuts) first) (left links) r
@@ -270,7 +270,7 @@ fn copy_new(
     classes: &[u16],
     cuts: &[u16],
 ) -> usize
-    requires { ⌜ Ready (now links) counts arrays (now places) (now classes) (now cuts) ⌝ }
+    requires { ⌜ CopyReady (now links) counts arrays (now places) (now classes) (now cuts) ⌝ }
     ensures { λ r. ⌜
         Copied (came links) (getD counts 2 0)
         (newCopies (inUse (came links) counts) arrays (came places) (came classes) (came cuts) (getD counts 1 0)) (left links) r
@@ -323,7 +323,7 @@ pub fn copy_links(
     requires { ⌜ SplittingLent (now links) counts table arrays (now places) (now classes) (now cuts) ⌝ }
     ensures { λ r. ⌜
         ((b o : List ℕ) → Splitting (lent b o (came links) counts) table arrays (came places) (came classes) (came cuts)
-        → Split (lent b o (came links) counts) table (came cuts) (left links) r)
+        → LinksSplit (lent b o (came links) counts) table (came cuts) (left links) r)
         ⌝ }
 {
     let count = copy_new(links, counts, arrays, places, classes, cuts);

@@ -5,13 +5,13 @@ use mathlib.Core.List.{List, [], _∷_}
 use native.Mathlib.Omega.{arith}
 use lib.ListN.{length}
 use Rattle.folds.specs.Lists.{put}
-use Rattle.store_object_rows.specs.Objects.{Room, Written}
+use Rattle.store_object_rows.specs.Objects.{ObjectsRoom, Written}
 use Rattle.store_object_rows.proofs.Writing.{written-one, one-fits, one-small, rest-room, rest-done}
 use Rattle.mark_rules.specs.Written.{newBaseArray}
 use Rattle.mark_new_objects.specs.Objects.{markArrayOf, arraysOf, Laid}
 use Rattle.mark_new_objects.proofs.Bytes.{array-long, bases-long}
 
-module _ {d o : List ℕ} {at row : ℕ} (ks : List ℕ) (bases lo hi : ℕ) (room : Room d o at row (arraysOf ks bases lo hi)) where
+module _ {d o : List ℕ} {at row : ℕ} (ks : List ℕ) (bases lo hi : ℕ) (room : ObjectsRoom d o at row (arraysOf ks bases lo hi)) where
   -- the base array
   abbrev base : List ℕ
   base = newBaseArray bases (hi - lo)
@@ -24,7 +24,7 @@ module _ {d o : List ℕ} {at row : ℕ} (ks : List ℕ) (bases lo hi : ℕ) (ro
     middle-small = one-small (markArrayOf lo ks) (base ∷ []) room (m .ends)
 
     module _ {o′ : List ℕ} (g : o′ ≡ put o (2 * row) (at ∷ middle ∷ [])) where
-      base-room : Room d′ o′ middle (row + 1) (base ∷ [])
+      base-room : ObjectsRoom d′ o′ middle (row + 1) (base ∷ [])
       base-room = rest-room (markArrayOf lo ks) (base ∷ []) room (m .bytes) g (m .ends)
 
       pub base-fits : middle + (2 + 2 * (bases * (hi - lo))) ≤ length d′

@@ -15,7 +15,7 @@ use Rattle.cut_parts.proofs.TableParts.{kept-half, new-rises, new-inside, new-h
 use Rattle.store_object_rows.proofs.Joining.{join-long, join-cons, join-flat}
 use Rattle.mark_rules.specs.Written.{newTable, newParts, newObjects}
 use Rattle.mark_new_objects.specs.Marks.{marksFrom}
-use Rattle.mark_new_objects.specs.Planned.{Planned}
+use Rattle.mark_new_objects.specs.Planned.{PlannedParts}
 use Rattle.mark_new_objects.specs.Objects.{partsLength, tableObjects, tablesOf, objectsOf}
 use Rattle.mark_new_objects.proofs.Bytes.{table-long, parts-long, slots-small}
 use Rattle.mark_new_objects.proofs.Planning.{cuts-few, kept-same, kept-parts, table-parts}
@@ -34,14 +34,14 @@ tableLength gs ks bases n cs j = length (join (tableObjects gs ks bases n cs j))
 
 -- the kept table's parts and the objects of the first j new tables are summed
 pub record Total (gs ks cs : List ℕ) (n bases at total j : ℕ) : Type 0 where
-  pub known : Planned gs ks cs n
+  pub known : PlannedParts gs ks cs n
   pub small : bases < 65536
   pub some : j ≤ length cs
   pub halved : Halved ks (highAt n cs j) at
   pub is : total ≡ keptLength gs ks bases cs + sum (tableLength gs ks bases n cs) j
   pub most : total ≤ (j + 1) * 8600000012
 
-module _ (gs ks cs : List ℕ) (n bases : ℕ) (p : Planned gs ks cs n) (small : bases < 65536) where
+module _ (gs ks cs : List ℕ) (n bases : ℕ) (p : PlannedParts gs ks cs n) (small : bases < 65536) where
   part-few : (a b : ℕ) → a ≤ b → b ≤ length ks → length (part gs a b) < 65536
   part-few a b h m = let e = p .parts .same in let f = p .few in omega (arith, length-part gs a b h (omega arith))
 

@@ -9,11 +9,11 @@ use Rattle.folds.proofs.FromTheFront.{length-even}
 use Rattle.cut_rules.specs.Ranges.{from}
 use Rattle.cut_parts.specs.Tables.{highAt, PartEnd, Halved}
 use Rattle.cut_parts.proofs.TableParts.{kept-half, new-half}
-use Rattle.store_object_rows.specs.Objects.{Room, Written}
+use Rattle.store_object_rows.specs.Objects.{ObjectsRoom, Written}
 use Rattle.store_object_rows.proofs.Writing.{room-first, room-rest, written-more}
 use Rattle.store_object_rows.proofs.Rounds.{Rounds, rounds-start, rounds-stop, next-room, row-fits, rounds-turn}
 use Rattle.mark_rules.specs.Written.{newTable, newParts, newObjects}
-use Rattle.mark_new_objects.specs.Planned.{Marked, Planned}
+use Rattle.mark_new_objects.specs.Planned.{Marked, PlannedParts}
 use Rattle.mark_new_objects.specs.Objects.{partsOf, tableObjects, tablesOf, objectsOf}
 use Rattle.mark_new_objects.proofs.Planning.{cuts-few, kept-parts, kept-marked, table-parts, table-marked}
 
@@ -24,7 +24,7 @@ objects-many gs ks bases n cs j = refl
 
 -- the objects of the first j new tables are written, and the glyphs of the next one start at `start`
 pub record Tables (d o gs ks cs : List ℕ) (n bases bytes count : ℕ) (d′ o′ : List ℕ) (start at row j : ℕ) : Type 0 where
-  pub known : Planned gs ks cs n
+  pub known : PlannedParts gs ks cs n
   pub halved : Halved ks (highAt n cs j) start
   pub rounds : Rounds d o bytes count (tableObjects gs ks bases n cs) (length cs) 4 d′ o′ at row j
 
@@ -32,7 +32,7 @@ module _ (d o gs ks cs : List ℕ) (n bases bytes count : ℕ) where
   abbrev objects : ℕ → List (List ℕ)
   objects = tableObjects gs ks bases n cs
 
-  pub tables-start : (start : ℕ) → Planned gs ks cs n → PartEnd ks 0 (from cs 0) start → Room d o bytes count (tablesOf gs ks bases n cs)
+  pub tables-start : (start : ℕ) → PlannedParts gs ks cs n → PartEnd ks 0 (from cs 0) start → ObjectsRoom d o bytes count (tablesOf gs ks bases n cs)
       → Tables d o gs ks cs n bases bytes count d o start bytes count 0
   tables-start start p e room =
       record {
@@ -71,9 +71,9 @@ module _ (d o gs ks cs : List ℕ) (n bases bytes count : ℕ) where
             (subst (λ (m : ℕ). Marked (part gs start end) (part ks start end) (from cs j) m) (sym b)
             (table-marked gs ks cs n (t .known) j start end h (t .halved) e′))
 
-        pub turn-room : Room d′ o′ at row these
+        pub turn-room : ObjectsRoom d′ o′ at row these
         turn-room =
-            subst (λ (new : List (List ℕ)). Room d′ o′ at row new) objects-are (next-room d o bytes count objects (length cs) 4 d′ o′ at row j (t .rounds) h)
+            subst (λ (new : List (List ℕ)). ObjectsRoom d′ o′ at row new) objects-are (next-room d o bytes count objects (length cs) 4 d′ o′ at row j (t .rounds) h)
 
         pub tables-turn : (d″ o″ : List ℕ) (r : ℕ) → Written d′ o′ at row these d″ o″ r → Tables d o gs ks cs n bases bytes count d″ o″ end r (row + 4) (j + 1)
         tables-turn d″ o″ r w =
@@ -87,8 +87,8 @@ module _ (d o gs ks cs : List ℕ) (n bases bytes count : ℕ) where
 
 -- ---- all new objects
 
-module _ (d o gs ks cs : List ℕ) (n bases bytes count first : ℕ) (p : Planned gs ks cs n) (e : PartEnd ks 0 (from cs 0) first)
-    (room : Room d o bytes count (objectsOf gs ks bases n cs)) where
+module _ (d o gs ks cs : List ℕ) (n bases bytes count first : ℕ) (p : PlannedParts gs ks cs n) (e : PartEnd ks 0 (from cs 0) first)
+    (room : ObjectsRoom d o bytes count (objectsOf gs ks bases n cs)) where
   abbrev tables : List (List ℕ)
   tables = tablesOf gs ks bases n cs
 
@@ -100,10 +100,10 @@ module _ (d o gs ks cs : List ℕ) (n bases bytes count first : ℕ) (p : Planne
   unfolding newObjects
   all-objects = ap (λ (y : List (List ℕ)). tables ++ y) (kept-parts gs ks cs n p first e bases)
 
-  whole : Room d o bytes count (tables ++ parts)
-  whole = subst (λ (new : List (List ℕ)). Room d o bytes count new) all-objects room
+  whole : ObjectsRoom d o bytes count (tables ++ parts)
+  whole = subst (λ (new : List (List ℕ)). ObjectsRoom d o bytes count new) all-objects room
 
-  pub tables-room : Room d o bytes count tables
+  pub tables-room : ObjectsRoom d o bytes count tables
   tables-room = room-first tables parts whole
 
   tables-many : length tables ≡ 4 * length cs
@@ -119,8 +119,8 @@ module _ (d o gs ks cs : List ℕ) (n bases bytes count first : ℕ) (p : Planne
     row-is : count + length tables ≡ count + 4 * length cs
     row-is = omega (arith, tables-many)
 
-    pub last-room : Room d′ o′ at (count + 4 * length cs) parts
-    last-room = subst (λ (k : ℕ). Room d′ o′ at k parts) row-is (room-rest tables parts whole w)
+    pub last-room : ObjectsRoom d′ o′ at (count + 4 * length cs) parts
+    last-room = subst (λ (k : ℕ). ObjectsRoom d′ o′ at k parts) row-is (room-rest tables parts whole w)
 
     pub all-done : (d″ o″ : List ℕ) (r : ℕ) → Written d′ o′ at (count + 4 * length cs) parts d″ o″ r
         → Written d o bytes count (objectsOf gs ks bases n cs) d″ o″ r

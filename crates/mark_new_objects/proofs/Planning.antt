@@ -17,7 +17,7 @@ use Rattle.cut_parts.proofs.Parting.{paired-glyphs, halved-none}
 use Rattle.cut_parts.proofs.TableParts.{same-part, first-high, kept-entries, new-rises, new-entries, new-same}
 use Rattle.mark_rules.specs.Written.{newParts}
 use Rattle.mark_new_objects.specs.Marks.{marksFrom}
-use Rattle.mark_new_objects.specs.Planned.{Classes, Marked, Planned}
+use Rattle.mark_new_objects.specs.Planned.{Classes, Marked, PlannedParts}
 use Rattle.mark_new_objects.specs.Objects.{partsOf}
 use Rattle.mark_new_objects.proofs.Marks.{parts-paired}
 
@@ -34,7 +34,7 @@ part-classes ks lo hi a b few rises v h m =
       rises = rises;
     }
 
-module _ (gs ks cs : List ℕ) (n : ℕ) (p : Planned gs ks cs n) where
+module _ (gs ks cs : List ℕ) (n : ℕ) (p : PlannedParts gs ks cs n) where
   pub cuts-few : length cs < 65536
   cuts-few = omega (arith, few-places n cs (p .parts .places), p .count)
 

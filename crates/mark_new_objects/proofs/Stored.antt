@@ -57,12 +57,12 @@ use Rattle.mark_rules.specs.Table.{
 use Rattle.mark_rules.specs.Reads.{Reads}
 use Rattle.mark_rules.specs.Written.{newTable, newParts, newObjects, newOf}
 use Rattle.mark_new_objects.specs.Marks.{entryFrom, entriesFrom, marksFrom}
-use Rattle.mark_new_objects.specs.Planned.{Planned}
+use Rattle.mark_new_objects.specs.Planned.{PlannedParts}
 use Rattle.mark_new_objects.specs.Objects.{tableObjects, objectsOf}
 use Rattle.mark_new_objects.proofs.Marks.{partsFrom, parts-from, entries-back}
 
 module _ (gs ks cs : List ℕ) (n : ℕ) where
-  pub planned : (es : List Entry) → Arranged gs ks cs n es → Places n cs → 0 < length cs → Ascends 0 es → length es < 65536 → n < 65536 → Planned gs ks cs n
+  pub planned : (es : List Entry) → Arranged gs ks cs n es → Places n cs → 0 < length cs → Ascends 0 es → length es < 65536 → n < 65536 → PlannedParts gs ks cs n
   planned es r p some up few count =
       record {
         parts = arranged-parted gs ks cs n es r p some;
@@ -169,7 +169,7 @@ module _ (s : Store) (t : ℕ) (reads : Reads s t) (octets : Bytes (s .bytes)) w
       (subst (λ (l : List Entry). Each (λ (e : Entry). e .class < 65536) l) (sym entries-are)
       (each-upto (λ (e : Entry). e .class < 65536) mark m (λ k l. bits (markArray s t) (2 + 4 * k))))
 
-  pub stored-plan : (gs ks cs : List ℕ) → Arranged gs ks cs (classesOf s t) es → Places (classesOf s t) cs → 0 < length cs → Planned gs ks cs (classesOf s t)
+  pub stored-plan : (gs ks cs : List ℕ) → Arranged gs ks cs (classesOf s t) es → Places (classesOf s t) cs → 0 < length cs → PlannedParts gs ks cs (classesOf s t)
   stored-plan gs ks cs r p some =
       let many : length es ≡ m = ap length entries-are ∙ length-upto mark m in
       planned gs ks cs (classesOf s t) es r p some stored-ascend (omega (arith, bits (markArray s t) 0)) (bits t classCountAt)

@@ -18,7 +18,7 @@ pub record Marked (gs ks : List ℕ) (lo hi : ℕ) : Type 0 where
   pub classes : Classes ks lo hi
 
 -- a table of n classes is to be split at cs: its marks are parted by table, and those of each are in ascending order
-pub record Planned (gs ks cs : List ℕ) (n : ℕ) : Type 0 where
+pub record PlannedParts (gs ks cs : List ℕ) (n : ℕ) : Type 0 where
   pub parts : Parted gs ks cs n
   pub few : length gs < 65536
   pub count : n < 65536

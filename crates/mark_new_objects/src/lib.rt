@@ -14,10 +14,10 @@ ghost use lib.ListN.{length, getD};
 ghost use Rattle.folds.specs.Lists.{put, join};
 ghost use Rattle.folds.specs.Moments.{came, left};
 ghost use Rattle.ot_layouts.specs.Numbers.{words};
-ghost use Rattle.store_object_rows.specs.Objects.{Room, Written};
+ghost use Rattle.store_object_rows.specs.Objects.{ObjectsRoom, Written};
 ghost use Rattle.cut_parts.specs.Tables.{PartEnd};
 ghost use Rattle.mark_rules.specs.Written.{newTable, newBaseArray};
-ghost use Rattle.mark_new_objects.specs.Planned.{Classes, Marked, Planned};
+ghost use Rattle.mark_new_objects.specs.Planned.{Classes, Marked, PlannedParts};
 ghost use Rattle.mark_new_objects.specs.Objects.{markArrayOf, arraysOf, partsOf, partsLength, tablesOf, objectsOf, Laid};
 
 // The objects of a new table: itself, its coverage, its mark array and its base array.
@@ -40,7 +40,7 @@ pub fn new_length(
     class_count: u16,
     bases: u16,
 ) -> usize
-    requires { ⌜ Planned (now glyphs) (now classes) (now cuts) «class_count» ⌝ }
+    requires { ⌜ PlannedParts (now glyphs) (now classes) (now cuts) «class_count» ⌝ }
     ensures { λ r. ⌜ r ≡ length (join (objectsOf (came glyphs) (came classes) bases «class_count» (came cuts))) ⌝ }
 {
     let kept = cuts[0];
@@ -120,7 +120,7 @@ fn write_arrays(
     row: usize,
 ) -> usize
     requires { ⌜ Classes (now classes) lo hi ⌝ }
-    requires { ⌜ Room (now «data») (now objects) at row (arraysOf (now classes) bases lo hi) ⌝ }
+    requires { ⌜ ObjectsRoom (now «data») (now objects) at row (arraysOf (now classes) bases lo hi) ⌝ }
     ensures { λ r. ⌜ Written (came «data») (came objects) at row (arraysOf (came classes) bases lo hi) (left «data») (left objects) r ⌝ }
 {
     let middle = write_mark_array(data, classes, lo, hi, at);
@@ -143,7 +143,7 @@ fn write_parts(
     row: usize,
 ) -> usize
     requires { ⌜ Marked (now glyphs) (now classes) lo hi ⌝ }
-    requires { ⌜ Room (now «data») (now objects) at row (partsOf (now glyphs) (now classes) bases lo hi) ⌝ }
+    requires { ⌜ ObjectsRoom (now «data») (now objects) at row (partsOf (now glyphs) (now classes) bases lo hi) ⌝ }
     ensures { λ r. ⌜
         Written (came «data») (came objects) at row (partsOf (came glyphs) (came classes) bases lo hi) (left «data») (left objects) r
         ⌝ }
@@ -166,7 +166,7 @@ fn write_table_objects(
     row: usize,
 ) -> usize
     requires { ⌜ Marked (now glyphs) (now classes) lo hi ⌝ }
-    requires { ⌜ Room (now «data») (now objects) at row (newTable lo hi ∷ partsOf (now glyphs) (now classes) bases lo hi) ⌝ }
+    requires { ⌜ ObjectsRoom (now «data») (now objects) at row (newTable lo hi ∷ partsOf (now glyphs) (now classes) bases lo hi) ⌝ }
     ensures { λ r. ⌜
         Written (came «data») (came objects) at row (newTable lo hi ∷ partsOf (came glyphs) (came classes) bases lo hi) (left «data»)
         (left objects) r
@@ -191,10 +191,10 @@ fn write_tables(
     byte_count: usize,
     object_count: usize,
 ) -> usize
-    requires { ⌜ Planned (now glyphs) (now classes) (now cuts) «class_count» ⌝ }
+    requires { ⌜ PlannedParts (now glyphs) (now classes) (now cuts) «class_count» ⌝ }
     requires { ⌜ PartEnd (now classes) 0 (getD (now cuts) 0 0) start ⌝ }
     requires { ⌜
-        Room (now «data») (now objects) «byte_count» «object_count» (tablesOf (now glyphs) (now classes) bases «class_count» (now cuts))
+        ObjectsRoom (now «data») (now objects) «byte_count» «object_count» (tablesOf (now glyphs) (now classes) bases «class_count» (now cuts))
         ⌝ }
     ensures { λ r. ⌜
         Written (came «data») (came objects) «byte_count» «object_count»
@@ -239,9 +239,9 @@ pub fn write_objects(
     byte_count: usize,
     object_count: usize,
 ) -> usize
-    requires { ⌜ Planned (now glyphs) (now classes) (now cuts) «class_count» ⌝ }
+    requires { ⌜ PlannedParts (now glyphs) (now classes) (now cuts) «class_count» ⌝ }
     requires { ⌜
-        Room (now «data») (now objects) «byte_count» «object_count» (objectsOf (now glyphs) (now classes) bases «class_count» (now cuts))
+        ObjectsRoom (now «data») (now objects) «byte_count» «object_count» (objectsOf (now glyphs) (now classes) bases «class_count» (now cuts))
         ⌝ }
     ensures { λ r. ⌜
         Written (came «data») (came objects) «byte_count» «object_count»

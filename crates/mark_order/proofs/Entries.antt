@@ -11,7 +11,7 @@ use Rattle.folds.proofs.Moved.{map-upto}
 use Rattle.ot_layouts.specs.Coverage.{Entry}
 use Rattle.ot_layouts.specs.MarkBasePos.{markClass}
 use Rattle.ot_layouts.proofs.CoverageGlyphs.{Sorted, sorted-run, sorted-ascends, sorted-under}
-use Rattle.glyph_class_parts.specs.ClassParts.{Ordered}
+use Rattle.glyph_class_parts.specs.ClassParts.{OrderedByClass}
 use Rattle.glyph_sort.specs.Pairs.{pairs, inOrder, keysOf, besideOf}
 use Rattle.glyph_sort.specs.ByClass.{ByClass, classPairs}
 use Rattle.mark_order.specs.Marks.{entriesBy, placesBy}
@@ -63,6 +63,6 @@ module _ (b : List ℕ) (n : ℕ) where
       subst (Sorted 0 (0 + n)) (sym same) (sorted-run 0 n)
 
   -- the places ascend, and are below 65,536
-  pub places-in-order : n ≤ 65536 → {ps cs : List ℕ} → ByClass (placesBy b n) ps cs → Ordered (placesBy b n) ps cs
+  pub places-in-order : n ≤ 65536 → {ps cs : List ℕ} → ByClass (placesBy b n) ps cs → OrderedByClass (placesBy b n) ps cs
   places-in-order few y =
       record { up = sorted-ascends (placesBy b n) 0 (0 + n) places-sorted; under = sorted-under (placesBy b n) 0 (0 + n) 65536 (omega arith) places-sorted; byClass = y }

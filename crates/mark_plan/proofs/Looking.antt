@@ -11,7 +11,7 @@ use Rattle.store_rules.specs.Store.{Store, bytesOf, sizeOf}
 use Rattle.store_rules.proofs.Lookups.{child-used}
 use Rattle.store_reader.specs.Rows.{Inside}
 use Rattle.glyph_sort.specs.ByClass.{ByClass}
-use Rattle.glyph_class_parts.specs.ClassParts.{Ordered}
+use Rattle.glyph_class_parts.specs.ClassParts.{OrderedByClass}
 use Rattle.glyph_parts.proofs.Parts.{part-inside}
 use Rattle.mark_order.specs.Marks.{placesBy, markPlaces}
 use Rattle.mark_order.proofs.Entries.{places-in-order}
@@ -19,7 +19,7 @@ use Rattle.mark_checks.specs.declared.MarkTable.{MarkTable}
 use Rattle.mark_checks.specs.Opens.{Opens}
 use Rattle.mark_checks.proofs.Opened.{opened-fits, same-marks, marks-long, marks-are, bases-are}
 use Rattle.mark_points.specs.declared.«table_info».TableInfo.{TableInfo}
-use Rattle.mark_points.specs.Points.{Ready}
+use Rattle.mark_points.specs.Points.{PointsReady}
 use Rattle.mark_plan.specs.Cutting.{infoOf, Looked}
 
 module _ {s : Store} {t : ℕ} {p : MarkTable} {w set gs ks cuts : List ℕ} (k : Looked s t p w set gs ks cuts) where
@@ -56,13 +56,13 @@ module _ {s : Store} {t : ℕ} {p : MarkTable} {w set gs ks cuts : List ℕ} (k 
         )
 
     module _ {ps cs : List ℕ} (y : ByClass (placesBy b (length (part gs 0 marks))) ps cs) where
-      ordered : Ordered (markPlaces s t) ps cs
+      ordered : OrderedByClass (markPlaces s t) ps cs
       ordered =
           let many = front-long gs marks glyphs-room in
-          subst (λ (es : List Entry). Ordered es ps cs) (ap₂ placesBy (e ∙ same-marks o) (many ∙ marks-are o))
+          subst (λ (es : List Entry). OrderedByClass es ps cs) (ap₂ placesBy (e ∙ same-marks o) (many ∙ marks-are o))
           (places-in-order b (length (part gs 0 marks)) (omega (arith, many)) y)
 
-      ready : p .classes < 65536 → Ready s t (infoOf (s .objects) p) ps cs w cuts
+      ready : p .classes < 65536 → PointsReady s t (infoOf (s .objects) p) ps cs w cuts
       ready low =
           record {
             described =
@@ -83,5 +83,5 @@ module _ {s : Store} {t : ℕ} {p : MarkTable} {w set gs ks cuts : List ℕ} (k 
 
       -- the marks' places by class stand in the fronts
       pub points-ready : p .classes < 65536 → {x : TableInfo} → x ≡ infoOf (s .objects) p → length ps ≡ length (part gs 0 marks) → length cs ≡ length (part ks 0 marks)
-          → Ready s t x (part (back gs marks ps) 0 marks) (part (back ks marks cs) 0 marks) w cuts
+          → PointsReady s t x (part (back gs marks ps) 0 marks) (part (back ks marks cs) 0 marks) w cuts
       points-ready low {x} same a c = rw (same, front-again gs marks glyphs-room ps a, front-again ks marks classes-room cs c) (ready low)

@@ -52,7 +52,7 @@ use Rattle.mark_rules.specs.Table.{
   baseBytes,
   basesIn,
   partsReadable,
-  inRange,
+  inClasses,
   allAtSlots,
   ofClasses,
 }
@@ -64,7 +64,7 @@ use Rattle.mark_points.specs.Points.{Described}
 -- ---- ranges of classes
 
 -- one class more
-range-more : (a i c : ℕ) → a ≤ i → inRange a (i + 1) c ≡ inRange a i c || inRange i (i + 1) c
+range-more : (a i c : ℕ) → a ≤ i → inClasses a (i + 1) c ≡ inClasses a i c || inClasses i (i + 1) c
 range-more a i c h =
     ⊎-elim
     (λ (g : c < i). rw (lt-ltb c (i + 1) (omega arith), lt-ltb c i g, lt-leb i c g) (or-false (leb a c && true)))
@@ -75,13 +75,13 @@ range-more a i c h =
     or-false true = refl
     or-false false = refl
 
-range-none : (i c : ℕ) → inRange i i c ≡ false
+range-none : (i c : ℕ) → inClasses i i c ≡ false
 range-none i c = ⊎-elim (λ (g : c < i). rw (lt-leb i c g)) (λ (g : i ≤ c). rw (le-leb i c g, le-ltb c i g)) (either c i)
 
-range-one : (i c : ℕ) → inRange i (i + 1) c ≡ true → c ≡ i
+range-one : (i c : ℕ) → inClasses i (i + 1) c ≡ true → c ≡ i
 range-one i c h = let (p, q) = and-both (leb i c) (ltb c (i + 1)) h in omega (arith, leb-true i c p, ltb-true c (i + 1) q)
 
-one-range : (i c : ℕ) → c ≡ i → inRange i (i + 1) c ≡ true
+one-range : (i c : ℕ) → c ≡ i → inClasses i (i + 1) c ≡ true
 one-range i c e = and-intro (leb i c) (ltb c (i + 1)) (le-leb i c (omega arith)) (lt-ltb c (i + 1) (omega arith))
 
 -- ---- a column of the base array
@@ -90,16 +90,16 @@ module _ (bases n i m : ℕ) (inside : m < bases * n) (class : i < n) where
   column-of : (k : ℕ) → columnAt n (baseSlot k) ≡ k % n
   column-of k = let e : (2 + 2 * k - 2) / 2 ≡ k = omega arith in ap (λ (x : ℕ). x % n) e
 
-  in-column : among (baseSlot m) (columnSlots bases n i) ≡ inRange i (i + 1) (columnAt n (baseSlot m))
-  in-column = both-ways (among (baseSlot m) (columnSlots bases n i)) (inRange i (i + 1) (columnAt n (baseSlot m))) there back
+  in-column : among (baseSlot m) (columnSlots bases n i) ≡ inClasses i (i + 1) (columnAt n (baseSlot m))
+  in-column = both-ways (among (baseSlot m) (columnSlots bases n i)) (inClasses i (i + 1) (columnAt n (baseSlot m))) there back
     where
-      there : among (baseSlot m) (columnSlots bases n i) ≡ true → inRange i (i + 1) (columnAt n (baseSlot m)) ≡ true
+      there : among (baseSlot m) (columnSlots bases n i) ≡ true → inClasses i (i + 1) (columnAt n (baseSlot m)) ≡ true
       there h =
           one-range i (columnAt n (baseSlot m))
           (each-among (λ q. columnAt n q ≡ i) (columnSlots bases n i) (baseSlot m)
           (each-upto (λ q. columnAt n q ≡ i) (λ j. baseSlot (j * n + i)) bases (λ j l. column-of (j * n + i) ∙ digits-mod j class)) h)
 
-      back : inRange i (i + 1) (columnAt n (baseSlot m)) ≡ true → among (baseSlot m) (columnSlots bases n i) ≡ true
+      back : inClasses i (i + 1) (columnAt n (baseSlot m)) ≡ true → among (baseSlot m) (columnSlots bases n i) ≡ true
       back h =
           let r : m % n ≡ i = sym (column-of m) ∙ range-one i (columnAt n (baseSlot m)) h in
           let e : m / n * n + i ≡ m = ap (λ (x : ℕ). m / n * n + x) (sym r) ∙ div-add-mod' m n in
@@ -185,7 +185,7 @@ module _ {s : Store} {t : ℕ} {x : TableInfo} {ps cs : List ℕ} (u : Described
     its = part ps (startOf (markPlaces s t) i) (startOf (markPlaces s t) (i + 1))
 
     -- a mark is at one of them exactly if it is of the class
-    in-class : (m : ℕ) → m < marksIn s t → among m its ≡ inRange i (i + 1) (markClass (markBytes s t) m)
+    in-class : (m : ℕ) → m < marksIn s t → among m its ≡ inClasses i (i + 1) (markClass (markBytes s t) m)
     unfolding within
     in-class m h =
         let entry : ℕ → Entry = λ j. record { glyph = j; class = markClass (markBytes s t) j } in
@@ -197,17 +197,17 @@ module _ {s : Store} {t : ℕ} {x : TableInfo} {ps cs : List ℕ} (u : Described
         ∙ among-picked (λ j. test (entry j)) (marksIn s t) m h
 
     mark-row : (k : ℕ) → k < s .linkCount → parentOf s k ≡ markArray s t
-        → among (positionOf s k) (map markSlot its) ≡ inRange i (i + 1) (classBefore (markBytes s t) (positionOf s k))
+        → among (positionOf s k) (map markSlot its) ≡ inClasses i (i + 1) (classBefore (markBytes s t) (positionOf s k))
     mark-row k h e =
         let (m, few, q) = mark-slot k h e in
         let z : 4 + 4 * m - 2 ≡ 2 + 4 * m = omega arith in
         rw q
         (among-mapped markSlot m its (λ y f. omega arith)
         ∙ in-class m few
-        ∙ ap (λ (y : ℕ). inRange i (i + 1) (u16At (markBytes s t) y)) (sym z))
+        ∙ ap (λ (y : ℕ). inClasses i (i + 1) (u16At (markBytes s t) y)) (sym z))
 
     base-row : i < classesOf s t → (k : ℕ) → k < s .linkCount → parentOf s k ≡ baseArray s t
-        → among (positionOf s k) (columnSlots (basesIn s t) (classesOf s t) i) ≡ inRange i (i + 1) (columnAt (classesOf s t) (positionOf s k))
+        → among (positionOf s k) (columnSlots (basesIn s t) (classesOf s t) i) ≡ inClasses i (i + 1) (columnAt (classesOf s t) (positionOf s k))
     base-row class k h e = let (m, few, q) = base-slot k h e in rw q (in-column (basesIn s t) (classesOf s t) i m few class)
 
   -- ---- one class more
@@ -251,12 +251,12 @@ module _ {s : Store} {t : ℕ} {x : TableInfo} {ps cs : List ℕ} (u : Described
         let d : ℕ = columnAt (classesOf s t) (positionOf s k) in
         let marks : Bool = ofParent (markArray s t) l in
         let bases : Bool = ofParent (baseArray s t) l in
-        let in-marks : marks && among (positionOf s k) (map markSlot (its i)) ≡ marks && inRange i (i + 1) c =
+        let in-marks : marks && among (positionOf s k) (map markSlot (its i)) ≡ marks && inClasses i (i + 1) c =
         where-true marks _ _ (λ e. mark-row i k h (eqb-true (parentOf s k) (markArray s t) e)) in
-        let in-bases : bases && among (positionOf s k) (columnSlots (basesIn s t) (classesOf s t) i) ≡ bases && inRange i (i + 1) d =
+        let in-bases : bases && among (positionOf s k) (columnSlots (basesIn s t) (classesOf s t) i) ≡ bases && inClasses i (i + 1) d =
         where-true bases _ _ (λ e. base-row i (omega (arith, u .classes)) k h (eqb-true (parentOf s k) (baseArray s t) e)) in
         rw (u .marksAt, u .basesAt, u .bases, u .classes, in-marks, in-bases)
-        (joined marks bases (inRange a i c) (inRange a i d) (inRange i (i + 1) c) (inRange i (i + 1) d)
+        (joined marks bases (inClasses a i c) (inClasses a i d) (inClasses i (i + 1) c) (inClasses i (i + 1) d)
         ∙ rw (sym (range-more a i c order), sym (range-more a i d order)))
 
   -- no class, and no row

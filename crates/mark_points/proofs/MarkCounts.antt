@@ -19,7 +19,7 @@ use Rattle.store_rules.specs.Store.{Store}
 use Rattle.glyph_rules.specs.Entries.{within}
 use Rattle.glyph_class_parts.specs.ClassParts.{startOf, ClassEnd}
 use Rattle.glyph_class_parts.proofs.ClassParts.{starts-rise, starts-most, starts-none, length-glyphs, length-classes, class-part, class-ends}
-use Rattle.mark_rules.specs.Table.{Mark, marksIn, markBytes, marksOfClass, inRange}
+use Rattle.mark_rules.specs.Table.{Mark, marksIn, markBytes, marksOfClass, inClasses}
 use Rattle.mark_rules.specs.Table as Table
 use Rattle.mark_order.specs.Marks.{markPlaces}
 use Rattle.mark_points.specs.declared.«table_info».TableInfo.{TableInfo}
@@ -31,7 +31,7 @@ use Rattle.mark_points.proofs.ClassLinks.{marks-most}
 module _ (s : Store) (t i : ℕ) where
   -- each mark counts where it is of the class
   abbrev counted : ℕ
-  counted = sum (λ k. one (inRange i (i + 1) (markClass (markBytes s t) k))) (marksIn s t)
+  counted = sum (λ k. one (inClasses i (i + 1) (markClass (markBytes s t) k))) (marksIn s t)
 
   places-counted : length (within i (i + 1) (markPlaces s t)) ≡ counted
   unfolding within
@@ -43,7 +43,7 @@ module _ (s : Store) (t i : ℕ) where
   marks-counted : marksOfClass s t i ≡ counted
   unfolding Table.within Table.marksOf Table.markAt
   marks-counted =
-      let test : Mark → Bool = λ m. inRange i (i + 1) (m .class) in
+      let test : Mark → Bool = λ m. inClasses i (i + 1) (m .class) in
       ap length (sift-upto test (Table.markAt s t) (marksIn s t)) ∙ length-picked (λ j. test (Table.markAt s t j)) (Table.markAt s t) (marksIn s t)
 
 -- ---- of the classes in order

@@ -24,7 +24,7 @@ use Rattle.mark_rules.specs.Table.{classesOf, basesIn, marksOfClass, ofClasses,
 use Rattle.mark_points.specs.declared.«table_info».TableInfo.{TableInfo}
 use Rattle.mark_points.specs.declared.Columns.{Columns}
 use Rattle.mark_points.specs.Anchors.{alsoClass}
-use Rattle.mark_points.specs.Points.{Described, Ready, cuttingAt, Below}
+use Rattle.mark_points.specs.Points.{Described, PointsReady, cuttingAt, Below}
 use Rattle.mark_points.proofs.ClassLinks.{described-fits, class-more, class-none}
 use Rattle.mark_points.proofs.MarkCounts.{start-few, start-none, ends-at, ends-inside, marks-are, covered, covered-more, covered-none, covered-few}
 
@@ -59,7 +59,7 @@ start-most {s} {t} u =
     let used = linked-used s t (described-fits u) (u .reads .used) baseCoverAt in
     omega (arith, u .start, size-most s (described-fits u) (linkedAt s t baseCoverAt) used)
 
-pub columns-start : {s : Store} {t : ℕ} {x : TableInfo} {ps cs w l : List ℕ} → Ready s t x ps cs w l → {f : Filling}
+pub columns-start : {s : Store} {t : ℕ} {x : TableInfo} {ps cs w l : List ℕ} → PointsReady s t x ps cs w l → {f : Filling}
     → ((r : Rule) → r .start ≡ x .start → Fills f (after r 0))
     → Below s t x ps cs l 0 (record { filling = f; from = 0; partial = 4 }) w l
 unfolding after
@@ -185,4 +185,4 @@ pub record Going (o l c : List ℕ) (x : TableInfo) (ps cs w₀ d : List ℕ) (i
   pub inside : i ≤ x .classes
   pub walk : length w ≡ length w₀
   pub long : length cuts ≡ length d
-  pub below : (b : List ℕ) (t : ℕ) → Ready (lent b o l c) t x ps cs w₀ d → Below (lent b o l c) t x ps cs d i p w cuts
+  pub below : (b : List ℕ) (t : ℕ) → PointsReady (lent b o l c) t x ps cs w₀ d → Below (lent b o l c) t x ps cs d i p w cuts

@@ -9,7 +9,7 @@ use Rattle.ot_layouts.specs.MarkBasePos.{markSlot, baseSlot}
 use Rattle.store_rules.specs.Store.{Store, lent, sound}
 use Rattle.store_reader.specs.declared.LinkRows.{LinkRows}
 use Rattle.store_reader.specs.Rows.{ParentRows}
-use Rattle.store_walk.specs.Marks.{alsoAt, Marks, Ready, Grown}
+use Rattle.store_walk.specs.Marks.{alsoAt, Marks, WalkReady, Grown}
 use Rattle.mark_points.specs.declared.«table_info».TableInfo.{TableInfo}
 use Rattle.mark_points.specs.declared.anchors.ArrayRows.{ArrayRows}
 
@@ -19,7 +19,7 @@ columnSlots bases n c = upto (λ j. baseSlot (j * n + c)) bases
 
 -- a walk in epoch e can go on
 abbrev pub Goes : List ℕ → List ℕ → List ℕ → ℕ → List ℕ → Type 0
-Goes o l c e w = (from : ℕ → Bool) × Ready o l c from e w
+Goes o l c e w = (from : ℕ → Bool) × WalkReady o l c from e w
 
 -- and the rows of object p are known
 abbrev pub Walkable : List ℕ → List ℕ → List ℕ → ℕ → LinkRows → ℕ → List ℕ → Type 0

@@ -10,7 +10,7 @@ use Rattle.ot_layouts.specs.MarkBasePos.{baseCoverAt}
 use Rattle.store_rules.specs.Store.{Store, lent, sizeOf, linkedAt}
 use Rattle.store_rules.specs.Reach.{rowsOf}
 use Rattle.store_walk.specs.Marks.{noRow, Marks}
-use Rattle.glyph_class_parts.specs.ClassParts.{startOf, Ordered}
+use Rattle.glyph_class_parts.specs.ClassParts.{startOf, OrderedByClass}
 use Rattle.cut_rules.specs.Cuts.{Cutting, after}
 use Rattle.cut_filling.specs.Filling.{Placed, Filled}
 use Rattle.mark_rules.specs.Table.{classesOf, markArray, baseArray, basesIn, marksOfClass, allAtSlots, ofClasses, ruleOf, cutPlaces}
@@ -28,12 +28,12 @@ pub record Described (s : Store) (t : ℕ) (x : TableInfo) (ps cs : List ℕ) : 
   pub classes : x .classes ≡ classesOf s t
   pub bases : x .bases ≡ basesIn s t
   pub start : x .start ≡ 16 + sizeOf s (linkedAt s t baseCoverAt)
-  pub ordered : Ordered (markPlaces s t) ps cs
+  pub ordered : OrderedByClass (markPlaces s t) ps cs
   -- an epoch for each table that may come
   pub epochs : x .epoch + x .classes < 2147483648
 
 -- what a caller has seen before it asks for the cut places: nothing has the epoch's mark, and there is an entry for each cut
-pub record Ready (s : Store) (t : ℕ) (x : TableInfo) (ps cs w l : List ℕ) : Type 0 where
+pub record PointsReady (s : Store) (t : ℕ) (x : TableInfo) (ps cs w l : List ℕ) : Type 0 where
   pub described : Described s t x ps cs
   pub marks : Marks s noRow (x .epoch) w
   pub room : classesOf s t ≤ length l
@@ -58,5 +58,5 @@ Weighs o l c x ps cs i p w cuts p′ w′ cuts′ =
     (b : List ℕ) (t : ℕ) (d : List ℕ) → Below (lent b o l c) t x ps cs d i p w cuts → Below (lent b o l c) t x ps cs d (i + 1) p′ w′ cuts′
 
 -- all classes were weighed
-abbrev pub Places : List ℕ → List ℕ → List ℕ → TableInfo → List ℕ → List ℕ → List ℕ → List ℕ → List ℕ → ℕ → Type 0
-Places o l c x ps cs w cuts cuts′ r = (b : List ℕ) (t : ℕ) → Ready (lent b o l c) t x ps cs w cuts → Placed (cutPlaces (lent b o l c) t) cuts cuts′ r
+abbrev pub FindsPlaces : List ℕ → List ℕ → List ℕ → TableInfo → List ℕ → List ℕ → List ℕ → List ℕ → List ℕ → ℕ → Type 0
+FindsPlaces o l c x ps cs w cuts cuts′ r = (b : List ℕ) (t : ℕ) → PointsReady (lent b o l c) t x ps cs w cuts → Placed (cutPlaces (lent b o l c) t) cuts cuts′ r

@@ -9,7 +9,7 @@ ghost use Prim.Native.Nat.{ℕ, _<_};
 ghost use Rattle.store_rules.specs.Store.{lent};
 ghost use Rattle.folds.specs.Moments.{came, left};
 ghost use Rattle.mark_points.specs.Anchors.{RowsKnown};
-ghost use Rattle.mark_points.specs.Points.{Ready, Below, Weighs, Places};
+ghost use Rattle.mark_points.specs.Points.{PointsReady, Below, Weighs, FindsPlaces};
 
 pub mod anchors;
 pub mod table_info;
@@ -35,10 +35,10 @@ pub fn compute_split_points(
     cuts: &mut [u16],
 ) -> usize
     requires { ⌜
-        ((b : List ℕ) × (t : ℕ) × Ready (lent b (now objects) (now links) counts) t info (now places) (now classes) (now walk) (now cuts))
+        ((b : List ℕ) × (t : ℕ) × PointsReady (lent b (now objects) (now links) counts) t info (now places) (now classes) (now walk) (now cuts))
         ⌝ }
     ensures { λ r. ⌜
-        Places (came objects) (came links) counts info (came places) (came classes) (came walk) (came cuts) (left cuts) r
+        FindsPlaces (came objects) (came links) counts info (came places) (came classes) (came walk) (came cuts) (left cuts) r
         ⌝ }
 {
     let count = counts[2] as usize;

@@ -22,7 +22,7 @@ use Rattle.mark_checks.specs.Opens.{Opens}
 use Rattle.mark_checks.proofs.Opened.{marks-used, bases-used, same-marks, marks-long}
 use Rattle.mark_reading.specs.declared.Attachment.{Attachment}
 use Rattle.mark_reading.specs.declared.Attachment.the-variants as Found
-use Rattle.mark_reading.specs.Reading.{attachedAs, Small, attachAt}
+use Rattle.mark_reading.specs.Reading.{attachedAs, SmallAnchors, attachAt}
 
 -- slot (j, c) of b bases and n classes is one of their slots
 slot-low : (j c b n : ℕ) → j < b → c < n → j * n + c < b * n
@@ -88,7 +88,7 @@ module _ {s : Store} {t : ℕ} {p : MarkTable} (o : Opens s t p) where
               unfolding attachAt andThen
               both-anchors = rw (← mark-anchor, y, ← base-anchor, w)
 
-              pub anchors-small : Small (Found.Of (record { mark = a; base = c }))
+              pub anchors-small : SmallAnchors (Found.Of (record { mark = a; base = c }))
               anchors-small r q =
                   let same : record { mark = a; base = c } ≡ r = cc in
                   let first = child-used s (p .marks .object) fit (4 + 4 * i) a (sym e ∙ ap childFound y) in
@@ -96,5 +96,5 @@ module _ {s : Store} {t : ℕ} {p : MarkTable} (o : Opens s t p) where
                   rw (← same) (omega (arith, first, fit .objectsMost), omega (arith, second, fit .objectsMost))
 
 -- where there is none
-pub nothing-small : Small Found.Nothing
+pub nothing-small : SmallAnchors Found.Nothing
 nothing-small a q = let z : _≡_ {A = ℕ} 0 1 = cc in absurd (omega arith)

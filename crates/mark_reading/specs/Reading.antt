@@ -22,8 +22,8 @@ attachedAs (Of a) = some (anchors (a .mark) (a .base))
 attachedAs Nothing = none
 
 -- its anchors are objects of a store
-abbrev pub Small : Attachment → Type 0
-Small r = (a : Anchors) → r ≡ Of a → (a .mark < 65536) × (a .base < 65536)
+abbrev pub SmallAnchors : Attachment → Type 0
+SmallAnchors r = (a : Anchors) → r ≡ Of a → (a .mark < 65536) × (a .base < 65536)
 
 -- the glyph's place in a coverage, where it is one of the first n
 unfoldable pub placeBelow : List ℕ → ℕ → ℕ → Option ℕ

@@ -23,7 +23,7 @@ ghost use Rattle.mark_rules.specs.Table.{marksIn, basesIn};
 ghost use Rattle.mark_rules.specs.Attachments.{attachOf};
 ghost use Rattle.mark_rules.specs.Calls.{reported, markCall};
 ghost use Rattle.mark_checks.specs.Opens.{Opens};
-ghost use Rattle.mark_reading.specs.Reading.{attachedAs, Small, placeBelow, attachAt, markOutcome};
+ghost use Rattle.mark_reading.specs.Reading.{attachedAs, SmallAnchors, placeBelow, attachAt, markOutcome};
 
 // The anchor objects of a mark and of a base.
 pub struct Anchors {
@@ -68,7 +68,7 @@ fn anchors_at(
     requires { ⌜ Opens (storeNowWith «data» objects links counts) table opened ⌝ }
     requires { ⌜ (i < marksIn (storeNowWith «data» objects links counts) table) × (j < basesIn (storeNowWith «data» objects links counts) table) ⌝ }
     ensures { λ r. ⌜ attachedAs r ≡ attachAt (storeCameWith «data» objects links counts) table i j ⌝ }
-    ensures { λ r. ⌜ Small r ⌝ }
+    ensures { λ r. ⌜ SmallAnchors r ⌝ }
 {
     let marks = opened.marks;
     let bases = opened.bases;
@@ -99,7 +99,7 @@ fn attachment_of(
 ) -> Attachment
     requires { ⌜ Opens (storeNowWith «data» objects links counts) table opened ⌝ }
     ensures { λ r. ⌜ attachedAs r ≡ attachOf (storeCameWith «data» objects links counts) table mark base ⌝ }
-    ensures { λ r. ⌜ Small r ⌝ }
+    ensures { λ r. ⌜ SmallAnchors r ⌝ }
 {
     let marks = opened.marks;
     let bases = opened.bases;
@@ -118,7 +118,7 @@ fn attachment_of(
 
 // Hands out an answer with an attachment: of each anchor its number plus one, and two zeros where there is none.
 fn report(answer: u32, attachment: Attachment, anchors: &mut [u32; 2], found: &mut u32) -> u32
-    requires { ⌜ Small attachment ⌝ }
+    requires { ⌜ SmallAnchors attachment ⌝ }
     ensures { λ r. ⌜ markOutcome r (left found) (left anchors) ≡ reported answer (attachedAs attachment) ⌝ }
 {
     match attachment {

@@ -17,7 +17,7 @@ use Rattle.store_rules.specs.Store.{Store, Link, linkAt, parentOf, positionOf, 
 use Rattle.store_rules.proofs.Sound.{Fits, size-bytes}
 use Rattle.store_rules.proofs.Lookups.{child-row, child-used, linked-is}
 use Rattle.store_rules.proofs.RowChild.{row-child}
-use Rattle.mark_rules.specs.Table.{classesOf, marksIn, basesIn, markArray, baseArray, markBytes, markAnchor, baseAnchor, inRange, ofClasses}
+use Rattle.mark_rules.specs.Table.{classesOf, marksIn, basesIn, markArray, baseArray, markBytes, markAnchor, baseAnchor, inClasses, ofClasses}
 use Rattle.mark_rules.proofs.Checks.{Parts, AtSlots}
 
 module _ (s : Store) (t : ℕ) where
@@ -34,11 +34,11 @@ module _ (s : Store) (t : ℕ) where
 
   -- a link of the mark array whose class is one of them
   abbrev ofMarks : ℕ → ℕ → Link → Bool
-  ofMarks lo hi l = ofParent (markArray s t) l && inRange lo hi (classBefore (markBytes s t) (l .position))
+  ofMarks lo hi l = ofParent (markArray s t) l && inClasses lo hi (classBefore (markBytes s t) (l .position))
 
   -- one of the base array
   abbrev ofBases : ℕ → ℕ → Link → Bool
-  ofBases lo hi l = ofParent (baseArray s t) l && inRange lo hi (columnAt (classesOf s t) (l .position))
+  ofBases lo hi l = ofParent (baseArray s t) l && inClasses lo hi (columnAt (classesOf s t) (l .position))
 
   -- ---- each anchor has a row
 
@@ -48,12 +48,12 @@ module _ (s : Store) (t : ℕ) where
       let (k, h, p, q, x) = child-row s (markArray s t) (markSlot i) c e in
       let class : classBefore (markBytes s t) (positionOf s k) ≡ markClass (markBytes s t) i
       = ap (classBefore (markBytes s t)) q ∙ class-before (markBytes s t) i in
-      let inside = ap (inRange lo hi) class ∙ is-between lo hi (markClass (markBytes s t) i) a b in
+      let inside = ap (inClasses lo hi) class ∙ is-between lo hi (markClass (markBytes s t) i) a b in
       (k, h, or-first (ofMarks lo hi (linkAt s k)) (ofBases lo hi (linkAt s k)) (and-intro _ _ (eq-eqb (parentOf s k) (markArray s t) p) inside), x)
   anchor-row lo hi c (inr (j, m, l, u, a, b, e)) =
       let n = classesOf s t in
       let (k, h, p, q, x) = child-row s (baseArray s t) (baseSlot (j * n + m)) c e in
-      let inside = ap (inRange lo hi) (ap (columnAt n) q ∙ column-of n j m u) ∙ is-between lo hi m a b in
+      let inside = ap (inClasses lo hi) (ap (columnAt n) q ∙ column-of n j m u) ∙ is-between lo hi m a b in
       (k, h, or-second (ofMarks lo hi (linkAt s k)) (ofBases lo hi (linkAt s k)) (and-intro _ _ (eq-eqb (parentOf s k) (baseArray s t) p) inside), x)
 
   module _ (f : Fits s) (parts : Parts s t) (slots : AtSlots s t) where
@@ -83,17 +83,17 @@ module _ (s : Store) (t : ℕ) where
 
     -- ---- a row of the classes leads to one of their anchors
 
-    mark-row : (lo hi k : ℕ) → k < s .linkCount → parentOf s k ≡ markArray s t → inRange lo hi (classBefore (markBytes s t) (positionOf s k)) ≡ true
+    mark-row : (lo hi k : ℕ) → k < s .linkCount → parentOf s k ≡ markArray s t → inClasses lo hi (classBefore (markBytes s t) (positionOf s k)) ≡ true
         → MarkAnchor lo hi (childOf s k)
     unfolding markAnchor
     mark-row lo hi k l p h =
         let (i, m, e) = mark-place k l p in
         let class : classBefore (markBytes s t) (positionOf s k) ≡ markClass (markBytes s t) i
         = ap (classBefore (markBytes s t)) e ∙ class-before (markBytes s t) i in
-        let (a, b) = between-is lo hi (markClass (markBytes s t) i) (ap (inRange lo hi) (sym class) ∙ h) in
+        let (a, b) = between-is lo hi (markClass (markBytes s t) i) (ap (inClasses lo hi) (sym class) ∙ h) in
         (i, m, a, b, row-leads k (markArray s t) (markSlot i) l p e)
 
-    base-row : (lo hi k : ℕ) → k < s .linkCount → parentOf s k ≡ baseArray s t → inRange lo hi (columnAt (classesOf s t) (positionOf s k)) ≡ true
+    base-row : (lo hi k : ℕ) → k < s .linkCount → parentOf s k ≡ baseArray s t → inClasses lo hi (columnAt (classesOf s t) (positionOf s k)) ≡ true
         → BaseAnchor lo hi (childOf s k)
     unfolding baseAnchor
     base-row lo hi k l p h =
@@ -105,7 +105,7 @@ module _ (s : Store) (t : ℕ) where
         let class : m % n < n = mod-lt m some-class in
         let base : m / n < basesIn s t
         = ⊎-elim (λ lt. lt) (λ ge. let o = mul-le-mul-right {m = basesIn s t} {n = m / n} n ge in absurd (omega arith)) (either (m / n) (basesIn s t)) in
-        let (a, b) = between-is lo hi (m % n) (ap (inRange lo hi) (sym (ap (columnAt n) e ∙ column-slot n m)) ∙ h) in
+        let (a, b) = between-is lo hi (m % n) (ap (inClasses lo hi) (sym (ap (columnAt n) e ∙ column-slot n m)) ∙ h) in
         let place : baseSlot (m / n * n + m % n) ≡ positionOf s k = omega arith in
         (m / n, m % n, base, class, a, b, ap (childAt s (baseArray s t)) place ∙ row-leads k (baseArray s t) (positionOf s k) l p refl)
       where

@@ -16,7 +16,7 @@ use Rattle.folds.proofs.Folds.{upto-cons}
 use Rattle.folds.proofs.Each.{Each}
 use Rattle.ot_layouts.specs.Coverage.{coverPlace}
 use Rattle.store_rules.specs.Store.{Store}
-use Rattle.mark_rules.specs.Table.{Mark, inRange, within, marksIn, marksOf, markAt, glyphsOf, baseAnchor}
+use Rattle.mark_rules.specs.Table.{Mark, inClasses, within, marksIn, marksOf, markAt, glyphsOf, baseAnchor}
 use Rattle.mark_rules.specs.Attachments.{Anchors, anchors, markPlace, basePlace, attachOf}
 use Rattle.mark_rules.specs.Reads.{Reads}
 use Rattle.mark_rules.proofs.Marks.{Rises, reduce, reduced}
@@ -94,21 +94,21 @@ none-above (m ∷ ms) lo g a h =
 
 -- a mark, if its class lies in the range
 abbrev pub only : ℕ → ℕ → Mark → Option Mark
-only lo hi m = given (inRange lo hi (m .class)) m
+only lo hi m = given (inClasses lo hi (m .class)) m
 
 -- the mark of a glyph in a range is the mark of the glyph, if it lies in the range
 pub mark-within : (lo hi : ℕ) (ms : List Mark) (n g : ℕ) → Rises n ms → markOf (within lo hi ms) g ≡ andThen (markOf ms g) (only lo hi)
 unfolding within sift andThen markOf
 mark-within lo hi [] n g a = refl
-mark-within lo hi (m ∷ ms) n g a = go (inRange lo hi (m .class)) refl (eqb (m .glyph) g) refl (mark-within lo hi ms (m .glyph + 1) g (a .1))
+mark-within lo hi (m ∷ ms) n g a = go (inClasses lo hi (m .class)) refl (eqb (m .glyph) g) refl (mark-within lo hi ms (m .glyph + 1) g (a .1))
   where
     kept : List Mark
-    kept = sift (λ m. inRange lo hi (m .class)) ms
+    kept = sift (λ m. inClasses lo hi (m .class)) ms
 
     past : eqb (m .glyph) g ≡ true → markOf ms g ≡ none
     past e = let z = eqb-true (m .glyph) g e in none-above ms (m .glyph + 1) g (a .1) (omega arith)
 
-    go : (x : Bool) → inRange lo hi (m .class) ≡ x → (y : Bool) → eqb (m .glyph) g ≡ y → markOf kept g ≡ andThen (markOf ms g) (only lo hi)
+    go : (x : Bool) → inClasses lo hi (m .class) ≡ x → (y : Bool) → eqb (m .glyph) g ≡ y → markOf kept g ≡ andThen (markOf ms g) (only lo hi)
         → markOf (cond x (m ∷ kept) kept) g ≡ andThen (cond y (some m) (markOf ms g)) (only lo hi)
     go true e true f i = rw (f, e)
     go true e false f i = rw f i

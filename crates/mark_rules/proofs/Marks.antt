@@ -17,7 +17,7 @@ use Rattle.ot_layouts.specs.MarkBasePos.{coverAt}
 use Rattle.ot_layouts.proofs.Runs.{ascends-lower, plain-glyphs}
 use Rattle.ot_layouts.proofs.CoverageGlyphs.{Sorted, cover-sorted, sorted-ascends}
 use Rattle.store_rules.specs.Store.{Store, linkedBytes}
-use Rattle.mark_rules.specs.Table.{Mark, inRange, within, marksOf, markAt, marksIn, glyphsOf, classesOf}
+use Rattle.mark_rules.specs.Table.{Mark, inClasses, within, marksOf, markAt, marksIn, glyphsOf, classesOf}
 use Rattle.mark_rules.specs.Written.{noMark}
 use Rattle.mark_rules.specs.Reads.{Reads}
 use Rattle.mark_rules.proofs.Checks.{parts-read}
@@ -67,7 +67,7 @@ rises-sift p (m ∷ ms) lo a = go (p m) (rises-sift p ms (m .glyph + 1) (a .1))
 
 pub within-rises : (lo hi : ℕ) (ms : List Mark) → Rises 0 ms → Rises 0 (within lo hi ms)
 unfolding within
-within-rises lo hi ms a = rises-sift (λ m. inRange lo hi (m .class)) ms 0 a
+within-rises lo hi ms a = rises-sift (λ m. inClasses lo hi (m .class)) ms 0 a
 
 -- ---- a range of classes
 

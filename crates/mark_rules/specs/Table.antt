@@ -93,12 +93,12 @@ unfoldable pub marksOf : Store → ℕ → List Mark
 marksOf s t = upto (markAt s t) (marksIn s t)
 
 -- c lies from lo up to hi, hi left out
-abbrev pub inRange : ℕ → ℕ → ℕ → Bool
-inRange lo hi c = leb lo c && ltb c hi
+abbrev pub inClasses : ℕ → ℕ → ℕ → Bool
+inClasses lo hi c = leb lo c && ltb c hi
 
 -- the marks of the classes lo up to hi, in order
 unfoldable pub within : ℕ → ℕ → List Mark → List Mark
-within lo hi ms = sift (λ m. inRange lo hi (m .class)) ms
+within lo hi ms = sift (λ m. inClasses lo hi (m .class)) ms
 
 -- how many marks class i has
 abbrev pub marksOfClass : Store → ℕ → ℕ → ℕ
@@ -117,8 +117,8 @@ allAtSlots s t = allAt s t isTableSlot && allAt s (markArray s t) isMarkSlot && 
 -- a link of the classes lo up to hi of table t, hi left out: of their marks, or of their columns of the base array
 unfoldable pub ofClasses : Store → ℕ → ℕ → ℕ → Link → Bool
 ofClasses s t lo hi l =
-    ofParent (markArray s t) l && inRange lo hi (classBefore (markBytes s t) (l .position))
-    || ofParent (baseArray s t) l && inRange lo hi (columnAt (classesOf s t) (l .position))
+    ofParent (markArray s t) l && inClasses lo hi (classBefore (markBytes s t) (l .position))
+    || ofParent (baseArray s t) l && inClasses lo hi (columnAt (classesOf s t) (l .position))
 
 -- ---- its cuts
 

@@ -26,7 +26,7 @@ use Rattle.glyph_parts.proofs.Parts.{part-inside}
 use Rattle.glyph_parts.proofs.Covered.{glyphs-ready, glyphs-written}
 use Rattle.glyph_sort.specs.ByClass.{ByClass}
 use Rattle.cut_rules.specs.Places.{Places}
-use Rattle.cut_parts.specs.Order.{Sorted, Ordered, Arranged}
+use Rattle.cut_parts.specs.Order.{Sorted, PartsOrdered, Arranged}
 use Rattle.cut_parts.proofs.Keys.{Small}
 use Rattle.cut_parts.proofs.Arranging.{sorted-by-item, ordered-arranged}
 use Rattle.mark_rules.specs.Table.{classesOf, glyphsOf, markArray, markBytes, marksIn, marksOf}
@@ -67,7 +67,7 @@ module _ {b xs ks set cs : List ℕ} {n : ℕ} (k : Numbered b xs ks set cs n) (
     pub by-class : Sorted gs hs cs n
     by-class = sorted-by-item gs hs cs n es o up small (k .places)
 
-    pub by-parts : {gs′ hs′ : List ℕ} → Ordered gs hs cs n gs′ hs′ → Arranged gs′ hs′ cs n es
+    pub by-parts : {gs′ hs′ : List ℕ} → PartsOrdered gs hs cs n gs′ hs′ → Arranged gs′ hs′ cs n es
     by-parts {gs′} {hs′} r = ordered-arranged gs hs cs n es gs′ hs′ o up small by-class r
 
 -- mark i has number f i

@@ -17,7 +17,7 @@ use Rattle.mark_checks.specs.declared.MarkTable.{MarkTable}
 use Rattle.mark_checks.specs.Opens.{Opens}
 use Rattle.mark_checks.proofs.Opened.{bases-are}
 use Rattle.mark_new_objects.specs.Marks.{entriesFrom}
-use Rattle.mark_new_objects.specs.Planned.{Planned}
+use Rattle.mark_new_objects.specs.Planned.{PlannedParts}
 use Rattle.mark_new_objects.specs.Objects.{objectsOf}
 use Rattle.mark_new_objects.proofs.Stored.{stored-objects, stored-plan}
 use Rattle.mark_split.specs.Arranging.{Arranging}
@@ -38,8 +38,8 @@ module _ {s : Store} {t : ℕ} {p : MarkTable} {gs ks set cs : List ℕ} (k : Ar
   abbrev o : Opens s t p
   o = k .opens
 
-  pub planned : Planned gs′ ks′ cs (p .classes)
-  planned = subst (Planned gs′ ks′ cs) (sym (o .classes)) (stored-plan s t (o .reads) octets gs′ ks′ cs arranged (k .places) (k .some))
+  pub planned : PlannedParts gs′ ks′ cs (p .classes)
+  planned = subst (PlannedParts gs′ ks′ cs) (sym (o .classes)) (stored-plan s t (o .reads) octets gs′ ks′ cs arranged (k .places) (k .some))
 
   pub few-cuts : length cs < 65536
   few-cuts = omega (arith, few-places (p .classes) cs (planned .parts .places), planned .count)

@@ -14,7 +14,7 @@ use Rattle.ot_layouts.proofs.Numbers.{length-be16}
 use Rattle.store_rules.specs.Store.{Store, lent, headOf}
 use Rattle.store_rules.specs.Appended.{appended, withBytes}
 use Rattle.store_rules.proofs.Sound.{Fits, sound-fits, size-bytes}
-use Rattle.store_object_rows.specs.Objects.{Room, Written, Behind}
+use Rattle.store_object_rows.specs.Objects.{ObjectsRoom, Written, Behind}
 use Rattle.store_object_rows.proofs.Behind.{written-behind, change-first, same-head}
 use Rattle.call_rules.specs.declared.Needs.{Needs}
 use Rattle.call_rules.specs.Needs.{roomShort}
@@ -26,9 +26,9 @@ use Rattle.mark_rules.proofs.Marks.{marks-many}
 use Rattle.mark_rules.proofs.NewCounts.{new-many}
 use Rattle.mark_checks.specs.declared.MarkTable.{MarkTable}
 use Rattle.mark_checks.proofs.Opened.{marks-are, bases-are}
-use Rattle.mark_links.specs.Splitting.{Split}
+use Rattle.mark_links.specs.Splitting.{LinksSplit}
 use Rattle.mark_new_objects.specs.Marks.{entryFrom}
-use Rattle.mark_new_objects.specs.Planned.{Planned}
+use Rattle.mark_new_objects.specs.Planned.{PlannedParts}
 use Rattle.mark_new_objects.specs.Objects.{objectsOf}
 use Rattle.mark_new_objects.proofs.Stored.{stored-objects, stored-plan}
 use Rattle.mark_split.specs.Carrying.{Relinking, Carrying, CutAt}
@@ -49,7 +49,7 @@ module _ {s : Store} {t : ℕ} {p : MarkTable} {n : Needs} {gs ks set cs list : 
 
   -- ---- the new objects
 
-  new-room : Room (s .bytes) (s .objects) (s .byteCount) (s .objectCount) new
+  new-room : ObjectsRoom (s .bytes) (s .objects) (s .byteCount) (s .objectCount) new
   unfolding needed needsOf
   new-room =
       let many = new-many (marksOf s t) (basesIn s t) (classesOf s t) cs in
@@ -64,10 +64,10 @@ module _ {s : Store} {t : ℕ} {p : MarkTable} {n : Needs} {gs ks set cs list : 
       ap₂ (λ (bases classes : ℕ). objectsOf gs ks bases classes cs) (bases-are (k .opens)) (k .opens .classes)
       ∙ stored-objects s t gs ks cs (k .measured .arranged) (k .some)
 
-  pub objects-asked : Bytes (s .bytes) → Planned gs ks cs (p .classes) × Room (s .bytes) (s .objects) (s .byteCount) (s .objectCount) coded
+  pub objects-asked : Bytes (s .bytes) → PlannedParts gs ks cs (p .classes) × ObjectsRoom (s .bytes) (s .objects) (s .byteCount) (s .objectCount) coded
   objects-asked octets = (
-    subst (Planned gs ks cs) (sym (k .opens .classes)) (stored-plan s t (k .opens .reads) octets gs ks cs (k .measured .arranged) (k .places) (k .some)),
-    subst (Room (s .bytes) (s .objects) (s .byteCount) (s .objectCount)) (sym same-new) new-room,
+    subst (PlannedParts gs ks cs) (sym (k .opens .classes)) (stored-plan s t (k .opens .reads) octets gs ks cs (k .measured .arranged) (k .places) (k .some)),
+    subst (ObjectsRoom (s .bytes) (s .objects) (s .byteCount) (s .objectCount)) (sym same-new) new-room,
   )
 
   -- ---- what the next steps ask
@@ -131,7 +131,7 @@ module _ {s : Store} {t : ℕ} {p : MarkTable} {n : Needs} {gs ks set cs list : 
 
     -- ---- what is then
 
-    pub carried : {d′ ls list′ : List ℕ} {rows : ℕ} → Split s t cs ls rows → d′ ≡ put d (getD o (2 * t) 0 + classCountAt) (be16 (from cs 0))
+    pub carried : {d′ ls list′ : List ℕ} {rows : ℕ} → LinksSplit s t cs ls rows → d′ ≡ put d (getD o (2 * t) 0 + classCountAt) (be16 (from cs 0))
         → list′ ≡ put list 0 (upto (λ j. s .objectCount + 4 * j) (length cs))
         → CutAt s t cs list (lent d′ o ls (r ∷ (s .objectCount + n .objects) ∷ rows ∷ [])) list′
     unfolding needed needsOf splitStore appended keptTable withBytes newTables
@@ -160,6 +160,6 @@ module _ {s : Store} {t : ℕ} {p : MarkTable} {n : Needs} {gs ks set cs list : 
   pub objects-fit : s .objectCount + n .objects < 4294967296
   objects-fit = omega (arith, objects-needed, room .objectsMost)
 
-  pub rows-fit : {ls : List ℕ} {r : ℕ} → Split s t cs ls r → r < 4294967296
+  pub rows-fit : {ls : List ℕ} {r : ℕ} → LinksSplit s t cs ls r → r < 4294967296
   unfolding needed needsOf
   rows-fit split = omega (arith, split .added, room .linksMost)

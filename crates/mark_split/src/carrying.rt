@@ -17,7 +17,7 @@ ghost use Rattle.ot_layouts.specs.Numbers.{be16};
 ghost use Rattle.ot_layouts.specs.MarkBasePos.{classCountAt};
 ghost use Rattle.store_rules.specs.Store.{lent};
 ghost use Rattle.store_rules.specs.Moments.{storeCame, storeLeft, storeNow};
-ghost use Rattle.mark_links.specs.Splitting.{Split};
+ghost use Rattle.mark_links.specs.Splitting.{LinksSplit};
 ghost use Rattle.mark_split.specs.Carrying.{Relinking, Carrying, CutAt};
 
 // The table keeps its first `count` classes.
@@ -53,7 +53,7 @@ fn relink(
         ((b o : List ℕ)
         → Relinking (lent b o (came links) counts) table opened (came «data») (came objects) (came places) (came classes) (came «glyph_set»)
         (came cuts)
-        → Split (lent b o (came links) counts) table (came cuts) (left links) r)
+        → LinksSplit (lent b o (came links) counts) table (came cuts) (left links) r)
         ⌝ }
 {
     let marks = opened.marks;

@@ -4,9 +4,8 @@ use mathlib.Core.Bool.{Bool}
 use mathlib.Core.List.{List}
 use lib.ListN.{getD}
 use Rattle.ot_layouts.specs.PairPos.{shapeOf, isSlot}
-use Rattle.store_reader.specs.declared.LinkRows.{LinkRows}
-use Rattle.store_rules.specs.Store.{perLink}
+use Rattle.store_rules.specs.Store.{perLink, rowPosition}
 
 -- the row i behind row `first` stands at a slot of the table of bytes b
 abbrev pub slotAt : List ℕ → ℕ → List ℕ → ℕ → Bool
-slotAt l first b i = isSlot (shapeOf b) (getD l (perLink * (first + i) + 1) 0)
+slotAt l first b i = isSlot (shapeOf b) (getD l (perLink * (first + i) + rowPosition) 0)

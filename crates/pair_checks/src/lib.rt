@@ -21,7 +21,6 @@ ghost use lib.ListN.{length};
 ghost use Rattle.ot_layouts.specs.Coverage.{coverageOf, coverGlyphs};
 ghost use Rattle.ot_layouts.specs.ClassDef.{classDefOf};
 ghost use Rattle.store_rules.specs.Store.{Store, sound, bytesOf};
-ghost use Rattle.folds.specs.Moments.{came};
 ghost use Rattle.store_rules.specs.Moments.{storeCameWith, storeNowWith};
 ghost use Rattle.glyph_parts.specs.Parts.{linkedOf};
 ghost use Rattle.pair_checks.specs.Checked.{checkedAs, checkedOf, partsBy, setsBy, rowsBy};

@@ -19,7 +19,7 @@ use Rattle.store_reader.proofs.Rows.{in-order}
 use Rattle.ot_pairpos.specs.declared.Layout.{Layout}
 use Rattle.ot_pairpos.specs.Layout.{layoutOf, shapeWith}
 use Rattle.ot_pairpos.proofs.Layouts.{shape-with, layout-numbered}
-use Rattle.pair_links.specs.Parting.{Parting, Parted}
+use Rattle.pair_links.specs.Parting.{Parting, LinksSplit}
 
 -- what deciding has shown: the store is sound, the table is as long as its shape says, the cuts are in order and below the count, and there is room
 pub record Decided (s : Store) (t : ℕ) (sh : Shape) (cs : List ℕ) (class2 : ℕ) : Type 0 where
@@ -64,6 +64,6 @@ module _ (b o links counts : List ℕ) (t : ℕ) (layout : Layout) (is : layout 
       })
 
   -- a layout says all of a shape that the links ask
-  pub part-answered : (cs out : List ℕ) (r : ℕ) → ((x y : List ℕ) → Parted (lent x y links counts) t (shapeWith layout) cs out r) → Parted s t (shape s t) cs out r
+  pub part-answered : (cs out : List ℕ) (r : ℕ) → ((x y : List ℕ) → LinksSplit (lent x y links counts) t (shapeWith layout) cs out r) → LinksSplit s t (shape s t) cs out r
   part-answered cs out r told =
-      subst (λ (sh : Shape). Parted s t sh cs out r) (ap shapeWith is ∙ shape-with (bytesOf s t)) (told b o)
+      subst (λ (sh : Shape). LinksSplit s t sh cs out r) (ap shapeWith is ∙ shape-with (bytesOf s t)) (told b o)

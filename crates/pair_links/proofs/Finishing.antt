@@ -13,9 +13,9 @@ use Rattle.store_rules.specs.Store.{Store, Link, lent, linksOf, childAt, perLin
 use Rattle.pair_rules.specs.Written.{needLinks, tableLinks, newLinks}
 use Rattle.store_rules.specs.Appended.{rowNumbers}
 use Rattle.store_rules.proofs.LinkRows.{rows-numbers}
-use Rattle.store_link_rows.specs.Rows.{seg, span, row, rows, keptRow}
+use Rattle.store_link_rows.specs.Rows.{seg, segment, row, rows, keptRow}
 use Rattle.pair_links.specs.Blocks.{Plan, plan, tableId, newRows, parted, grown, PartedRows}
-use Rattle.pair_links.specs.Parting.{Between, Parted}
+use Rattle.pair_links.specs.Parting.{Between, LinksSplit}
 use Rattle.store_link_rows.proofs.Spans.{seg-ext, span-join, span-ext}
 use Rattle.store_link_rows.proofs.RowLaws.{rows-long, row-below, row-of-rows, own-rows}
 use Rattle.store_link_rows.proofs.Keeping.{kept-is, kept-long}
@@ -42,7 +42,7 @@ module _ (ls : List ℕ) (a b m : ℕ) (p : Plan) (ab : a ≤ b) (bm : b ≤ m) 
       ∙ row-below d (perLink * q) N (omega arith) (a + i) (omega arith)
       ∙ row-of-rows ls ls a b (m - b) i (omega arith) l
 
-  stay : (own : List ℕ) (t v : ℕ) → span (keptRow out own t v) 0 (m - (b - a)) ≡ span (keptRow ls own t v) 0 a ++ span (keptRow ls own t v) b m
+  stay : (own : List ℕ) (t v : ℕ) → segment (keptRow out own t v) 0 (m - (b - a)) ≡ segment (keptRow ls own t v) 0 a ++ segment (keptRow ls own t v) b m
   stay own t v =
       let q = m - (b - a) in
       let n : q - a ≡ m - b = omega arith in
@@ -66,14 +66,14 @@ module _ (ls : List ℕ) (a b m : ℕ) (p : Plan) (ab : a ≤ b) (bm : b ≤ m) 
       ∙ ap (put ls 0) (sym (append-assoc A R N))
       ∙ sym (put-put ls 0 (A ++ R) (perLink * (m - (b - a))) N (omega arith) f)
 
-  pub finished : (own : List ℕ) (t v : ℕ) (out′ : List ℕ) → out′ ≡ put out 0 (span (keptRow out own t v) 0 (m - (b - a)))
-      → out′ ≡ put ls 0 ((span (keptRow ls own t v) 0 a ++ span (keptRow ls own t v) b m) ++ newRows ls a b p)
+  pub finished : (own : List ℕ) (t v : ℕ) (out′ : List ℕ) → out′ ≡ put out 0 (segment (keptRow out own t v) 0 (m - (b - a)))
+      → out′ ≡ put ls 0 ((segment (keptRow ls own t v) 0 a ++ segment (keptRow ls own t v) b m) ++ newRows ls a b p)
   finished own t v out′ h =
       let q = m - (b - a) in
       let A = rows ls 0 a in
       let R = rows ls b m in
       let N = newRows ls a b p in
-      let S = span (keptRow ls own t v) 0 a ++ span (keptRow ls own t v) b m in
+      let S = segment (keptRow ls own t v) 0 a ++ segment (keptRow ls own t v) b m in
       let front = rows-long ls 0 a (omega arith) in
       let nr = length-append A R in
       let ns : length S ≡ perLink * q = ap length (sym (stay own t v)) ∙ (let l = kept-long out own t v 0 q (omega arith) in omega arith) in
@@ -87,12 +87,12 @@ module _ (ls : List ℕ) (a b m : ℕ) (p : Plan) (ab : a ≤ b) (bm : b ≤ m) 
       ∙ put-before d 0 S (perLink * q) N (omega arith) (omega (arith, ahead))
       ∙ put-over ls 0 (A ++ R) (S ++ N) (omega (arith, ahead)) (omega (arith, ahead))
 
-  pub finished-long : (own : List ℕ) (t v : ℕ) → length ((span (keptRow ls own t v) 0 a ++ span (keptRow ls own t v) b m) ++ newRows ls a b p) ≡ perLink * grown m p
+  pub finished-long : (own : List ℕ) (t v : ℕ) → length ((segment (keptRow ls own t v) 0 a ++ segment (keptRow ls own t v) b m) ++ newRows ls a b p) ≡ perLink * grown m p
   finished-long own t v =
       let x = kept-long ls own t v 0 a (omega arith) in
       let y = kept-long ls own t v b m bm in
-      let u = length-append (span (keptRow ls own t v) 0 a) (span (keptRow ls own t v) b m) in
-      let w = length-append (span (keptRow ls own t v) 0 a ++ span (keptRow ls own t v) b m) (newRows ls a b p) in
+      let u = length-append (segment (keptRow ls own t v) 0 a) (segment (keptRow ls own t v) b m) in
+      let w = length-append (segment (keptRow ls own t v) 0 a ++ segment (keptRow ls own t v) b m) (newRows ls a b p) in
       let z = length-append (rows ls b m) (newRows ls a b p) in
       omega (arith, ahead, done .long)
 
@@ -106,8 +106,8 @@ module _ (s : Store) (t : ℕ) (l : Layout) (cs : List ℕ) (a b class2 : ℕ) (
   v = tableId (planOf s l cs class2) (length cs)
 
   pub parted-links : (out out′ : List ℕ) → PartedRows (s .links) out a b (s .linkCount) (planOf s l cs class2)
-      → out′ ≡ put out 0 (span (keptRow out (ownIn (l .format)) t v) 0 (s .linkCount - (b - a)))
-      → Parted s t sh cs out′ (s .linkCount + l .heads * length cs)
+      → out′ ≡ put out 0 (segment (keptRow out (ownIn (l .format)) t v) 0 (s .linkCount - (b - a)))
+      → LinksSplit s t sh cs out′ (s .linkCount + l .heads * length cs)
   unfolding needLinks
   parted-links out out′ done h =
       let p = planOf s l cs class2 in
@@ -128,8 +128,8 @@ rows-alone x y x′ y′ ls cts t sh cs = refl
 
 pub parted-call : (ls cts : List ℕ) (t : ℕ) (l : Layout) (cs : List ℕ) (a b class2 : ℕ) → Between (lent [] [] ls cts) t l cs a b class2
     → (out out′ : List ℕ) → PartedRows ls out a b (getD cts 2 0) (plan cs l (getD cts 1 0) class2)
-    → out′ ≡ put out 0 (span (keptRow out (ownIn (l .format)) t (getD cts 1 0 + (l .own + 1) * length cs)) 0 (getD cts 2 0 - (b - a)))
-    → (x y : List ℕ) → Parted (lent x y ls cts) t (shapeWith l) cs out′ (getD cts 2 0 + l .heads * length cs)
+    → out′ ≡ put out 0 (segment (keptRow out (ownIn (l .format)) t (getD cts 1 0 + (l .own + 1) * length cs)) 0 (getD cts 2 0 - (b - a)))
+    → (x y : List ℕ) → LinksSplit (lent x y ls cts) t (shapeWith l) cs out′ (getD cts 2 0 + l .heads * length cs)
 parted-call ls cts t l cs a b class2 g out out′ done h x y =
     let r = parted-links (lent [] [] ls cts) t l cs a b class2 g out out′ done h in
     let same = rows-alone [] [] x y ls cts t (shapeWith l) cs in

@@ -6,7 +6,7 @@ use native.Mathlib.Omega.{arith}
 use lib.ListN.{length, getD, length-append}
 use Rattle.folds.specs.Lists.{put}
 use Rattle.folds.proofs.Put.{put-put, length-put, put-over}
-use Rattle.store_link_rows.specs.Rows.{seg, positionIn, widthIn, childIn, row, rows, Ordered}
+use Rattle.store_link_rows.specs.Rows.{seg, positionIn, widthIn, childIn, row, rows, PositionsRise}
 use Rattle.store_rules.specs.Store.{perLink}
 use Rattle.pair_links.specs.Blocks.{Plan, tables, tableId, movedRow, share, headRows, tableRows, newRows, grown, Spread, PartedRows}
 use Rattle.store_link_rows.proofs.Spans.{seg-ext, span-ext}
@@ -51,7 +51,7 @@ module _ (ls : List ℕ) (a b m : ℕ) (ab : a ≤ b) (bm : b ≤ m) (room : per
   position-there : (k : ℕ) → a + (m - b) ≤ k → k < m → positionIn out k ≡ positionIn ls (k - (m - b))
   position-there k l h = position-is ls out (k - (m - b)) k (there-at k l h)
 
-  pub ordered-there : Ordered ls a b → Ordered out (a + (m - b)) m
+  pub ordered-there : PositionsRise ls a b → PositionsRise out (a + (m - b)) m
   ordered-there o i j l h u =
       omega (
         arith,

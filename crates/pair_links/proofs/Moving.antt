@@ -8,9 +8,9 @@ use lib.ListN.{length, getD}
 use Rattle.folds.specs.Lists.{put}
 use Rattle.folds.proofs.Tests.{either}
 use Rattle.folds.proofs.Put.{put-nil, put-below, put-before}
-use Rattle.store_link_rows.specs.Rows.{span, positionIn}
-use Rattle.store_rules.specs.Store.{perLink}
-use Rattle.pair_links.specs.Blocks.{movedRow, Moved}
+use Rattle.store_link_rows.specs.Rows.{segment, positionIn}
+use Rattle.store_rules.specs.Store.{perLink, rowPosition, rowWidth, rowChild}
+use Rattle.pair_links.specs.Blocks.{movedRow, MovedUp}
 use Rattle.store_link_rows.proofs.Spans.{span-empty, span-front}
 use Rattle.store_link_rows.proofs.RowLaws.{length-span}
 
@@ -19,7 +19,7 @@ unfolding movedRow
 length-moved ls parent down k = refl
 
 -- the moved rows are as many as they were
-pub moved-long : (ls : List ℕ) (parent down lo hi : ℕ) → lo ≤ hi → perLink * lo + length (span (movedRow ls parent down) lo hi) ≡ perLink * hi
+pub moved-long : (ls : List ℕ) (parent down lo hi : ℕ) → lo ≤ hi → perLink * lo + length (segment (movedRow ls parent down) lo hi) ≡ perLink * hi
 moved-long ls parent down lo hi l = length-span (movedRow ls parent down) (length-moved ls parent down) lo hi l
 
 pub record Up (ls : List ℕ) (q count to bound down parent : ℕ) (out : List ℕ) (left at : ℕ) : Type 0 where
@@ -30,7 +30,7 @@ pub record Up (ls : List ℕ) (q count to bound down parent : ℕ) (out : List �
   pub down-le : down ≤ bound
   pub same : length out ≡ length ls
   pub above : (k : ℕ) → q + left ≤ k → k < q + count → bound ≤ positionIn ls k
-  pub is : out ≡ put ls (perLink * at) (span (movedRow ls parent down) (q + left) (q + count))
+  pub is : out ≡ put ls (perLink * at) (segment (movedRow ls parent down) (q + left) (q + count))
 
 pub up-start : (ls : List ℕ) (q count to bound down parent : ℕ) → q + count ≤ to → perLink * to ≤ length ls → down ≤ bound → Up ls q count to bound down parent ls count to
 up-start ls q count to bound down parent f r d =
@@ -48,19 +48,19 @@ up-start ls q count to bound down parent f r d =
 module _ (ls : List ℕ) (q count to bound down parent : ℕ) (out : List ℕ) (left at : ℕ) (u : Up ls q count to bound down parent out left at) where
   -- what is not moved yet is as it was
   pub up-read : (i : ℕ) → i < perLink * at → getD out i 0 ≡ getD ls i 0
-  up-read i l = ap (λ (o : List ℕ). getD o i 0) (u .is) ∙ put-below ls (perLink * at) (span (movedRow ls parent down) (q + left) (q + count)) (omega (arith, u .place, u .few, u .room)) i l
+  up-read i l = ap (λ (o : List ℕ). getD o i 0) (u .is) ∙ put-below ls (perLink * at) (segment (movedRow ls parent down) (q + left) (q + count)) (omega (arith, u .place, u .few, u .room)) i l
 
   -- the last row that is not moved yet
   last : 0 < left → movedRow out parent down (q + left - 1) ≡ movedRow ls parent down (q + left - 1)
   unfolding movedRow
   last l =
-      let p = up-read (perLink * (q + left - 1) + 1) (omega (arith, u .place, u .free)) in
-      let w = up-read (perLink * (q + left - 1) + 2) (omega (arith, u .place, u .free)) in
-      let c = up-read (perLink * (q + left - 1) + 3) (omega (arith, u .place, u .free)) in
+      let p = up-read (perLink * (q + left - 1) + rowPosition) (omega (arith, u .place, u .free)) in
+      let w = up-read (perLink * (q + left - 1) + rowWidth) (omega (arith, u .place, u .free)) in
+      let c = up-read (perLink * (q + left - 1) + rowChild) (omega (arith, u .place, u .free)) in
       cc
 
   last-position : 0 < left → positionIn out (q + left - 1) ≡ positionIn ls (q + left - 1)
-  last-position l = up-read (perLink * (q + left - 1) + 1) (omega (arith, u .place, u .free))
+  last-position l = up-read (perLink * (q + left - 1) + rowPosition) (omega (arith, u .place, u .free))
 
   pub up-turn : (out′ : List ℕ) → 0 < left → bound ≤ positionIn out (q + left - 1) → length out′ ≡ length out
       → out′ ≡ put out (perLink * (at - 1)) (movedRow out parent down (q + left - 1)) → Up ls q count to bound down parent out′ (left - 1) (at - 1)
@@ -83,24 +83,24 @@ module _ (ls : List ℕ) (q count to bound down parent : ℕ) (out : List ℕ) (
         is =
             h
             ∙ ap₂ (λ (o v : List ℕ). put o (perLink * (at - 1)) v) (u .is) (last l)
-            ∙ put-before ls (perLink * (at - 1)) (f (q + left - 1)) (perLink * at) (span f (q + left) (q + count))
+            ∙ put-before ls (perLink * (at - 1)) (f (q + left - 1)) (perLink * at) (segment f (q + left) (q + count))
             (omega (arith, u .place, u .free, length-moved ls parent down (q + left - 1))) (omega (arith, u .place, u .free, u .room))
             ∙ ap (put ls (perLink * (at - 1)))
-            (ap₂ (λ (x y : ℕ). f x ++ span f y (q + count)) k k1 ∙ sym (span-front f (q + (left - 1)) (q + count) (omega (arith, u .few))));
+            (ap₂ (λ (x y : ℕ). f x ++ segment f y (q + count)) k k1 ∙ sym (span-front f (q + (left - 1)) (q + count) (omega (arith, u .few))));
       }
 
-  done : (0 < left → positionIn ls (q + left - 1) < bound) → Moved ls out q count to bound down parent left
+  done : (0 < left → positionIn ls (q + left - 1) < bound) → MovedUp ls out q count to bound down parent left
   done h =
       let e : at ≡ to - (count - left) = omega (arith, u .place, u .few) in
       record {
         few = u .few;
         above = u .above;
         below = h;
-        is = u .is ∙ ap (λ (x : ℕ). put ls (perLink * x) (span (movedRow ls parent down) (q + left) (q + count))) e;
+        is = u .is ∙ ap (λ (x : ℕ). put ls (perLink * x) (segment (movedRow ls parent down) (q + left) (q + count))) e;
       }
 
-  pub up-stop : 0 < left → positionIn out (q + left - 1) < bound → Moved ls out q count to bound down parent left
+  pub up-stop : 0 < left → positionIn out (q + left - 1) < bound → MovedUp ls out q count to bound down parent left
   up-stop l b = done (λ h. rw (last-position l) at b)
 
-  pub up-all : left ≤ 0 → Moved ls out q count to bound down parent left
+  pub up-all : left ≤ 0 → MovedUp ls out q count to bound down parent left
   up-all l = done (λ h. absurd (omega arith))

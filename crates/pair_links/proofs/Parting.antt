@@ -11,7 +11,7 @@ use borrow.Author.Tests.{lt-ltb, le-ltb, le-leb, lt-leb}
 use Rattle.folds.proofs.Tests.{either, and-intro, and-second}
 use Rattle.ot_layouts.specs.PairPos.{Shape, itemAt}
 use Rattle.ot_layouts.proofs.Shapes.{items-rise}
-use Rattle.store_rules.specs.Store.{Store, perLink, linkAt, parentOf, positionOf}
+use Rattle.store_rules.specs.Store.{Store, perLink, rowPosition, linkAt, parentOf, positionOf}
 use Rattle.pair_rules.specs.Table.{ofItems}
 use Rattle.cut_rules.specs.Ranges.{from}
 use Rattle.ot_pairpos.specs.declared.Layout.{Layout}
@@ -20,7 +20,7 @@ use Rattle.ot_pairpos.proofs.Layouts.{few-heads}
 use Rattle.pair_rules.proofs.ItemLinks.{items-from}
 use Rattle.store_reader.specs.Rows.{keyOf, FirstRow}
 use Rattle.store_reader.proofs.Rows.{rows-between, rows-rise}
-use Rattle.store_link_rows.specs.Rows.{positionIn, Ordered}
+use Rattle.store_link_rows.specs.Rows.{positionIn, PositionsRise}
 use Rattle.pair_links.specs.Blocks.{Plan, plan, edge, grown, Fit}
 use Rattle.pair_links.specs.Parting.{Parting, Between}
 use Rattle.pair_links.proofs.Spreading.{edge-at}
@@ -53,7 +53,7 @@ module _ (s : Store) (t : ℕ) (l : Layout) (cs : List ℕ) (a b class2 : ℕ) (
   stays-after k l h = g .these k h ∙ and-second (leb a k) (ltb k b) (le-ltb k b l)
 
   -- the rows that move are rows of one table, so they are in order by their positions
-  pub in-order : Ordered (s .links) a b
+  pub in-order : PositionsRise (s .links) a b
   in-order i j m h u =
       let (p, x, y) = moves i m (omega arith) in
       let (q, v, w) = moves j (omega arith) u in
@@ -71,7 +71,7 @@ pub record Ready (s : Store) (l : Layout) (cs : List ℕ) (a b class2 : ℕ) : T
   pub ends : a ≤ b
   pub used : b ≤ s .linkCount
   pub room : perLink * grown (s .linkCount) (planOf s l cs class2) ≤ length (s .links)
-  pub order : Ordered (s .links) a b
+  pub order : PositionsRise (s .links) a b
   pub bottom : (k : ℕ) → a ≤ k → k < b → edge (planOf s l cs class2) 0 ≤ positionIn (s .links) k
   pub numbers : s .objectCount + (l .own + 1) * length cs + 1 < 4294967296
 
@@ -109,5 +109,5 @@ module _ (s : Store) (t : ℕ) (l : Layout) (cs : List ℕ) (class2 : ℕ) (g : 
         known = g;
         ordered = rows-rise f h (omega (arith, start-rises));
         used = h .within;
-        these = λ k m. sym (rows-between t (itemAt shaped (from cs 0)) (itemAt shaped (shaped .count)) f h end k m (small (perLink * k + 1)));
+        these = λ k m. sym (rows-between t (itemAt shaped (from cs 0)) (itemAt shaped (shaped .count)) f h end k m (small (perLink * k + rowPosition)));
       }

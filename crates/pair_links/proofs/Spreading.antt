@@ -11,15 +11,15 @@ use borrow.Author.Tests.{lt-ltb, le-ltb, le-leb, lt-leb}
 use Rattle.folds.specs.Lists.{put, part}
 use Rattle.folds.proofs.Tests.{by-test, either, and-second}
 use Rattle.folds.proofs.Put.{put-nil, put-below, put-before}
-use Rattle.store_link_rows.specs.Rows.{span, positionIn, Ordered}
-use Rattle.pair_links.specs.Blocks.{Plan, tables, shift, edge, inside, tableId, movedRow, share, per, headRows, headCount, tableRows, grown, Fit, Moved, Spread}
+use Rattle.store_link_rows.specs.Rows.{segment, positionIn, PositionsRise}
+use Rattle.pair_links.specs.Blocks.{Plan, tables, shift, edge, inside, tableId, movedRow, share, per, headRows, headCount, tableRows, grown, Fit, MovedUp, Spread}
 use Rattle.store_link_rows.proofs.Spans.{span-empty, span-join, span-front, span-none, span-ext}
 use Rattle.pair_links.proofs.Moving.{moved-long}
 use Rattle.ot_layouts.specs.PairPos.{coverAt, class1At, class2At, ownIn, sharedIn}
 use Rattle.ot_pairpos.specs.declared.Layout.{Layout}
 use Rattle.ot_pairpos.specs.Layout.{Numbered}
 use Rattle.ot_pairpos.proofs.Layouts.{few-heads}
-use Rattle.store_rules.specs.Store.{perLink}
+use Rattle.store_rules.specs.Store.{perLink, rowPosition, rowWidth, rowChild}
 use Rattle.store_rules.specs.Header.{headerLinks}
 use Rattle.store_rules.proofs.LinkRows.{rows-numbers}
 use Rattle.store_rules.proofs.Header.{header-many}
@@ -83,15 +83,15 @@ pub share-part : (ls : List ℕ) (p : Plan) (q u v m j : ℕ) → q ≤ u → u 
     → ((k : ℕ) → u ≤ k → k < v → edge p j ≤ positionIn ls k)
     → ((k : ℕ) → q ≤ k → k < v → positionIn ls k < edge p (j + 1))
     → ((k : ℕ) → v ≤ k → k < m → edge p (j + 1) ≤ positionIn ls k)
-    → span (share ls p j) q m ≡ span (movedRow ls (tableId p j) (shift p j)) u v
+    → segment (share ls p j) q m ≡ segment (movedRow ls (tableId p j) (shift p j)) u v
 share-part ls p q u v m j qu uv vm low own under high =
     let s = share ls p j in
     let g = movedRow ls (tableId p j) (shift p j) in
-    let a : span s q u ≡ [] = span-none s q u (λ k l h. share-none-below ls p j k (low k l h)) in
-    let b : span s u v ≡ span g u v = span-ext s g u v (λ k l h. share-own ls p j k (own k l h) (under k (omega arith) h)) in
-    let c : span s v m ≡ [] = span-none s v m (λ k l h. share-none-above ls p j k (high k l h)) in
+    let a : segment s q u ≡ [] = span-none s q u (λ k l h. share-none-below ls p j k (low k l h)) in
+    let b : segment s u v ≡ segment g u v = span-ext s g u v (λ k l h. share-own ls p j k (own k l h) (under k (omega arith) h)) in
+    let c : segment s v m ≡ [] = span-none s v m (λ k l h. share-none-above ls p j k (high k l h)) in
     span-join s q u m qu (omega arith)
-    ∙ ap₂ (λ (x y : List ℕ). x ++ y) a (span-join s u v m uv vm ∙ ap₂ (λ (x y : List ℕ). x ++ y) b c ∙ append-nil (span g u v))
+    ∙ ap₂ (λ (x y : List ℕ). x ++ y) a (span-join s u v m uv vm ∙ ap₂ (λ (x y : List ℕ). x ++ y) b c ∙ append-nil (segment g u v))
 
 more : (n i : ℕ) → n * (i + 1) ≡ n * i + n
 more n i = mul-add n i 1 ∙ ap (λ (x : ℕ). n * i + x) (mul-one n)
@@ -101,7 +101,7 @@ pub record Given (ls : List ℕ) (q m : ℕ) (p : Plan) : Type 0 where
   pub fit : Fit p
   pub some : q ≤ m
   pub room : perLink * grown m p ≤ length ls
-  pub ordered : Ordered ls q m
+  pub ordered : PositionsRise ls q m
   pub floor : (k : ℕ) → q ≤ k → k < m → edge p 0 ≤ positionIn ls k
 
 pub record At (ls : List ℕ) (q m : ℕ) (p : Plan) (out : List ℕ) (j left at table : ℕ) : Type 0 where
@@ -113,13 +113,13 @@ pub record At (ls : List ℕ) (q m : ℕ) (p : Plan) (out : List ℕ) (j left at
   pub same : length out ≡ length ls
   pub low : (k : ℕ) → q ≤ k → k < q + left → positionIn ls k < edge p j
   pub high : (k : ℕ) → q + left ≤ k → k < m → edge p j ≤ positionIn ls k
-  pub long : perLink * at + length (span (tableRows ls q m p) j (tables p)) ≡ perLink * grown m p
-  pub is : out ≡ put ls (perLink * at) (span (tableRows ls q m p) j (tables p))
+  pub long : perLink * at + length (segment (tableRows ls q m p) j (tables p)) ≡ perLink * grown m p
+  pub is : out ≡ put ls (perLink * at) (segment (tableRows ls q m p) j (tables p))
 
 pub at-start : (ls : List ℕ) (q m : ℕ) (p : Plan) → Given ls q m p → ((i : ℕ) → getD ls i 0 < 4294967296) → At ls q m p ls (tables p) (m - q) (m + headCount p * tables p) (tableId p (tables p))
 at-start ls q m p g w =
     let e = span-empty (tableRows ls q m p) (tables p) in
-    let z : length (span (tableRows ls q m p) (tables p) (tables p)) ≡ 0 = ap length e in
+    let z : length (segment (tableRows ls q m p) (tables p) (tables p)) ≡ 0 = ap length e in
     record {
       given = g;
       turns = omega arith;
@@ -127,7 +127,7 @@ at-start ls q m p g w =
       place = omega (arith, g .some);
       name = refl;
       same = refl;
-      low = λ k l h. omega (arith, w (perLink * k + 1), edge-end p);
+      low = λ k l h. omega (arith, w (perLink * k + rowPosition), edge-end p);
       high = λ k l h. absurd (omega (arith, g .some));
       long = omega (arith, z);
       is = put-nil ls (perLink * (m + headCount p * tables p)) ∙ ap (put ls (perLink * (m + headCount p * tables p))) (sym e);
@@ -140,7 +140,7 @@ module _ (ls : List ℕ) (q m : ℕ) (p : Plan) (out : List ℕ) (j left at tabl
   pub at-read : (i : ℕ) → i < perLink * at → getD out i 0 ≡ getD ls i 0
   at-read i l =
       ap (λ (o : List ℕ). getD o i 0) (s .is)
-      ∙ put-below ls (perLink * at) (span (tableRows ls q m p) j (tables p)) (omega (arith, reach, s .given .room)) i l
+      ∙ put-below ls (perLink * at) (segment (tableRows ls q m p) j (tables p)) (omega (arith, reach, s .given .room)) i l
 
   pub at-done : j ≡ 0 → Spread ls out q m p
   at-done e =
@@ -174,25 +174,25 @@ module _ (ls : List ℕ) (q m : ℕ) (p : Plan) (out : List ℕ) (j left at tabl
   unfolding movedRow
   moved-same k u t =
       let rl = room-left in
-      let a = at-read ls q m p out j left at table s (perLink * k + 1) (omega arith) in
-      let b = at-read ls q m p out j left at table s (perLink * k + 2) (omega arith) in
-      let c = at-read ls q m p out j left at table s (perLink * k + 3) (omega arith) in
+      let a = at-read ls q m p out j left at table s (perLink * k + rowPosition) (omega arith) in
+      let b = at-read ls q m p out j left at table s (perLink * k + rowWidth) (omega arith) in
+      let c = at-read ls q m p out j left at table s (perLink * k + rowChild) (omega arith) in
       cc
 
   -- the heads, the rows that moved, and the tables after them
-  joined : (rest : ℕ) → i < tables p → span (share ls p i) q m ≡ span (movedRow ls (tableId p i) (shift p i)) (q + rest) (q + left)
-      → headRows (p .layout .format) (p .class2) (tableId p i) ++ (span (movedRow ls (tableId p i) (shift p i)) (q + rest) (q + left) ++ span (tableRows ls q m p) j (tables p))
-      ≡ span (tableRows ls q m p) i (tables p)
+  joined : (rest : ℕ) → i < tables p → segment (share ls p i) q m ≡ segment (movedRow ls (tableId p i) (shift p i)) (q + rest) (q + left)
+      → headRows (p .layout .format) (p .class2) (tableId p i) ++ (segment (movedRow ls (tableId p i) (shift p i)) (q + rest) (q + left) ++ segment (tableRows ls q m p) j (tables p))
+      ≡ segment (tableRows ls q m p) i (tables p)
   unfolding tableRows
   joined rest ik part =
       let T = tableRows ls q m p in
       let H = headRows (p .layout .format) (p .class2) (tableId p i) in
-      let S = span (movedRow ls (tableId p i) (shift p i)) (q + rest) (q + left) in
-      sym (append-assoc H S (span T j (tables p)))
-      ∙ ap₂ (λ (x : List ℕ) (y : ℕ). (H ++ x) ++ span T y (tables p)) (sym part) e
+      let S = segment (movedRow ls (tableId p i) (shift p i)) (q + rest) (q + left) in
+      sym (append-assoc H S (segment T j (tables p)))
+      ∙ ap₂ (λ (x : List ℕ) (y : ℕ). (H ++ x) ++ segment T y (tables p)) (sym part) e
       ∙ sym (span-front T i (tables p) ik)
 
-  pub at-turn : (mid out′ : List ℕ) (rest : ℕ) → Moved out mid q left at (p .layout .header + shift p i) (shift p i) (table - per p) rest
+  pub at-turn : (mid out′ : List ℕ) (rest : ℕ) → MovedUp out mid q left at (p .layout .header + shift p i) (shift p i) (table - per p) rest
       → length out′ ≡ length out → out′ ≡ put mid (perLink * (at - (left - rest) - headCount p)) (headRows (p .layout .format) (p .class2) (table - per p))
       → At ls q m p out′ i rest (at - (left - rest) - headCount p) (table - per p)
   at-turn mid out′ rest mv n h =
@@ -203,18 +203,18 @@ module _ (ls : List ℕ) (q m : ℕ) (p : Plan) (out : List ℕ) (j left at tabl
       let ej : edge p j ≡ edge p (i + 1) = ap (edge p) e in
       let fw : rest ≤ left = mv .few in
       let rl = room-left in
-      let pos : (k : ℕ) → k < q + left → positionIn out k ≡ positionIn ls k = λ k l. at-read ls q m p out j left at table s (perLink * k + 1) (omega arith) in
+      let pos : (k : ℕ) → k < q + left → positionIn out k ≡ positionIn ls k = λ k l. at-read ls q m p out j left at table s (perLink * k + rowPosition) (omega arith) in
       let own : (k : ℕ) → q + rest ≤ k → k < q + left → edge p i ≤ positionIn ls k = λ k l u. omega (arith, mv .above k l u, pos k u) in
       let low : (k : ℕ) → q ≤ k → k < q + rest → positionIn ls k < edge p i =
       λ k l u. omega (arith, mv .below (omega arith), pos (q + rest - 1) (omega arith), s .given .ordered k (q + rest - 1) l (omega arith) (omega (arith, s .few))) in
       let under : (k : ℕ) → q ≤ k → k < q + left → positionIn ls k < edge p (i + 1) = λ k l u. omega (arith, s .low k l u) in
       let over : (k : ℕ) → q + left ≤ k → k < m → edge p (i + 1) ≤ positionIn ls k = λ k l u. omega (arith, s .high k l u) in
       let f = movedRow ls (tableId p i) (shift p i) in
-      let S = span f (q + rest) (q + left) in
-      let T = span (tableRows ls q m p) j K in
+      let S = segment f (q + rest) (q + left) in
+      let T = segment (tableRows ls q m p) j K in
       let H = headRows (p .layout .format) (p .class2) (tableId p i) in
-      let part : span (share ls p i) q m ≡ S = share-part ls p q (q + rest) (q + left) m i (omega arith) (omega arith) (s .few) low own under over in
-      let moved : span (movedRow out (table - per p) (shift p i)) (q + rest) (q + left) ≡ S =
+      let part : segment (share ls p i) q m ≡ S = share-part ls p q (q + rest) (q + left) m i (omega arith) (omega arith) (s .few) low own under over in
+      let moved : segment (movedRow out (table - per p) (shift p i)) (q + rest) (q + left) ≡ S =
       span-ext (movedRow out (table - per p) (shift p i)) f (q + rest) (q + left) (λ k l u. moved-same k u t) in
       let ns : perLink * (q + rest) + length S ≡ perLink * (q + left) = moved-long ls (tableId p i) (shift p i) (q + rest) (q + left) (omega arith) in
       let nh : length H ≡ perLink * headCount p = length-heads p (tableId p i) (s .given .fit) in
@@ -225,7 +225,7 @@ module _ (ls : List ℕ) (q m : ℕ) (p : Plan) (out : List ℕ) (j left at tabl
       let e2 : perLink * at1 ≡ perLink * (at1 - headCount p) + length H = omega arith in
       let nst = length-append S T in
       let nhst = length-append H (S ++ T) in
-      let whole : H ++ (S ++ T) ≡ span (tableRows ls q m p) i K = joined rest ik part in
+      let whole : H ++ (S ++ T) ≡ segment (tableRows ls q m p) i K = joined rest ik part in
       let mid-is : mid ≡ put ls (perLink * at1) (S ++ T) =
       mv .is ∙ ap₂ (λ (o v : List ℕ). put o (perLink * at1) v) (s .is) moved ∙ put-before ls (perLink * at1) S (perLink * at) T e1 (omega arith) in
       record {

@@ -17,7 +17,7 @@ use Rattle.folds.proofs.Parts.{getD-default}
 use Rattle.folds.proofs.FromTheFront.{flat-same}
 use Rattle.ot_layouts.specs.PairPos.{Shape, ownIn, sharedIn, itemAt}
 use Rattle.ot_layouts.proofs.Shapes.{items-rise}
-use Rattle.store_rules.specs.Store.{Store, Link, linkAt, linksOf, parentOf, positionOf, linkedAt, perLink}
+use Rattle.store_rules.specs.Store.{Store, Link, linkAt, linksOf, parentOf, positionOf, linkedAt}
 use Rattle.pair_rules.specs.Table.{ofItems}
 use Rattle.cut_rules.specs.Ranges.{from, to}
 use Rattle.pair_rules.specs.Written.{perTable, headLinks, moved, tableLinks, newLinks}
@@ -26,7 +26,7 @@ use Rattle.store_rules.proofs.Header.{header-same}
 use Rattle.ot_pairpos.specs.declared.Layout.{Layout}
 use Rattle.ot_pairpos.specs.Layout.{shapeWith}
 use Rattle.store_rules.specs.Appended.{rowNumbers, newNumber}
-use Rattle.store_link_rows.specs.Rows.{span, positionIn, keptRow}
+use Rattle.store_link_rows.specs.Rows.{segment, positionIn, keptRow}
 use Rattle.pair_links.specs.Blocks.{Plan, edge, inside, tableId, movedRow, share, headRows, tableRows, newRows}
 use Rattle.pair_links.specs.Parting.{Between}
 use Rattle.store_link_rows.proofs.Keeping.{numbers-kept}
@@ -37,16 +37,16 @@ use Rattle.pair_links.proofs.Parting.{planOf, moves, stays-before, stay
 
 -- rows of which only those from a up to b are given, and rows of which only those are not
 module _ (f g : ℕ → List ℕ) (a b m : ℕ) (ab : a ≤ b) (bm : b ≤ m) where
-  pub only-between : ((k : ℕ) → k < a → f k ≡ []) → ((k : ℕ) → a ≤ k → k < b → f k ≡ g k) → ((k : ℕ) → b ≤ k → k < m → f k ≡ []) → flat f m ≡ span g a b
+  pub only-between : ((k : ℕ) → k < a → f k ≡ []) → ((k : ℕ) → a ≤ k → k < b → f k ≡ g k) → ((k : ℕ) → b ≤ k → k < m → f k ≡ []) → flat f m ≡ segment g a b
   only-between low own high =
       flat-span f m
       ∙ span-join f 0 a m (omega arith) (omega arith)
       ∙ ap₂ (λ (x y : List ℕ). x ++ y) (span-none f 0 a (λ k l h. low k h))
       (span-join f a b m ab bm
       ∙ ap₂ (λ (x y : List ℕ). x ++ y) (span-ext f g a b own) (span-none f b m high)
-      ∙ append-nil (span g a b))
+      ∙ append-nil (segment g a b))
 
-  pub all-but-between : ((k : ℕ) → k < a → f k ≡ g k) → ((k : ℕ) → a ≤ k → k < b → f k ≡ []) → ((k : ℕ) → b ≤ k → k < m → f k ≡ g k) → flat f m ≡ span g 0 a ++ span g b m
+  pub all-but-between : ((k : ℕ) → k < a → f k ≡ g k) → ((k : ℕ) → a ≤ k → k < b → f k ≡ []) → ((k : ℕ) → b ≤ k → k < m → f k ≡ g k) → flat f m ≡ segment g 0 a ++ segment g b m
   all-but-between low own high =
       flat-span f m
       ∙ span-join f 0 a m (omega arith) (omega arith)
@@ -82,7 +82,7 @@ module _ (s : Store) (t : ℕ) (layout : Layout) (cs : List ℕ) (a b class2 : �
   -- ---- the links that stay
 
   stayed : (v : ℕ) → rowNumbers (map (kept (sh .own) t v) (sift (λ l. not (ofItems t sh (from cs 0) (sh .count) l)) (linksOf s)))
-      ≡ span (keptRow (s .links) (sh .own) t v) 0 a ++ span (keptRow (s .links) (sh .own) t v) b (s .linkCount)
+      ≡ segment (keptRow (s .links) (sh .own) t v) 0 a ++ segment (keptRow (s .links) (sh .own) t v) b (s .linkCount)
   unfolding linksOf
   stayed v =
       numbers-sifted (kept (sh .own) t v) (λ l. not (ofItems t sh (from cs 0) (sh .count) l)) (linkAt s) (s .linkCount)
@@ -137,7 +137,7 @@ module _ (s : Store) (t : ℕ) (layout : Layout) (cs : List ℕ) (a b class2 : �
         (ap (λ (z : Bool). leb (itemAt sh (from cs j)) (positionOf s k) && z) (upper k l h))
 
     cut-off : rowNumbers (map (moved sh (tableId planned j) (from cs j)) (sift (ofItems t sh (from cs j) (to (sh .count) cs j)) (linksOf s)))
-        ≡ span (share (s .links) planned j) a b
+        ≡ segment (share (s .links) planned j) a b
     unfolding linksOf share
     cut-off =
         let u = tableId planned j in
@@ -157,7 +157,7 @@ module _ (s : Store) (t : ℕ) (layout : Layout) (cs : List ℕ) (a b class2 : �
   -- ---- all links
 
   pub link-numbers : rowNumbers (newLinks s t sh cs)
-      ≡ (span (keptRow (s .links) (sh .own) t (tableId planned (length cs))) 0 a ++ span (keptRow (s .links) (sh .own) t (tableId planned (length cs))) b (s .linkCount))
+      ≡ (segment (keptRow (s .links) (sh .own) t (tableId planned (length cs))) 0 a ++ segment (keptRow (s .links) (sh .own) t (tableId planned (length cs))) b (s .linkCount))
       ++ newRows (s .links) a b planned
   unfolding newLinks
   link-numbers =

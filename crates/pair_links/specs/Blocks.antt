@@ -12,7 +12,7 @@ use Rattle.ot_pairpos.specs.declared.Layout.{Layout}
 use Rattle.ot_pairpos.specs.Layout.{Numbered}
 use Rattle.store_rules.specs.Appended.{rowNumbers}
 use Rattle.store_rules.specs.Header.{headerLinks}
-use Rattle.store_link_rows.specs.Rows.{span, positionIn, widthIn, childIn, four, rows}
+use Rattle.store_link_rows.specs.Rows.{segment, positionIn, widthIn, childIn, four, rows}
 
 -- The items of a table of this layout are parted: new table j gets those from cuts[j] on. `first` is the number of the first new table, class2 the object
 -- that new tables share.
@@ -68,11 +68,11 @@ headCount p = p .layout .heads
 
 -- the rows of new table j, where rows a up to b move
 unfoldable pub tableRows : List ℕ → ℕ → ℕ → Plan → ℕ → List ℕ
-tableRows ls a b p j = headRows (p .layout .format) (p .class2) (tableId p j) ++ span (share ls p j) a b
+tableRows ls a b p j = headRows (p .layout .format) (p .class2) (tableId p j) ++ segment (share ls p j) a b
 
 -- the rows of all new tables
 abbrev pub newRows : List ℕ → ℕ → ℕ → Plan → List ℕ
-newRows ls a b p = span (tableRows ls a b p) 0 (tables p)
+newRows ls a b p = segment (tableRows ls a b p) 0 (tables p)
 
 -- of m rows, those from row a on: rows b up to m, which stay, and then the new tables'
 abbrev pub parted : List ℕ → ℕ → ℕ → ℕ → Plan → List ℕ
@@ -90,11 +90,11 @@ pub record Fit (p : Plan) : Type 0 where
   pub numbers : p .first + per p * tables p ≤ 4294967296
 
 -- `move_up` leaves r of the rows; the others are at the bound or above, and stand before row `to`
-pub record Moved (ls out : List ℕ) (q count to bound down parent r : ℕ) : Type 0 where
+pub record MovedUp (ls out : List ℕ) (q count to bound down parent r : ℕ) : Type 0 where
   pub few : r ≤ count
   pub above : (k : ℕ) → q + r ≤ k → k < q + count → bound ≤ positionIn ls k
   pub below : 0 < r → positionIn ls (q + r - 1) < bound
-  pub is : out ≡ put ls (perLink * (to - (count - r))) (span (movedRow ls parent down) (q + r) (q + count))
+  pub is : out ≡ put ls (perLink * (to - (count - r))) (segment (movedRow ls parent down) (q + r) (q + count))
 
 -- `spread` makes the new tables' rows of the rows q up to m
 pub record Spread (ls out : List ℕ) (q m : ℕ) (p : Plan) : Type 0 where

@@ -37,7 +37,7 @@ pub record Between (s : Store) (t : ℕ) (l : Layout) (cs : List ℕ) (first aft
   pub these : (k : ℕ) → k < s .linkCount → ofItems t (shapeWith l) (from cs 0) (l .count) (linkAt s k) ≡ leb first k && ltb k after
 
 -- the link rows and their count after the split, which adds the links of the new tables' headers
-pub record Parted (s : Store) (t : ℕ) (sh : Shape) (cs out : List ℕ) (count : ℕ) : Type 0 where
+pub record LinksSplit (s : Store) (t : ℕ) (sh : Shape) (cs out : List ℕ) (count : ℕ) : Type 0 where
   pub count-is : count ≡ length (newLinks s t sh cs)
   pub added : count ≡ s .linkCount + needLinks sh (length cs)
   pub rows-are : out ≡ put (s .links) 0 (rowNumbers (newLinks s t sh cs))

@@ -7,10 +7,10 @@ ghost use Rattle.folds.specs.Lists.{put};
 ghost use Rattle.store_rules.specs.Store.{lent, perLink};
 ghost use Rattle.ot_layouts.specs.PairPos.{ownIn};
 ghost use Rattle.ot_pairpos.specs.Layout.{shapeWith, Numbered};
-ghost use Rattle.store_link_rows.specs.Rows.{span, positionIn, Ordered, keptRow};
+ghost use Rattle.store_link_rows.specs.Rows.{segment, positionIn, PositionsRise, keptRow};
 ghost use Rattle.folds.specs.Moments.{came, left};
-ghost use Rattle.pair_links.specs.Blocks.{plan, edge, headRows, grown, Fit, Moved, Spread, PartedRows};
-ghost use Rattle.pair_links.specs.Parting.{Parting, Between, Parted};
+ghost use Rattle.pair_links.specs.Blocks.{plan, edge, headRows, grown, Fit, MovedUp, Spread, PartedRows};
+ghost use Rattle.pair_links.specs.Parting.{Parting, Between, LinksSplit};
 use ot_pairpos::Layout;
 use store_link_rows::keep_rows;
 use store_link_rows::put_header;
@@ -31,7 +31,7 @@ fn move_up(
     parent: u32,
 ) -> usize
     requires { ⌜ (q + count ≤ to) × (perLink * to ≤ length (now links)) × (down ≤ bound) ⌝ }
-    ensures { λ r. ⌜ Moved (came links) (left links) q count to bound down parent r ⌝ }
+    ensures { λ r. ⌜ MovedUp (came links) (left links) q count to bound down parent r ⌝ }
 {
     let mut left = count;
     let mut at = to;
@@ -81,7 +81,7 @@ fn spread(
 )
     requires { ⌜ Fit (plan (now cuts) layout first class2) ⌝ }
     requires { ⌜ (q ≤ m) × (perLink * grown m (plan (now cuts) layout first class2) ≤ length (now links)) ⌝ }
-    requires { ⌜ Ordered (now links) q m ⌝ }
+    requires { ⌜ PositionsRise (now links) q m ⌝ }
     requires { ⌜ ((k : ℕ) → q ≤ k → k < m → edge (plan (now cuts) layout first class2) 0 ≤ positionIn (now links) k) ⌝ }
     ensures { λ _. ⌜ Spread (came links) (left links) q m (plan (came cuts) layout first class2) ⌝ }
 {
@@ -113,7 +113,7 @@ fn part_rows(
 )
     requires { ⌜ Fit (plan (now cuts) layout first class2) ⌝ }
     requires { ⌜ (a ≤ b) × (b ≤ m) × (perLink * grown m (plan (now cuts) layout first class2) ≤ length (now links)) ⌝ }
-    requires { ⌜ Ordered (now links) a b ⌝ }
+    requires { ⌜ PositionsRise (now links) a b ⌝ }
     requires { ⌜ ((k : ℕ) → a ≤ k → k < b → edge (plan (now cuts) layout first class2) 0 ≤ positionIn (now links) k) ⌝ }
     ensures { λ _. ⌜ PartedRows (came links) (left links) a b m (plan (came cuts) layout first class2) ⌝ }
 {
@@ -125,7 +125,7 @@ fn part_rows(
 // table's lead there.
 fn keep_table(links: &mut [u32], count: usize, layout: Layout, table: u32, first: u32)
     requires { ⌜ Numbered layout × (perLink * count ≤ length (now links)) × (first + 1 < 4294967296) ⌝ }
-    ensures { λ _. ⌜ left links ≡ put (came links) 0 (span (keptRow (came links) (ownIn (layout .format)) table first) 0 count) ⌝ }
+    ensures { λ _. ⌜ left links ≡ put (came links) 0 (segment (keptRow (came links) (ownIn (layout .format)) table first) 0 count) ⌝ }
 {
     let own = [2u32, 8];
     let own_count = layout.own;
@@ -145,7 +145,7 @@ fn part_between(
     class2: u32,
 ) -> usize
     requires { ⌜ Between (lent [] [] (now links) counts) table layout (now cuts) first after class2 ⌝ }
-    ensures { λ r. ⌜ ((b o : List ℕ) → Parted (lent b o (came links) counts) table (shapeWith layout) (came cuts) (left links) r) ⌝ }
+    ensures { λ r. ⌜ ((b o : List ℕ) → LinksSplit (lent b o (came links) counts) table (shapeWith layout) (came cuts) (left links) r) ⌝ }
 {
     let objects = counts[1] as usize;
     let count = counts[2] as usize;
@@ -171,7 +171,7 @@ pub fn part_links(
     class2: u32,
 ) -> usize
     requires { ⌜ Parting (lent [] [] (now links) counts) table layout (now cuts) class2 ⌝ }
-    ensures { λ r. ⌜ ((b o : List ℕ) → Parted (lent b o (came links) counts) table (shapeWith layout) (came cuts) (left links) r) ⌝ }
+    ensures { λ r. ⌜ ((b o : List ℕ) → LinksSplit (lent b o (came links) counts) table (shapeWith layout) (came cuts) (left links) r) ⌝ }
 {
     let count = counts[2] as usize;
     let start = layout.header + layout.item * (cuts[0] as usize);

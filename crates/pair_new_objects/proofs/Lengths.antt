@@ -21,7 +21,7 @@ use Rattle.cut_parts.specs.Tables.{paired, highAt, PartEnd, Halved}
 use Rattle.cut_parts.proofs.Parting.{length-paired}
 use Rattle.cut_parts.proofs.TableParts.{same-part, kept-half, kept-entries, new-rises, new-inside, new-half, new-entries, new-same}
 use Rattle.store_object_rows.proofs.Joining.{join-long, join-cons, join-flat}
-use Rattle.pair_new_objects.specs.Planned.{Beside, Planned}
+use Rattle.pair_new_objects.specs.Planned.{Beside, PlannedParts}
 use Rattle.pair_new_objects.specs.Objects.{partsOf, Length}
 use Rattle.pair_new_objects.proofs.Beside.{parts-same, parts-short}
 use Rattle.pair_new_objects.proofs.Planning.{cuts-few, new-beside, new-small}
@@ -41,13 +41,13 @@ most-beside f gs ks lo e h = omega (arith, parts-short f (paired gs ks) lo, leng
 
 -- the kept table's parts and the objects of the first j new tables are summed
 pub record Total (gs ks cs : List ℕ) (l : Layout) (at total j : ℕ) : Type 0 where
-  pub known : Planned gs ks cs l
+  pub known : PlannedParts gs ks cs l
   pub some : j ≤ length cs
   pub halved : Halved ks (highAt (l .count) cs j) at
   pub is : total ≡ besideLength (l .format) (paired gs ks) 0 (from cs 0) + sum (tableLength l (paired gs ks) cs) j
   pub most : total ≤ (j + 1) * 33554432
 
-module _ (gs ks cs : List ℕ) (l : Layout) (p : Planned gs ks cs l) where
+module _ (gs ks cs : List ℕ) (l : Layout) (p : PlannedParts gs ks cs l) where
   part-few : (a b : ℕ) → a ≤ b → b ≤ length ks → length (part gs a b) ≤ 65536
   part-few a b h m = let e = p .parts .same in let f = p .few in omega (arith, length-part gs a b h (omega arith))
 

@@ -15,10 +15,10 @@ use Rattle.pair_rules.specs.Written.{newTable, newParts, newObjects}
 use Rattle.ot_pairpos.specs.declared.Layout.{Layout}
 use Rattle.cut_parts.specs.Tables.{paired, highAt, PartEnd, Halved}
 use Rattle.cut_parts.proofs.TableParts.{same-part, kept-half, kept-entries, new-rises, new-inside, new-half, new-entries, new-same}
-use Rattle.store_object_rows.specs.Objects.{Room, Written}
+use Rattle.store_object_rows.specs.Objects.{ObjectsRoom, Written}
 use Rattle.store_object_rows.proofs.Writing.{room-first, room-rest, written-more}
 use Rattle.store_object_rows.proofs.Rounds.{Rounds, rounds-start, rounds-stop, written-room, next-room, row-fits, rounds-turn}
-use Rattle.pair_new_objects.specs.Planned.{Beside, Planned}
+use Rattle.pair_new_objects.specs.Planned.{Beside, PlannedParts}
 use Rattle.pair_new_objects.specs.Objects.{partsOf, oldTable, Old, tableOf, tableObjects, tablesOf, objectsOf}
 use Rattle.pair_new_objects.proofs.Beside.{parts-same, parts-many}
 use Rattle.ot_pairpos.specs.Layout.{Numbered}
@@ -40,7 +40,7 @@ module _ (d : List ℕ) (head : ℕ) (l : Layout) (at : ℕ) (old : Old d head l
 
 -- the objects of the first j new tables are written, and the glyphs of the next one start at `start`
 pub record Tables (d o gs ks cs : List ℕ) (l : Layout) (head bytes count : ℕ) (d′ o′ : List ℕ) (start at row j : ℕ) : Type 0 where
-  pub known : Planned gs ks cs l
+  pub known : PlannedParts gs ks cs l
   pub old : Old d head l bytes
   pub halved : Halved ks (highAt (l .count) cs j) start
   pub rounds : Rounds d o bytes count (tableObjects d head l (paired gs ks) cs) (length cs) (l .own + 1) d′ o′ at row j
@@ -49,7 +49,7 @@ module _ (d o gs ks cs : List ℕ) (l : Layout) (head bytes count : ℕ) where
   abbrev objects : ℕ → List (List ℕ)
   objects j = tableObjects d head l (paired gs ks) cs j
 
-  pub tables-start : (start : ℕ) → Planned gs ks cs l → PartEnd ks 0 (from cs 0) start → Old d head l bytes → Room d o bytes count (tablesOf d head l (paired gs ks) cs)
+  pub tables-start : (start : ℕ) → PlannedParts gs ks cs l → PartEnd ks 0 (from cs 0) start → Old d head l bytes → ObjectsRoom d o bytes count (tablesOf d head l (paired gs ks) cs)
       → Tables d o gs ks cs l head bytes count d o start bytes count 0
   tables-start start p e old room =
       record {
@@ -64,7 +64,7 @@ module _ (d o gs ks cs : List ℕ) (l : Layout) (head bytes count : ℕ) where
     tables-stop h = rounds-stop d o bytes count objects (length cs) (l .own + 1) d′ o′ at row j (t .rounds) h
 
     module _ (h : j < length cs) where
-      so-far : Room d o bytes count (flat objects j)
+      so-far : ObjectsRoom d o bytes count (flat objects j)
       so-far = written-room d o bytes count objects (length cs) (l .own + 1) d′ o′ at row j (t .rounds) h
 
       pub row-small : row + (l .own + 1) ≤ length o
@@ -100,9 +100,9 @@ module _ (d o gs ks cs : List ℕ) (l : Layout) (head bytes count : ℕ) where
             let p = t .known .parts in
             (omega (arith, new-rises gs ks cs (l .count) p j start end h (t .halved) e′), omega (arith, new-inside gs ks cs (l .count) p j start end h (t .halved) e′))
 
-        pub turn-room : Room d′ o′ at row (tableOf d′ head l lo hi ∷ partsOf (l .format) (paired (part gs start end) (part ks start end)) lo)
+        pub turn-room : ObjectsRoom d′ o′ at row (tableOf d′ head l lo hi ∷ partsOf (l .format) (paired (part gs start end) (part ks start end)) lo)
         turn-room =
-            subst (λ (new : List (List ℕ)). Room d′ o′ at row new) objects-are
+            subst (λ (new : List (List ℕ)). ObjectsRoom d′ o′ at row new) objects-are
             (next-room d o bytes count objects (length cs) (l .own + 1) d′ o′ at row j (t .rounds) h)
 
         pub tables-turn : (d″ o″ : List ℕ) (r : ℕ) → Written d′ o′ at row (tableOf d′ head l lo hi ∷ partsOf (l .format) (paired (part gs start end) (part ks start end)) lo) d″ o″ r
@@ -119,8 +119,8 @@ module _ (d o gs ks cs : List ℕ) (l : Layout) (head bytes count : ℕ) where
 
 -- ---- all new objects
 
-module _ (d o gs ks cs : List ℕ) (l : Layout) (head bytes count first : ℕ) (p : Planned gs ks cs l) (old : Old d head l bytes) (e : PartEnd ks 0 (from cs 0) first)
-    (room : Room d o bytes count (objectsOf d head l (paired gs ks) cs)) where
+module _ (d o gs ks cs : List ℕ) (l : Layout) (head bytes count first : ℕ) (p : PlannedParts gs ks cs l) (old : Old d head l bytes) (e : PartEnd ks 0 (from cs 0) first)
+    (room : ObjectsRoom d o bytes count (objectsOf d head l (paired gs ks) cs)) where
   abbrev tables : List (List ℕ)
   tables = tablesOf d head l (paired gs ks) cs
 
@@ -143,10 +143,10 @@ module _ (d o gs ks cs : List ℕ) (l : Layout) (head bytes count first : ℕ) (
       (parts-same b es 0 (from cs 0)
       ∙ ap₂ (λ (f : ℕ) (x : List Entry). partsOf f x 0) (sym (s .format-is)) (kept-entries gs ks cs (l .count) (p .parts) first e))
 
-  whole : Room d o bytes count (tables ++ parts)
-  whole = subst (λ (new : List (List ℕ)). Room d o bytes count new) all-objects room
+  whole : ObjectsRoom d o bytes count (tables ++ parts)
+  whole = subst (λ (new : List (List ℕ)). ObjectsRoom d o bytes count new) all-objects room
 
-  pub tables-room : Room d o bytes count tables
+  pub tables-room : ObjectsRoom d o bytes count tables
   tables-room = room-first tables parts whole
 
   pub tables-many : length tables ≡ (l .own + 1) * length cs
@@ -166,8 +166,8 @@ module _ (d o gs ks cs : List ℕ) (l : Layout) (head bytes count first : ℕ) (
     row-is : row ≡ count + length tables
     row-is = omega (arith, tables-many)
 
-    pub last-room : Room d′ o′ at row parts
-    last-room = subst (λ (n : ℕ). Room d′ o′ at n parts) (sym row-is) (room-rest tables parts whole w)
+    pub last-room : ObjectsRoom d′ o′ at row parts
+    last-room = subst (λ (n : ℕ). ObjectsRoom d′ o′ at n parts) (sym row-is) (room-rest tables parts whole w)
 
     pub all-done : (d″ o″ : List ℕ) (r : ℕ) → Written d′ o′ at row parts d″ o″ r → Written d o bytes count (objectsOf d head l (paired gs ks) cs) d″ o″ r
     all-done d″ o″ r v =

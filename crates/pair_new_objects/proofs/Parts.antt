@@ -19,7 +19,7 @@ use Rattle.glyph_rules.specs.Entries.{reduced}
 use Rattle.ot_class_def_writer.specs.Entries.{reducedEntries}
 use Rattle.cut_parts.specs.Tables.{paired}
 use Rattle.cut_parts.proofs.Parting.{paired-glyphs, length-paired}
-use Rattle.store_object_rows.specs.Objects.{Room, Written}
+use Rattle.store_object_rows.specs.Objects.{ObjectsRoom, Written}
 use Rattle.store_object_rows.proofs.Joining.{join-one, join-two}
 use Rattle.store_object_rows.proofs.Writing.{written-one, one-fits, one-row, one-small, rest-room, rest-done}
 use Rattle.pair_new_objects.specs.Planned.{Beside}
@@ -73,9 +73,9 @@ module _ (gs ks : List ℕ) (f lo : ℕ) (same : length ks ≡ length gs) where
     runs-few : (f ≡ 1 → ⊥) → length (runs (named (reducedEntries gs ks lo))) < 65536
     runs-few e = subst (λ (es : List Entry). length (runs (named es)) < 65536) (sym (paired-reduced gs ks lo)) (k .countable (ne-eqb f 1 e))
 
-    module _ (d o : List ℕ) (at row : ℕ) (room : Room d o at row (partsOf f (paired gs ks) lo)) where
-      whole : Room d o at row (coverageBytes gs ∷ rest)
-      whole = subst (λ (new : List (List ℕ)). Room d o at row new) parts-are room
+    module _ (d o : List ℕ) (at row : ℕ) (room : ObjectsRoom d o at row (partsOf f (paired gs ks) lo)) where
+      whole : ObjectsRoom d o at row (coverageBytes gs ∷ rest)
+      whole = subst (λ (new : List (List ℕ)). ObjectsRoom d o at row new) parts-are room
 
       pub cover-ready : Ascending gs × (at + length (coverageBytes gs) ≤ length d)
       cover-ready = (glyphs-ascend, one-fits (coverageBytes gs) rest whole)
@@ -96,8 +96,8 @@ module _ (gs ks : List ℕ) (f lo : ℕ) (same : length ks ≡ length gs) where
           abbrev definition : List ℕ
           definition = classDefBytes (reducedEntries gs ks lo)
 
-          class-room : Room d′ o′ middle (row + 1) (definition ∷ [])
-          class-room = subst (λ (new : List (List ℕ)). Room d′ o′ middle (row + 1) new) (rest-class two) (rest-room (coverageBytes gs) rest whole (e .0) g (e .1))
+          class-room : ObjectsRoom d′ o′ middle (row + 1) (definition ∷ [])
+          class-room = subst (λ (new : List (List ℕ)). ObjectsRoom d′ o′ middle (row + 1) new) (rest-class two) (rest-room (coverageBytes gs) rest whole (e .0) g (e .1))
 
           pub class-ready : (length ks ≡ length gs) × (Ascending gs × ((length (runs (named (reducedEntries gs ks lo))) < 65536) × (middle + length definition ≤ length d′)))
           class-ready = (same, (glyphs-ascend, (runs-few two, one-fits definition [] class-room)))

@@ -14,9 +14,9 @@ use Rattle.cut_rules.proofs.CutPlaces.{few-places}
 use Rattle.cut_parts.specs.Tables.{paired, highAt, PartEnd, Halved}
 use Rattle.cut_parts.proofs.TableParts.{first-high, kept-entries, new-inside, new-entries}
 use Rattle.ot_pairpos.specs.declared.Layout.{Layout}
-use Rattle.pair_new_objects.specs.Planned.{Beside, Planned}
+use Rattle.pair_new_objects.specs.Planned.{Beside, PlannedParts}
 
-module _ (gs ks cs : List ℕ) (l : Layout) (p : Planned gs ks cs l) where
+module _ (gs ks cs : List ℕ) (l : Layout) (p : PlannedParts gs ks cs l) where
   pub cuts-few : length cs < 65536
   cuts-few = omega (arith, few-places (l .count) cs (p .parts .places), p .count)
 

@@ -37,11 +37,11 @@ use Rattle.ot_pairpos.specs.declared.Layout.{Layout}
 use Rattle.ot_pairpos.specs.Layout.{layoutOf}
 use Rattle.glyph_sort.specs.ByClass.{ByClass}
 use Rattle.cut_parts.specs.Tables.{paired, lowAt, highAt}
-use Rattle.cut_parts.specs.Order.{Sorted, Ordered, Arranged}
+use Rattle.cut_parts.specs.Order.{Sorted, PartsOrdered, Arranged}
 use Rattle.cut_parts.proofs.Keys.{Small}
 use Rattle.cut_parts.proofs.Arranging.{sorted-by-item, ordered-arranged, places-arranged, arranged-parted, kept-same, new-same}
-use Rattle.store_object_rows.specs.Objects.{Room, Written}
-use Rattle.pair_new_objects.specs.Planned.{Beside, Planned}
+use Rattle.store_object_rows.specs.Objects.{ObjectsRoom, Written}
+use Rattle.pair_new_objects.specs.Planned.{Beside, PlannedParts}
 use Rattle.pair_new_objects.specs.Objects.{oldTable, Old, objectsOf, Length}
 
 -- ---- the objects
@@ -107,7 +107,7 @@ module _ (s : Store) (t : ℕ) (reads : Reads s t) (octets : Bytes (s .bytes)) w
   table-long : headOf s t + (sh .header + sh .item * sh .count) ≡ tailOf s t
   table-long = omega (arith, reads .exactly, size-bytes s fits t (reads .used), fits .object t (reads .used) .ordered)
 
-  pub stored-plan : (gs ks cs : List ℕ) → Arranged gs ks cs (sh .count) es → Places (sh .count) cs → 0 < length cs → Planned gs ks cs l
+  pub stored-plan : (gs ks cs : List ℕ) → Arranged gs ks cs (sh .count) es → Places (sh .count) cs → 0 < length cs → PlannedParts gs ks cs l
   unfolding layoutOf
   stored-plan gs ks cs r p some =
       record {
@@ -139,8 +139,8 @@ module _ (s : Store) (t : ℕ) (reads : Reads s t) (octets : Bytes (s .bytes)) w
     pub stored-length : (n : ℕ) → Length l (paired gs ks) cs n → n ≡ length (join (newOf s t cs))
     stored-length n h = h .is (bytesOf s t) refl (reads .exactly) ∙ ap (λ (x : List (List ℕ)). length (join x)) (same-objects gs ks cs es sh (bytesOf s t) r some)
 
-    pub stored-room : Room (s .bytes) (s .objects) (s .byteCount) (s .objectCount) (newOf s t cs) → Room (s .bytes) (s .objects) (s .byteCount) (s .objectCount) (objectsOf (s .bytes) (headOf s t) l (paired gs ks) cs)
-    stored-room h = subst (λ (new : List (List ℕ)). Room (s .bytes) (s .objects) (s .byteCount) (s .objectCount) new) (sym (stored-objects gs ks cs r some)) h
+    pub stored-room : ObjectsRoom (s .bytes) (s .objects) (s .byteCount) (s .objectCount) (newOf s t cs) → ObjectsRoom (s .bytes) (s .objects) (s .byteCount) (s .objectCount) (objectsOf (s .bytes) (headOf s t) l (paired gs ks) cs)
+    stored-room h = subst (λ (new : List (List ℕ)). ObjectsRoom (s .bytes) (s .objects) (s .byteCount) (s .objectCount) new) (sym (stored-objects gs ks cs r some)) h
 
     pub stored-written : (d o : List ℕ) (n : ℕ) → Written (s .bytes) (s .objects) (s .byteCount) (s .objectCount) (objectsOf (s .bytes) (headOf s t) l (paired gs ks) cs) d o n
         → Written (s .bytes) (s .objects) (s .byteCount) (s .objectCount) (newOf s t cs) d o n
@@ -167,5 +167,5 @@ module _ (s : Store) (t : ℕ) (reads : Reads s t) (octets : Bytes (s .bytes)) w
     pub sorted2 : Sorted gs ks cs (sh .count)
     sorted2 = sorted-by-item gs ks cs (sh .count) es o up small p
 
-    pub arranged2 : (gs′ ks′ : List ℕ) → Ordered gs ks cs (sh .count) gs′ ks′ → Arranged gs′ ks′ cs (sh .count) es
+    pub arranged2 : (gs′ ks′ : List ℕ) → PartsOrdered gs ks cs (sh .count) gs′ ks′ → Arranged gs′ ks′ cs (sh .count) es
     arranged2 gs′ ks′ r = ordered-arranged gs ks cs (sh .count) es gs′ ks′ o up small sorted2 r

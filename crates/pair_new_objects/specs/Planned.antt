@@ -18,7 +18,7 @@ pub record Beside (f lo : ℕ) (es : List Entry) : Type 0 where
   pub countable : eqb f 1 ≡ false → length (runs (named (reduced lo es))) < 65536
 
 -- a table of layout l is to be split at cs: its items are parted by table, and it is at most 16,777,216 bytes long
-pub record Planned (gs ks cs : List ℕ) (l : Layout) : Type 0 where
+pub record PlannedParts (gs ks cs : List ℕ) (l : Layout) : Type 0 where
   pub parts : Parted gs ks cs (l .count)
   pub few : length gs ≤ 65536
   pub beside : (k : ℕ) → k ≤ length cs → Beside (l .format) (lowAt cs k) (entriesAt (l .count) cs (paired gs ks) k)

@@ -18,8 +18,8 @@ ghost use Rattle.ot_layouts.specs.PairPos.{shapeOf};
 ghost use Rattle.pair_new_table.specs.Cloned.{Cloned};
 ghost use Rattle.folds.specs.Moments.{came, left};
 ghost use Rattle.cut_parts.specs.Tables.{paired, PartEnd};
-ghost use Rattle.store_object_rows.specs.Objects.{Room, Written};
-ghost use Rattle.pair_new_objects.specs.Planned.{Beside, Planned};
+ghost use Rattle.store_object_rows.specs.Objects.{ObjectsRoom, Written};
+ghost use Rattle.pair_new_objects.specs.Planned.{Beside, PlannedParts};
 ghost use Rattle.pair_new_objects.specs.Objects.{partsOf, oldTable, Old, tableOf, tablesOf, objectsOf, Length};
 
 // How many bytes the coverage of a table takes, and in format 2 its class definition 1.
@@ -37,7 +37,7 @@ fn parts_length(glyphs: &[u16], classes: &[u16], format: u16, first: u16) -> usi
 
 // How many bytes all new objects take.
 pub fn new_length(glyphs: &[u16], classes: &[u16], cuts: &[u16], layout: Layout) -> usize
-    requires { ⌜ Planned (now glyphs) (now classes) (now cuts) layout ⌝ }
+    requires { ⌜ PlannedParts (now glyphs) (now classes) (now cuts) layout ⌝ }
     ensures { λ r. ⌜ Length layout (paired (came glyphs) (came classes)) (came cuts) r ⌝ }
 {
     let mut at = part_end(classes, 0, cuts[0]);
@@ -68,7 +68,7 @@ fn write_parts(
 ) -> usize
     requires { ⌜ length (now classes) ≡ length (now glyphs) ⌝ }
     requires { ⌜ Beside format first (paired (now glyphs) (now classes)) ⌝ }
-    requires { ⌜ Room (now «data») (now objects) at row (partsOf format (paired (now glyphs) (now classes)) first) ⌝ }
+    requires { ⌜ ObjectsRoom (now «data») (now objects) at row (partsOf format (paired (now glyphs) (now classes)) first) ⌝ }
     ensures { λ r. ⌜
         Written (came «data») (came objects) at row (partsOf format (paired (came glyphs) (came classes)) first) (left «data»)
         (left objects) r
@@ -117,7 +117,7 @@ fn write_table_objects(
     requires { ⌜ Old (now «data») head layout at ⌝ }
     requires { ⌜ (lo ≤ hi) × (hi ≤ layout .count) ⌝ }
     requires { ⌜
-        Room (now «data») (now objects) at row
+        ObjectsRoom (now «data») (now objects) at row
         (tableOf (now «data») head layout lo hi ∷ partsOf (layout .format) (paired (now glyphs) (now classes)) lo)
         ⌝ }
     ensures { λ r. ⌜
@@ -154,11 +154,11 @@ fn write_tables(
     byte_count: usize,
     object_count: usize,
 ) -> usize
-    requires { ⌜ Planned (now glyphs) (now classes) (now cuts) layout ⌝ }
+    requires { ⌜ PlannedParts (now glyphs) (now classes) (now cuts) layout ⌝ }
     requires { ⌜ PartEnd (now classes) 0 (getD (now cuts) 0 0) start ⌝ }
     requires { ⌜ Old (now «data») head layout «byte_count» ⌝ }
     requires { ⌜
-        Room (now «data») (now objects) «byte_count» «object_count»
+        ObjectsRoom (now «data») (now objects) «byte_count» «object_count»
         (tablesOf (now «data») head layout (paired (now glyphs) (now classes)) (now cuts))
         ⌝ }
     ensures { λ r. ⌜
@@ -205,10 +205,10 @@ pub fn write_objects(
     byte_count: usize,
     object_count: usize,
 ) -> usize
-    requires { ⌜ Planned (now glyphs) (now classes) (now cuts) layout ⌝ }
+    requires { ⌜ PlannedParts (now glyphs) (now classes) (now cuts) layout ⌝ }
     requires { ⌜ Old (now «data») head layout «byte_count» ⌝ }
     requires { ⌜
-        Room (now «data») (now objects) «byte_count» «object_count»
+        ObjectsRoom (now «data») (now objects) «byte_count» «object_count»
         (objectsOf (now «data») head layout (paired (now glyphs) (now classes)) (now cuts))
         ⌝ }
     ensures { λ r. ⌜

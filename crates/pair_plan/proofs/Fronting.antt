@@ -10,7 +10,7 @@ use Rattle.store_rules.specs.Store.{Store}
 use Rattle.pair_rules.specs.Table.{entriesOf, cutPlaces}
 use Rattle.pair_checks.specs.declared.PairTable.{PairTable}
 use Rattle.cut_filling.specs.Filling.{Placed}
-use Rattle.glyph_class_parts.specs.ClassParts.{Ordered}
+use Rattle.glyph_class_parts.specs.ClassParts.{OrderedByClass}
 use Rattle.pair_plan.specs.Cutting.{Gathering, Looked2, Looked, CutsByClass}
 
 module _ {s : Store} {t : ℕ} {p : PairTable} {w set gs ks cuts : List ℕ} (k : Looked s t p w set gs ks cuts) (two : p .layout .format ≡ 1 → ⊥) where
@@ -18,7 +18,7 @@ module _ {s : Store} {t : ℕ} {p : PairTable} {w set gs ks cuts : List ℕ} (k 
   fronts-lent = record { opens = k .walked .opens; two = two; glyphs = front-long gs (p .glyphs) (k .glyphs); classes = front-long ks (p .glyphs) (k .classes) }
 
   module _ {gs′ ks′ : List ℕ} (a : length gs′ ≡ length (part gs 0 (p .glyphs))) (b : length ks′ ≡ length (part ks 0 (p .glyphs)))
-      (gathers : Gathering s t p (part gs 0 (p .glyphs)) (part ks 0 (p .glyphs)) → Ordered (entriesOf s t) gs′ ks′) (octets : Bytes (s .bytes)) where
+      (gathers : Gathering s t p (part gs 0 (p .glyphs)) (part ks 0 (p .glyphs)) → OrderedByClass (entriesOf s t) gs′ ks′) (octets : Bytes (s .bytes)) where
     abbrev gs″ : List ℕ
     gs″ = back gs (p .glyphs) gs′
 

@@ -24,7 +24,7 @@ use Rattle.glyph_sort.specs.Pairs.{pairs, inOrder, keysOf, besideOf}
 use Rattle.pair_checks.specs.declared.PairTable.{PairTable}
 use Rattle.pair_checks.specs.Opens.{Opens}
 use Rattle.pair_checks.proofs.Refusals.{format-two}
-use Rattle.glyph_class_parts.specs.ClassParts.{Ordered}
+use Rattle.glyph_class_parts.specs.ClassParts.{OrderedByClass}
 use Rattle.pair_points.proofs.Callers.{sorted}
 use Rattle.pair_plan.specs.Cutting.{Gathering}
 use Rattle.glyph_parts.proofs.Parts.{part-inside}
@@ -75,5 +75,5 @@ module _ {s : Store} {t : ℕ} {p : PairTable} {gs ks : List ℕ} (k : Gathering
             ∙ ap₂ (λ (x y : List ℕ). map (classOf x) y) (g ∙ ap (bytesOf s) (o .class1 two .linked)) written
             ∙ sym (ap (map (λ (e : Entry). e .class)) (entries2 s t two) ∙ map-map (λ (e : Entry). e .class) (λ (x : ℕ). entry x (classOf (linkedBytes s t 8) x)) (glyphsOf s t))
 
-        pub gathered : Bytes (s .bytes) → {ks′ ks″ gs″ : List ℕ} → ks′ ≡ put ks 0 (map (classOf d) gs′) → ks″ ≡ keysOf (inOrder (pairs ks′ gs′)) → gs″ ≡ besideOf (inOrder (pairs ks′ gs′)) → Ordered (entriesOf s t) gs″ ks″
+        pub gathered : Bytes (s .bytes) → {ks′ ks″ gs″ : List ℕ} → ks′ ≡ put ks 0 (map (classOf d) gs′) → ks″ ≡ keysOf (inOrder (pairs ks′ gs′)) → gs″ ≡ besideOf (inOrder (pairs ks′ gs′)) → OrderedByClass (entriesOf s t) gs″ ks″
         gathered octets h i j = sorted (o .reads) octets (classes-written h) (written ∙ sym (entries-glyphs s t)) i j

@@ -31,7 +31,7 @@ use Rattle.cut_filling.specs.Filling.{Placed}
 use Rattle.pair_points.specs.Format1.{Ready1}
 use Rattle.pair_points.specs.Format2.{Ready2}
 use Rattle.pair_points.proofs.Callers.{described}
-use Rattle.pair_plan.specs.Cutting.{Beside, infoOf, Walked, Looked1, Looked2}
+use Rattle.pair_plan.specs.Cutting.{HasLength, infoOf, TableWalked, Looked1, Looked2}
 
 -- ---- an open table
 
@@ -39,7 +39,7 @@ module _ {s : Store} {t : ℕ} {p : PairTable} (o : Opens s t p) where
   fits : Fits s
   fits = sound-fits s (o .reads .sounds)
 
-  part-beside : {read : List ℕ → Reading} {q : ℕ} {d : Part} → LinkedPart read s t q d → Beside (s .objects) (d .object)
+  part-beside : {read : List ℕ → Reading} {q : ℕ} {d : Part} → LinkedPart read s t q d → HasLength (s .objects) (d .object)
   part-beside l = let i = part-inside (o .reads .sounds) l in (i .row, i .ordered)
 
   same-size : {read : List ℕ → Reading} {q : ℕ} {d : Part} → LinkedPart read s t q d → infoOf (s .objects) t p (d .object) .beside ≡ sizeOf s (linkedAt s t q)
@@ -78,13 +78,13 @@ module _ {s : Store} {t : ℕ} {p : PairTable} (o : Opens s t p) where
   rows-few octets = omega (arith, count-bits s t octets)
 
 -- after the walk of the header's links
-walked-unseen : {s : Store} {t : ℕ} {p : PairTable} {w cuts : List ℕ} (c : ℕ) → Walked s t p w cuts → Unseen s (infoOf (s .objects) t p c) w cuts
+walked-unseen : {s : Store} {t : ℕ} {p : PairTable} {w cuts : List ℕ} (c : ℕ) → TableWalked s t p w cuts → Unseen s (infoOf (s .objects) t p c) w cuts
 walked-unseen c k = record { marks = k .begun .marks; begun = omega arith; back = k .begun .back; room = k .room }
 
 -- ---- format 1
 
 module _ {s : Store} {t : ℕ} {p : PairTable} {w cuts : List ℕ} (k : Looked1 s t p w cuts) where
-  pub coverage-beside : Beside (s .objects) (p .coverage .object)
+  pub coverage-beside : HasLength (s .objects) (p .coverage .object)
   coverage-beside = let o = k .walked .opens in part-beside o (o .coverage)
 
   ready1 : Ready1 s (infoOf (s .objects) t p (p .coverage .object)) w cuts
@@ -113,7 +113,7 @@ zeros-empty : (n : ℕ) → Empty (replicate n 0)
 zeros-empty n i = ⊎-elim (λ lt. getD-replicate {A = ℕ} n i 0 0 lt) (λ ge. List·getD-eq-default {A = ℕ} (replicate n 0) 0 {n = i} (omega (arith, length-replicate {A = ℕ} n 0))) (either i n)
 
 module _ {s : Store} {t : ℕ} {p : PairTable} {gs ks w set cuts : List ℕ} (k : Looked2 s t p gs ks w set cuts) where
-  pub class2-beside : Beside (s .objects) (p .class2 .object)
+  pub class2-beside : HasLength (s .objects) (p .class2 .object)
   class2-beside = let o = k .walked .opens in part-beside o (o .class2 (format-two o (k .two)))
 
   ready2 : Ready2 s (infoOf (s .objects) t p (p .class2 .object)) gs ks w (replicate (length set) 0) cuts

@@ -13,15 +13,15 @@ use Rattle.pair_checks.specs.declared.PairTable.{PairTable}
 use Rattle.pair_checks.specs.Opens.{Opens}
 use Rattle.pair_points.specs.declared.«table_info».TableInfo.{TableInfo}
 use Rattle.glyph_sort.specs.ByClass.{classPairs}
-use Rattle.glyph_class_parts.specs.ClassParts.{Ordered}
+use Rattle.glyph_class_parts.specs.ClassParts.{OrderedByClass}
 use Rattle.pair_points.specs.Filled.{TellsCycle}
 use Rattle.cut_filling.specs.Filling.{Placed}
 
 -- ---- the object beside the items
 
 -- object c has a row, and its length can be told
-abbrev pub Beside : List ℕ → ℕ → Type 0
-Beside o c = (2 * c + 1 < length o) × (getD o (2 * c) 0 ≤ getD o (2 * c + 1) 0)
+abbrev pub HasLength : List ℕ → ℕ → Type 0
+HasLength o c = (2 * c + 1 < length o) × (getD o (2 * c) 0 ≤ getD o (2 * c + 1) 0)
 
 -- the table's own numbers, the length of object c, and the marks from 2 on
 abbrev pub infoOf : List ℕ → ℕ → PairTable → ℕ → TableInfo
@@ -31,7 +31,7 @@ infoOf o t p c =
 -- ---- format 1
 
 -- the table has passed the checks but for the look for a cycle, which the walk of its header's links has begun, and there is an entry for each cut
-pub record Walked (s : Store) (t : ℕ) (p : PairTable) (w cuts : List ℕ) : Type 0 where
+pub record TableWalked (s : Store) (t : ℕ) (p : PairTable) (w cuts : List ℕ) : Type 0 where
   pub opens : Opens s t p
   pub slots : allAtSlots s t ≡ true
   pub begun : Begun s t (p .layout .header) w
@@ -39,16 +39,16 @@ pub record Walked (s : Store) (t : ℕ) (p : PairTable) (w cuts : List ℕ) : Ty
 
 -- of a table of format 1
 pub record Looked1 (s : Store) (t : ℕ) (p : PairTable) (w cuts : List ℕ) : Type 0 where
-  pub walked : Walked s t p w cuts
+  pub walked : TableWalked s t p w cuts
   pub one : p .layout .format ≡ 1
 
 -- its places are found, whatever the bytes of the store
-abbrev pub Places1 : List ℕ → List ℕ → List ℕ → ℕ → PairTable → List ℕ → List ℕ → List ℕ → ℕ → Type 0
-Places1 o l c t p w cuts cuts′ r = (b : List ℕ) → Looked1 (lent b o l c) t p w cuts → Placed (cutPlaces (lent b o l c) t) cuts cuts′ r
+abbrev pub CutsSets : List ℕ → List ℕ → List ℕ → ℕ → PairTable → List ℕ → List ℕ → List ℕ → ℕ → Type 0
+CutsSets o l c t p w cuts cuts′ r = (b : List ℕ) → Looked1 (lent b o l c) t p w cuts → Placed (cutPlaces (lent b o l c) t) cuts cuts′ r
 
 -- and the walk tells of a cycle
-abbrev pub Tells1 : List ℕ → List ℕ → List ℕ → ℕ → PairTable → List ℕ → List ℕ → List ℕ → Type 0
-Tells1 o l c t p w cuts w′ = (b : List ℕ) → Looked1 (lent b o l c) t p w cuts → TellsCycle (lent b o l c) t w′
+abbrev pub SetsTell : List ℕ → List ℕ → List ℕ → ℕ → PairTable → List ℕ → List ℕ → List ℕ → Type 0
+SetsTell o l c t p w cuts w′ = (b : List ℕ) → Looked1 (lent b o l c) t p w cuts → TellsCycle (lent b o l c) t w′
 
 -- ---- format 2
 
@@ -61,29 +61,29 @@ pub record Gathering (s : Store) (t : ℕ) (p : PairTable) (gs ks : List ℕ) : 
 
 -- its covered glyphs by class, whatever the links of the store
 abbrev pub Gathers : List ℕ → List ℕ → PairTable → List ℕ → List ℕ → List ℕ → List ℕ → Type 0
-Gathers b o p gs ks gs′ ks′ = (l c : List ℕ) (t : ℕ) → Gathering (lent b o l c) t p gs ks → Ordered (entriesOf (lent b o l c) t) gs′ ks′
+Gathers b o p gs ks gs′ ks′ = (l c : List ℕ) (t : ℕ) → Gathering (lent b o l c) t p gs ks → OrderedByClass (entriesOf (lent b o l c) t) gs′ ks′
 
 -- of a table of format 2 with its covered glyphs by class; the set may hold anything
 pub record Looked2 (s : Store) (t : ℕ) (p : PairTable) (gs ks w set cuts : List ℕ) : Type 0 where
-  pub walked : Walked s t p w cuts
+  pub walked : TableWalked s t p w cuts
   pub two : p .layout .format ≡ 1 → ⊥
   pub octets : Bytes (s .bytes)
-  pub ordered : Ordered (entriesOf s t) gs ks
+  pub ordered : OrderedByClass (entriesOf s t) gs ks
   pub long : 8192 ≤ length set
 
 -- its places are found, whatever the bytes of the store
-abbrev pub Places2 : List ℕ → List ℕ → List ℕ → ℕ → PairTable → List ℕ → List ℕ → List ℕ → List ℕ → List ℕ → List ℕ → ℕ → Type 0
-Places2 o l c t p gs ks w set cuts cuts′ r = (b : List ℕ) → Looked2 (lent b o l c) t p gs ks w set cuts → Placed (cutPlaces (lent b o l c) t) cuts cuts′ r
+abbrev pub CutsRows : List ℕ → List ℕ → List ℕ → ℕ → PairTable → List ℕ → List ℕ → List ℕ → List ℕ → List ℕ → List ℕ → ℕ → Type 0
+CutsRows o l c t p gs ks w set cuts cuts′ r = (b : List ℕ) → Looked2 (lent b o l c) t p gs ks w set cuts → Placed (cutPlaces (lent b o l c) t) cuts cuts′ r
 
 -- and the walk tells of a cycle
-abbrev pub Tells2 : List ℕ → List ℕ → List ℕ → ℕ → PairTable → List ℕ → List ℕ → List ℕ → List ℕ → List ℕ → List ℕ → Type 0
-Tells2 o l c t p gs ks w set cuts w′ = (b : List ℕ) → Looked2 (lent b o l c) t p gs ks w set cuts → TellsCycle (lent b o l c) t w′
+abbrev pub RowsTell : List ℕ → List ℕ → List ℕ → ℕ → PairTable → List ℕ → List ℕ → List ℕ → List ℕ → List ℕ → List ℕ → Type 0
+RowsTell o l c t p gs ks w set cuts w′ = (b : List ℕ) → Looked2 (lent b o l c) t p gs ks w set cuts → TellsCycle (lent b o l c) t w′
 
 -- ---- both
 
 -- the table has passed the checks but for the look for a cycle, and no scratch is too short
 pub record Looked (s : Store) (t : ℕ) (p : PairTable) (w set gs ks cuts : List ℕ) : Type 0 where
-  pub walked : Walked s t p w cuts
+  pub walked : TableWalked s t p w cuts
   pub long : 8192 ≤ length set
   pub glyphs : p .glyphs ≤ length gs
   pub classes : p .glyphs ≤ length ks

@@ -17,11 +17,11 @@ ghost use Rattle.store_rules.specs.Store.{lent};
 ghost use Rattle.pair_points.specs.Filled.{TellsCycle};
 ghost use Rattle.folds.specs.Moments.{came, left};
 ghost use Rattle.store_rules.specs.Moments.{storeCameWith, storeNowWith};
-ghost use Rattle.pair_plan.specs.Cutting.{Gathering, Gathers, Beside, infoOf, Looked1, Places1, Tells1, Looked2, Places2, Tells2, Looked, CutsByClass, CutsTable};
+ghost use Rattle.pair_plan.specs.Cutting.{Gathering, Gathers, HasLength, infoOf, Looked1, CutsSets, SetsTell, Looked2, CutsRows, RowsTell, Looked, CutsByClass, CutsTable};
 
 // What the cut rules ask of the table; object `beside` is the one whose length they ask. The marks of their walks come after that of the walk of the header's links.
 fn info_of(objects: &[u32], table: u32, opened: PairTable, beside: u32) -> TableInfo
-    requires { ⌜ Beside (now objects) beside ⌝ }
+    requires { ⌜ HasLength (now objects) beside ⌝ }
     ensures { λ r. ⌜ r ≡ infoOf (came objects) table opened beside ⌝ }
 {
     let layout = opened.layout;
@@ -46,8 +46,8 @@ fn cut_sets(
     cuts: &mut [u16],
 ) -> usize
     requires { ⌜ ((b : List ℕ) × Looked1 (lent b (now objects) (now links) counts) table opened (now walk) (now cuts)) ⌝ }
-    ensures { λ r. ⌜ Places1 (came objects) (came links) counts table opened (came walk) (came cuts) (left cuts) r ⌝ }
-    ensures { λ _. ⌜ Tells1 (came objects) (came links) counts table opened (came walk) (came cuts) (left walk) ⌝ }
+    ensures { λ r. ⌜ CutsSets (came objects) (came links) counts table opened (came walk) (came cuts) (left cuts) r ⌝ }
+    ensures { λ _. ⌜ SetsTell (came objects) (came links) counts table opened (came walk) (came cuts) (left walk) ⌝ }
 {
     let coverage = opened.coverage;
     let info = info_of(objects, table, opened, coverage.object);
@@ -102,11 +102,11 @@ fn cut_rows(
         (now cuts))
         ⌝ }
     ensures { λ r. ⌜
-        Places2 (came objects) (came links) counts table opened (came glyphs) (came classes) (came walk) (came «glyph_set»)
+        CutsRows (came objects) (came links) counts table opened (came glyphs) (came classes) (came walk) (came «glyph_set»)
         (came cuts) (left cuts) r
         ⌝ }
     ensures { λ _. ⌜
-        Tells2 (came objects) (came links) counts table opened (came glyphs) (came classes) (came walk) (came «glyph_set»)
+        RowsTell (came objects) (came links) counts table opened (came glyphs) (came classes) (came walk) (came «glyph_set»)
         (came cuts) (left walk)
         ⌝ }
 {

@@ -11,7 +11,7 @@ use Rattle.glyph_sort.specs.Pairs.{pairs, inOrder, keysOf, besideOf}
 use Rattle.glyph_sort.specs.ByClass.{classPairs}
 use Rattle.pair_points.specs.declared.«table_info».TableInfo.{TableInfo}
 use Rattle.pair_points.specs.Filled.{Described}
-use Rattle.glyph_class_parts.specs.ClassParts.{Ordered}
+use Rattle.glyph_class_parts.specs.ClassParts.{OrderedByClass}
 
 -- the checks up to 5
 pub described : {s : Store} {x : TableInfo} → Reads s (x .table) → x .header ≡ shape s (x .table) .header → x .item ≡ shape s (x .table) .item → x .count ≡ shape s (x .table) .count → x .epoch + x .count < 2147483648 → Described s x
@@ -19,7 +19,7 @@ described r h i n e = record { is-sound = r .sounds; used = r .used; exactly = r
 
 -- classes and glyphs put in order by `sort_pairs`
 pub sorted : {s : Store} {t : ℕ} → Reads s t → Bytes (s .bytes) → {ks bs ks′ bs′ : List ℕ} → ks ≡ map (λ e. e .class) (entriesOf s t) → bs ≡ map (λ e. e .glyph) (entriesOf s t)
-    → ks′ ≡ keysOf (inOrder (pairs ks bs)) → bs′ ≡ besideOf (inOrder (pairs ks bs)) → Ordered (entriesOf s t) bs′ ks′
+    → ks′ ≡ keysOf (inOrder (pairs ks bs)) → bs′ ≡ besideOf (inOrder (pairs ks bs)) → OrderedByClass (entriesOf s t) bs′ ks′
 unfolding classPairs
 sorted {s} {t} r bytes k b p q =
     record {

@@ -12,7 +12,7 @@ use Rattle.pair_points.specs.declared.«table_info».TableInfo.{TableInf
 use Rattle.pair_points.specs.declared.format2.Rows.{Rows}
 use Rattle.cut_filling.specs.Filling.{Filled, Placed}
 use Rattle.pair_points.specs.Filled.{Described, Unseen, cuttingAt, AtItem, TellsCycle}
-use Rattle.glyph_class_parts.specs.ClassParts.{Ordered}
+use Rattle.glyph_class_parts.specs.ClassParts.{OrderedByClass}
 use Rattle.pair_row_classes.specs.Classes.{Holds}
 
 -- the table is of format 2, and the glyphs are those that it covers, by class
@@ -20,7 +20,7 @@ pub record Table2 (s : Store) (x : TableInfo) (gs cs : List ℕ) : Type 0 where
   pub described : Described s x
   pub format : eqb (shape s (x .table) .format) 1 ≡ false
   pub class2 : x .beside ≡ sizeOf s (linkedAt s (x .table) 10)
-  pub ordered : Ordered (entriesOf s (x .table)) gs cs
+  pub ordered : OrderedByClass (entriesOf s (x .table)) gs cs
 
 -- what a caller has seen before it asks for the cut places, with an empty set
 pub record Ready2 (s : Store) (x : TableInfo) (gs cs w set l : List ℕ) : Type 0 where

@@ -34,7 +34,7 @@ use Rattle.glyph_parts.proofs.Parts.{part-read}
 use Rattle.pair_checks.specs.declared.PairTable.{PairTable}
 use Rattle.pair_checks.proofs.Refusals.{format-one, format-two}
 use Rattle.pair_checks.specs.Opens.{Opens}
-use Rattle.pair_reading.specs.Reading.{recordFound, spotFound, sizeOf, inSet, bySet, byClasses}
+use Rattle.pair_reading.specs.Reading.{recordFound, spotFound, fieldBytes, inSet, bySet, byClasses}
 use Rattle.pair_reading.specs.declared.Found.{Found}
 use Rattle.pair_reading.specs.declared.Found.the-variants as Found
 use Rattle.pair_reading.specs.declared.Spot.{Spot}
@@ -79,7 +79,7 @@ module _ (s : Store) (t : ℕ) (l : Layout) (b k : ℕ) where
       pub set-inside : sound s ≡ true → Inside (length (s .bytes)) (s .objects) c
       set-inside a = inside s (sound-fits s a) c (child-used s t (sound-fits s a) (10 + 2 * k) c linked)
 
-      pub in-linked-set : {size : ℕ} {o : Option Pairs.Spot} → size ≡ sizeOf l → o ≡ inSet s size b c → o ≡ bySet s t l b k
+      pub in-linked-set : {size : ℕ} {o : Option Pairs.Spot} → size ≡ fieldBytes l → o ≡ inSet s size b c → o ≡ bySet s t l b k
       unfolding bySet andThen
       in-linked-set z q = q ∙ ap (λ (n : ℕ). inSet s n b c) z ∙ sym (rw (lt-ltb k (l .count) h, linked))
 

@@ -24,7 +24,7 @@ use Rattle.store_rules.proofs.Sound.{Fits, sound-fits}
 use Rattle.store_rules.proofs.Lookups.{child-used}
 use Rattle.pair_checks.specs.declared.PairTable.{PairTable}
 use Rattle.pair_checks.specs.Opens.{Opens}
-use Rattle.pair_reading.specs.Reading.{sizeOf, inSet, bySet, byClasses}
+use Rattle.pair_reading.specs.Reading.{fieldBytes, inSet, bySet, byClasses}
 use Rattle.pair_reading.proofs.Widths.{record-within}
 use Rattle.pair_reading.proofs.Sets.{values-within}
 
@@ -46,9 +46,9 @@ module _ {s : Store} {t : ℕ} {p : PairTable} (o : Opens s t p) where
   unfolding layoutOf
   same-count = ap (λ (x : Layout). x .count) (o .layout)
 
-  pub same-size : sizeOf (p .layout) ≡ recordSize (bytesOf s t)
+  pub same-size : fieldBytes (p .layout) ≡ recordSize (bytesOf s t)
   unfolding layoutOf recordSize
-  same-size = ap (λ (x : Layout). sizeOf x) (o .layout)
+  same-size = ap (λ (x : Layout). fieldBytes x) (o .layout)
 
   same-cover : bytesOf s (p .coverage .object) ≡ linkedBytes s t 2
   same-cover = ap (bytesOf s) (o .coverage .linked)
@@ -123,11 +123,11 @@ module _ {s : Store} {t : ℕ} {p : PairTable} (o : Opens s t p) (a b : ℕ) (q 
       let (slot, below, j) = then-some _ _ q i in
       let (c, child, l) = then-some _ _ q j in
       let (r, found, z) = then-some _ _ q l in
-      let y : record { object = c; at = valuesAt (sizeOf (p .layout)) r } ≡ q = cc in
+      let y : record { object = c; at = valuesAt (fieldBytes (p .layout)) r } ≡ q = cc in
       subst (Whole s t) y
       (record {
         used = child-used s t fits slot c child;
-        within = subst (λ (n : ℕ). valuesAt (sizeOf (p .layout)) r + n ≤ length (bytesOf s c)) (same-size o) (values-within (bytesOf s c) (sizeOf (p .layout)) b r found);
+        within = subst (λ (n : ℕ). valuesAt (fieldBytes (p .layout)) r + n ≤ length (bytesOf s c)) (same-size o) (values-within (bytesOf s c) (fieldBytes (p .layout)) b r found);
       })
 
   row-whole : eqb (shape s t .format) 1 ≡ false → Whole s t q

@@ -13,7 +13,7 @@ use Rattle.ot_layouts.specs.Values.{fieldCount}
 use Rattle.ot_layouts.specs.ClassDef.{classOf}
 use Rattle.ot_layouts.specs.PairPos.{firstRecord, valuesAt}
 use Rattle.ot_pairpos.specs.declared.Layout.{Layout}
-use Rattle.store_rules.specs.Store.{Store, lent, sound, bytesOf, childAt}
+use Rattle.store_rules.specs.Store.{Store, sound, bytesOf, childAt}
 use Rattle.pair_rules.specs.Pairs as Pairs
 use Rattle.pair_rules.specs.Calls.{PairOutcome}
 use Rattle.pair_checks.specs.declared.PairTable.{PairTable}
@@ -46,8 +46,8 @@ pairOutcome n f v = record { answer = n; found = f; values = v }
 -- ---- where the values stand, by what the code holds of a table
 
 -- the bytes of a pair's two value records
-abbrev pub sizeOf : Layout → ℕ
-sizeOf l = 2 * (fieldCount (l .value1) + fieldCount (l .value2))
+abbrev pub fieldBytes : Layout → ℕ
+fieldBytes l = 2 * (fieldCount (l .value1) + fieldCount (l .value2))
 
 -- "the first record in that set with the second glyph"
 unfoldable pub inSet : Store → ℕ → ℕ → ℕ → Option Pairs.Spot
@@ -57,7 +57,7 @@ inSet s size b c = andThen (firstRecord (bytesOf s c) size b) λ r. some (record
 unfoldable pub bySet : Store → ℕ → Layout → ℕ → ℕ → Option Pairs.Spot
 bySet s t l b k =
     andThen (given (ltb k (l .count)) (10 + 2 * k)) λ q.
-    andThen (childAt s t q) (inSet s (sizeOf l) b)
+    andThen (childAt s t q) (inSet s (fieldBytes l) b)
 
 -- "both classes below their counts, then the record at row·class2Count + column"
 unfoldable pub byClasses : Store → ℕ → PairTable → ℕ → ℕ → Option Pairs.Spot

@@ -17,7 +17,7 @@ ghost use Rattle.folds.specs.Folds.{upto};
 ghost use Rattle.store_reader.specs.Rows.{InOrder};
 ghost use Rattle.ot_layouts.specs.Numbers.{signed16};
 ghost use Rattle.ot_layouts.specs.Values.{fieldCount};
-ghost use Rattle.store_rules.specs.Store.{perLink, lent, childAt};
+ghost use Rattle.store_rules.specs.Store.{perLink, rowChild, lent, childAt};
 ghost use Rattle.pair_rules.specs.Pairs.{deviceNumber, numberOf};
 ghost use Rattle.folds.specs.Moments.{came};
 ghost use Rattle.store_rules.specs.Moments.{storeCameWith, storeNowWith};
@@ -36,7 +36,7 @@ fn signed(v: u16) -> i32
 // A device's number: one more than the object that is linked at `position`, or 0.
 fn device_number(links: &[u32], counts: [u32; 3], object: u32, position: u32) -> i32
     requires { ⌜ InOrder (now links) (getD counts 2 0) ⌝ }
-    requires { ⌜ ((k : ℕ) → k < getD counts 2 0 → getD (now links) (perLink * k + 3) 0 < 65536) ⌝ }
+    requires { ⌜ ((k : ℕ) → k < getD counts 2 0 → getD (now links) (perLink * k + rowChild) 0 < 65536) ⌝ }
     ensures { λ r. ⌜ ((b o : List ℕ) → r ≡ deviceNumber (childAt (lent b o (came links) counts) object position)) ⌝ }
 {
     let child = child_at(links, counts, object, position);

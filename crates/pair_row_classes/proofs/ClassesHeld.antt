@@ -11,12 +11,12 @@ use Rattle.glyph_rules.specs.Estimates.{estimate}
 use Rattle.glyph_set.specs.GlyphSet.{markAll, blankAll, Empty}
 use Rattle.glyph_set.proofs.Emptied.{length-markAll}
 use Rattle.glyph_estimator.specs.declared.Estimator.{Estimator}
-use Rattle.glyph_estimator.specs.States.{valuesOf, Ready, Added, Small}
+use Rattle.glyph_estimator.specs.States.{valuesOf, EstimatorReady, Added, Small}
 use Rattle.glyph_estimator.proofs.Estimates.{estimates-none, ready, estimates-more, small}
 use Rattle.glyph_estimator.proofs.Forgetting.{marked-behind, forgotten}
 use Rattle.pair_row_classes.specs.declared.Classes.{Classes}
 use Rattle.pair_row_classes.specs.Classes.{Holds, Begins}
-use Rattle.glyph_class_parts.specs.ClassParts.{Ordered, startOf, ClassEnd}
+use Rattle.glyph_class_parts.specs.ClassParts.{OrderedByClass, startOf, ClassEnd}
 use Rattle.glyph_class_parts.proofs.ClassParts.{starts-rise, starts-most, starts-none, length-glyphs, length-classes, class-part, class-ends}
 
 -- ---- no class
@@ -45,7 +45,7 @@ held-begins e es gs cs set o z long = none-held 0 z long e (sym (starts-none es 
 
 -- ---- one class more
 
-module _ {es : List Entry} {gs cs : List ℕ} (o : Ordered es gs cs) where
+module _ {es : List Entry} {gs cs : List ℕ} (o : OrderedByClass es gs cs) where
   starts-inside : (i : ℕ) → startOf es i ≤ length gs
   starts-inside i = omega (arith, starts-most es (o .up) (o .under) i, length-glyphs es (o .up) (o .under) (o .byClass))
 
@@ -67,7 +67,7 @@ module _ {es : List Entry} {gs cs : List ℕ} (o : Ordered es gs cs) where
       glyphs-are : part gs from to ≡ map (λ e. e .glyph) (within i (i + 1) es)
       glyphs-are = rw (f, t) (class-part es (o .up) (o .under) (o .byClass) i)
 
-      pub held-ready : Ready (k .estimator) set (part gs from to)
+      pub held-ready : EstimatorReady (k .estimator) set (part gs from to)
       held-ready = ready es (o .up) (o .under) a i (k .estimator) set (v .estimates) order (v .long) (part gs from to) glyphs-are
 
       pub held-more : {r : Estimator} {set′ : List ℕ} → Added (k .estimator) set i (part gs from to) r set′ → Holds es gs a (i + 1) (record { estimator = r; first = k .first; from = from; to = to }) set′

@@ -8,7 +8,7 @@ use Rattle.ot_layouts.specs.Coverage.{Entry}
 use Rattle.glyph_rules.specs.Entries.{within}
 use Rattle.glyph_set.specs.GlyphSet.{markAll, Empty}
 use Rattle.glyph_estimator.specs.States.{Estimates}
-use Rattle.glyph_class_parts.specs.ClassParts.{Ordered, startOf}
+use Rattle.glyph_class_parts.specs.ClassParts.{OrderedByClass, startOf}
 use Rattle.pair_row_classes.specs.declared.Classes.{Classes}
 
 -- the classes from a up to i, i left out, have been added since the set was empty
@@ -23,14 +23,14 @@ pub record Holds (es : List Entry) (gs : List ℕ) (a i : ℕ) (k : Classes) (se
 
 -- no class is held, and the set is empty
 abbrev pub Begins : Classes → Type 0
-Begins k = (es : List Entry) (gs cs set : List ℕ) → Ordered es gs cs → Empty set → 8192 ≤ length set → Holds es gs 0 0 k set
+Begins k = (es : List Entry) (gs cs set : List ℕ) → OrderedByClass es gs cs → Empty set → 8192 ≤ length set → Holds es gs 0 0 k set
 
 -- class i was added to those that are held, and its glyphs start at `from`
-abbrev pub Adds : List ℕ → List ℕ → ℕ → Classes → List ℕ → Classes → List ℕ → Type 0
-Adds gs cs i k set k′ set′ =
-    (es : List Entry) (a : ℕ) → a ≤ i → Ordered es gs cs → Holds es gs a i k set → Holds es gs a (i + 1) k′ set′ × (k′ .from ≡ startOf es i)
+abbrev pub AddsClass : List ℕ → List ℕ → ℕ → Classes → List ℕ → Classes → List ℕ → Type 0
+AddsClass gs cs i k set k′ set′ =
+    (es : List Entry) (a : ℕ) → a ≤ i → OrderedByClass es gs cs → Holds es gs a i k set → Holds es gs a (i + 1) k′ set′ × (k′ .from ≡ startOf es i)
 
 -- class i alone is held
 abbrev pub Restarts : List ℕ → ℕ → Classes → List ℕ → Classes → List ℕ → Type 0
 Restarts gs i k set k′ set′ =
-    (es : List Entry) (cs : List ℕ) (a : ℕ) → a ≤ i → Ordered es gs cs → Holds es gs a (i + 1) k set → k .from ≡ startOf es i → Holds es gs i (i + 1) k′ set′
+    (es : List Entry) (cs : List ℕ) (a : ℕ) → a ≤ i → OrderedByClass es gs cs → Holds es gs a (i + 1) k set → k .from ≡ startOf es i → Holds es gs i (i + 1) k′ set′

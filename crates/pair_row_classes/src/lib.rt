@@ -8,8 +8,8 @@ ghost use mathlib.Core.List.{List};
 ghost use Prim.Native.Nat.{ℕ, _+_, _≤_};
 ghost use Rattle.ot_layouts.specs.Coverage.{Entry};
 ghost use Rattle.folds.specs.Moments.{came, left};
-ghost use Rattle.glyph_class_parts.specs.ClassParts.{Ordered, startOf};
-ghost use Rattle.pair_row_classes.specs.Classes.{Holds, Begins, Adds, Restarts};
+ghost use Rattle.glyph_class_parts.specs.ClassParts.{OrderedByClass, startOf};
+ghost use Rattle.pair_row_classes.specs.Classes.{Holds, Begins, AddsClass, Restarts};
 
 // The glyphs from `first` up to `to` are in the estimator and in the set; those of the last class start at `from`.
 pub struct Classes {
@@ -32,13 +32,13 @@ impl Classes {
         }
     }
 
-    // Adds the next class.
+    // AddsClass the next class.
     pub fn add(self, class: u16, glyphs: &[u16], classes: &[u16], set: &mut [u8]) -> Self
         requires { ⌜
-            ((es : List Entry) × (a : ℕ) × (a ≤ class) × Ordered es (now glyphs) (now classes) × Holds es (now glyphs) a class self
+            ((es : List Entry) × (a : ℕ) × (a ≤ class) × OrderedByClass es (now glyphs) (now classes) × Holds es (now glyphs) a class self
             (now set))
             ⌝ }
-        ensures { λ r. ⌜ Adds (came glyphs) (came classes) class self (came set) r (left set) ⌝ }
+        ensures { λ r. ⌜ AddsClass (came glyphs) (came classes) class self (came set) r (left set) ⌝ }
     {
         let from = self.to;
         let to = class_end(classes, from, class);
@@ -58,7 +58,7 @@ impl Classes {
             × (cs : List ℕ)
             × (a : ℕ)
             × (a ≤ class)
-            × Ordered es (now glyphs) cs
+            × OrderedByClass es (now glyphs) cs
             × Holds es (now glyphs) a (class + 1) self (now set)
             × (self .from ≡ startOf es class))
             ⌝ }

@@ -24,7 +24,7 @@ use Rattle.pair_checks.specs.Opens.{Opens}
 use Rattle.pair_checks.proofs.Refusals.{format-one, format-two}
 use Rattle.glyph_parts.proofs.Parts.{part-inside}
 use Rattle.glyph_parts.proofs.Covered.{glyphs-ready, glyphs-written}
-use Rattle.cut_parts.specs.Order.{Sorted, Ordered, Arranged}
+use Rattle.cut_parts.specs.Order.{Sorted, PartsOrdered, Arranged}
 use Rattle.pair_new_objects.proofs.Stored.{arranged1, sorted2, arranged2}
 use Rattle.pair_split.specs.Arranging.{Arranging}
 
@@ -69,7 +69,7 @@ module _ {s : Store} {t : ℕ} {p : PairTable} {gs ks cs : List ℕ} (k : Arrang
     pub by-class : Sorted gs ks cs (p .layout .count)
     by-class = subst (Sorted gs ks cs) (sym (same-count o)) (sorted2 s t (o .reads) octets (format-two o two) gs ks cs (k .byClass two) (k .places))
 
-    pub by-parts : {gs′ ks′ : List ℕ} → Ordered gs ks cs (p .layout .count) gs′ ks′ → Arranged gs′ ks′ cs (shape s t .count) (entriesOf s t)
+    pub by-parts : {gs′ ks′ : List ℕ} → PartsOrdered gs ks cs (p .layout .count) gs′ ks′ → Arranged gs′ ks′ cs (shape s t .count) (entriesOf s t)
     by-parts {gs′} {ks′} h =
         arranged2 s t (o .reads) octets (format-two o two) gs ks cs (k .byClass two) (k .places) gs′ ks′
-        (subst (λ (n : ℕ). Ordered gs ks cs n gs′ ks′) (same-count o) h)
+        (subst (λ (n : ℕ). PartsOrdered gs ks cs n gs′ ks′) (same-count o) h)

@@ -18,7 +18,7 @@ use Rattle.pair_checks.specs.declared.PairTable.{PairTable}
 use Rattle.pair_checks.specs.Opens.{Opens}
 use Rattle.cut_parts.specs.Order.{Arranged}
 use Rattle.cut_parts.specs.Tables.{paired}
-use Rattle.pair_new_objects.specs.Planned.{Planned}
+use Rattle.pair_new_objects.specs.Planned.{PlannedParts}
 use Rattle.pair_new_objects.specs.Objects.{Length}
 use Rattle.pair_new_objects.proofs.Planning.{cuts-few}
 use Rattle.pair_new_objects.proofs.Stored.{stored-plan, stored-length}
@@ -51,8 +51,8 @@ module _ {s : Store} {t : ℕ} {p : PairTable} {gs ks cs : List ℕ} (k : Arrang
   abbrev o : Opens s t p
   o = k .opens
 
-  pub planned : Planned gs′ ks′ cs (p .layout)
-  planned = subst (Planned gs′ ks′ cs) (sym (o .layout)) (stored-plan s t (o .reads) octets gs′ ks′ cs arranged (k .places) (k .some))
+  pub planned : PlannedParts gs′ ks′ cs (p .layout)
+  planned = subst (PlannedParts gs′ ks′ cs) (sym (o .layout)) (stored-plan s t (o .reads) octets gs′ ks′ cs arranged (k .places) (k .some))
 
   few-cuts : length cs < 65536
   few-cuts = cuts-few gs′ ks′ cs (p .layout) planned

@@ -21,7 +21,7 @@ use Rattle.call_rules.proofs.Cases.{first-append, first-head}
 use Rattle.cut_rules.specs.Places.{Places}
 use Rattle.pair_rules.proofs.Entries.{entries-glyphs}
 use Rattle.pair_rules.proofs.TableCuts.{table-cuts}
-use Rattle.glyph_sort.specs.Pairs.{pairAt, pairs, keysOf, besideOf}
+use Rattle.glyph_sort.specs.Pairs.{keyedAt, pairs, keysOf, besideOf}
 use Rattle.glyph_sort.specs.ByClass.{classPairs, ByClass}
 use Rattle.glyph_sort.proofs.Order.{length-inOrder}
 use Rattle.pair_plan.specs.declared.Plan.{Plan}
@@ -30,7 +30,7 @@ use Rattle.pair_plan.specs.declared.Decision.the-variants.{Cut}
 use Rattle.pair_plan.specs.Decided.{decidedAs, Planned, Decided}
 use Rattle.pair_plan.proofs.Counting.{planned-few}
 use Rattle.pair_split.specs.Arranging.{Arranging}
-use Rattle.pair_split.specs.Splitting.{Ready}
+use Rattle.pair_split.specs.Splitting.{PlanReady}
 
 -- what was put at the front
 front-is : (d xs : List ℕ) (n : ℕ) {l : List ℕ} → l ≡ put d 0 xs → n ≡ length xs → part l 0 n ≡ xs
@@ -43,7 +43,7 @@ unfolding classPairs pairs
 class-pairs-long es =
     let ks : List ℕ = map (λ e. e .class) es in
     let gs : List ℕ = map (λ e. e .glyph) es in
-    length-inOrder (pairs ks gs) ∙ length-upto (pairAt ks gs) (length ks) ∙ length-map es (λ e. e .class)
+    length-inOrder (pairs ks gs) ∙ length-upto (keyedAt ks gs) (length ks) ∙ length-map es (λ e. e .class)
 
 -- an entry for each covered glyph
 entries-long : (s : Store) (t : ℕ) → length (entriesOf s t) ≡ length (glyphsOf s t)
@@ -80,7 +80,7 @@ module _ {s : Store} {t : ℕ} {w : Scratch} {d : Decision} {gs ks cuts : List �
         classes = front-is (w .classes) (keysOf zs) (p .table .glyphs) (f .classes) (pairs-many ∙ sym (length-map zs _));
       }
 
-  pub ready : Bytes (s .bytes) → length gs ≡ length (w .glyphs) → length ks ≡ length (w .classes) → Ready s t p gs ks cuts
+  pub ready : Bytes (s .bytes) → length gs ≡ length (w .glyphs) → length ks ≡ length (w .classes) → PlanReady s t p gs ks cuts
   ready octets a b =
       let long = scratch-long s t w none-applies in
       let (room, few) = planned-few octets k in
@@ -97,7 +97,7 @@ module _ {s : Store} {t : ℕ} {w : Scratch} {d : Decision} {gs ks cuts : List �
 
 -- ---- lent on
 
-pub fronts-lent : {s : Store} {t : ℕ} {p : Plan} {gs ks cuts : List ℕ} → Ready s t p gs ks cuts → (p .cuts ≡ 0 → ⊥)
+pub fronts-lent : {s : Store} {t : ℕ} {p : Plan} {gs ks cuts : List ℕ} → PlanReady s t p gs ks cuts → (p .cuts ≡ 0 → ⊥)
     → Arranging s t (p .table) (part gs 0 (p .table .glyphs)) (part ks 0 (p .table .glyphs)) (part cuts 0 (p .cuts))
 fronts-lent {s = s} {t = t} {p = p} {gs = gs} {ks = ks} {cuts = cuts} k some =
     record {

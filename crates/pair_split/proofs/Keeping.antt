@@ -18,8 +18,8 @@ use Rattle.store_rules.proofs.Sound.{Fits, ObjectFits, sound-fits, size-bytes}
 use Rattle.ot_pairpos.specs.declared.Layout.{Layout}
 use Rattle.ot_pairpos.specs.Layout.{layoutOf}
 use Rattle.cut_parts.specs.Tables.{paired}
-use Rattle.pair_new_objects.specs.Planned.{Planned}
-use Rattle.store_object_rows.specs.Objects.{Room, Written, Behind}
+use Rattle.pair_new_objects.specs.Planned.{PlannedParts}
+use Rattle.store_object_rows.specs.Objects.{ObjectsRoom, Written, Behind}
 use Rattle.store_object_rows.proofs.Behind.{written-behind, change-first, set-first, same-head}
 use Rattle.pair_new_objects.specs.Objects.{Old, objectsOf}
 use Rattle.pair_new_objects.proofs.Stored.{stored-plan, stored-old, stored-room, stored-written}
@@ -28,7 +28,7 @@ use Rattle.pair_split.specs.Carrying.{Keeping, Writing, Wrote}
 module _ (s : Store) (t : ℕ) (gs ks cs : List ℕ) where
   -- what `write_objects` asks
   abbrev Asked : Layout → Type 0
-  Asked l = Planned gs ks cs l × (Old (s .bytes) (headOf s t) l (s .byteCount) × Room (s .bytes) (s .objects) (s .byteCount) (s .objectCount) (objectsOf (s .bytes) (headOf s t) l (paired gs ks) cs))
+  Asked l = PlannedParts gs ks cs l × (Old (s .bytes) (headOf s t) l (s .byteCount) × ObjectsRoom (s .bytes) (s .objects) (s .byteCount) (s .objectCount) (objectsOf (s .bytes) (headOf s t) l (paired gs ks) cs))
 
   -- and what it tells
   abbrev Told : List ℕ → List ℕ → ℕ → Layout → Type 0

@@ -21,7 +21,7 @@ use Rattle.pair_rules.proofs.NewCounts.{new-many, per-two}
 use Rattle.ot_pairpos.specs.declared.Layout.{Layout}
 use Rattle.ot_pairpos.specs.Layout.{layoutOf, shapeWith}
 use Rattle.pair_checks.specs.declared.PairTable.{PairTable}
-use Rattle.pair_links.specs.Parting.{Parting, Parted}
+use Rattle.pair_links.specs.Parting.{Parting, LinksSplit}
 use Rattle.pair_links.proofs.Callers.{Decided, part-asked, part-answered}
 use Rattle.pair_split.specs.Carrying.{Writing, Wrote, Carrying, CutAt}
 use Rattle.pair_split.proofs.Counting.{header-few}
@@ -94,13 +94,13 @@ module _ {s : Store} {t : ℕ} {p : PairTable} {n : Needs} {gs ks cs list : List
   pub objects-fit : s .objectCount + n .objects < 4294967296
   objects-fit = omega (arith, objects-needed, room .objectsMost)
 
-  pub links-fit : {ls : List ℕ} {r : ℕ} → Parted s t sh cs ls r → r < 4294967296
+  pub links-fit : {ls : List ℕ} {r : ℕ} → LinksSplit s t sh cs ls r → r < 4294967296
   unfolding needed needsOf needLinks
   links-fit parted = omega (arith, parted .added, room .linksMost)
 
   -- ---- what is then
 
-  pub carried : {d o ls list′ : List ℕ} {bytes rows : ℕ} → Wrote s t cs d o bytes → Parted s t sh cs ls rows
+  pub carried : {d o ls list′ : List ℕ} {bytes rows : ℕ} → Wrote s t cs d o bytes → LinksSplit s t sh cs ls rows
       → list′ ≡ put list 0 (upto (λ j. s .objectCount + (p .layout .own + 1) * j) (length cs))
       → CutAt s t cs list (lent d o ls (bytes ∷ (s .objectCount + n .objects) ∷ rows ∷ [])) list′
   unfolding needed needsOf splitStore storeAfter appended keptTable withBytes withTail newTables
@@ -124,5 +124,5 @@ module _ {d o ls : List ℕ} (c : List ℕ) {t : ℕ} {p : PairTable} {n : Needs
   pub links-asked : Parting (lent [] [] ls c) t (p .layout) cs (p .class2 .object)
   links-asked = part-asked d o ls c t (p .layout) (k .opens .layout) cs (p .class2 .object) (decided k)
 
-  pub links-then : {ls′ : List ℕ} {r : ℕ} → ((x y : List ℕ) → Parted (lent x y ls c) t (shapeWith (p .layout)) cs ls′ r) → Parted (lent d o ls c) t (shape (lent d o ls c) t) cs ls′ r
+  pub links-then : {ls′ : List ℕ} {r : ℕ} → ((x y : List ℕ) → LinksSplit (lent x y ls c) t (shapeWith (p .layout)) cs ls′ r) → LinksSplit (lent d o ls c) t (shape (lent d o ls c) t) cs ls′ r
   links-then {ls′} {r} told = part-answered d o ls c t (p .layout) (k .opens .layout) cs ls′ r told

@@ -18,7 +18,7 @@ use Rattle.ot_pairpos.specs.Layout.{layoutOf}
 use Rattle.pair_checks.specs.declared.PairTable.{PairTable}
 use Rattle.pair_checks.specs.Opens.{Opens}
 use Rattle.cut_parts.specs.Order.{Arranged}
-use Rattle.store_object_rows.specs.Objects.{Room}
+use Rattle.store_object_rows.specs.Objects.{ObjectsRoom}
 use Rattle.pair_split.specs.Measuring.{Measured}
 
 -- the table has a row and so many items, and lies within the data
@@ -35,7 +35,7 @@ pub record Writing (s : Store) (t : ℕ) (l : Layout) (gs ks cs : List ℕ) : Ty
   pub places : Places (shape s t .count) cs
   pub some : 0 < length cs
   pub arranged : Arranged gs ks cs (shape s t .count) (entriesOf s t)
-  pub room : Room (s .bytes) (s .objects) (s .byteCount) (s .objectCount) (newOf s t cs)
+  pub room : ObjectsRoom (s .bytes) (s .objects) (s .byteCount) (s .objectCount) (newOf s t cs)
 
 -- the bytes and the object rows are those after the split, and r is where the data end
 pub record Wrote (s : Store) (t : ℕ) (cs d o : List ℕ) (r : ℕ) : Type 0 where

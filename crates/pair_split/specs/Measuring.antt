@@ -16,5 +16,5 @@ pub record Measured (s : Store) (t : ℕ) (gs ks cs : List ℕ) (n : Needs) : Ty
   pub needs : n ≡ needed s t cs
 
 -- whatever the links of the store
-abbrev pub Measures : List ℕ → List ℕ → PairTable → List ℕ → List ℕ → List ℕ → List ℕ → List ℕ → Needs → Type 0
-Measures b o p gs ks cs gs′ ks′ n = (l c : List ℕ) (t : ℕ) → Arranging (lent b o l c) t p gs ks cs → Measured (lent b o l c) t gs′ ks′ cs n
+abbrev pub MeasuresNeeds : List ℕ → List ℕ → PairTable → List ℕ → List ℕ → List ℕ → List ℕ → List ℕ → Needs → Type 0
+MeasuresNeeds b o p gs ks cs gs′ ks′ n = (l c : List ℕ) (t : ℕ) → Arranging (lent b o l c) t p gs ks cs → Measured (lent b o l c) t gs′ ks′ cs n

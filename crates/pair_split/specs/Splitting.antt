@@ -22,7 +22,7 @@ CutIfRoom s t cs list r s′ list′ = CarriedIfRoom s (needed s t cs) (splitSto
 -- ---- as planned
 
 -- the plan's cuts, which can be counted, stand at the front of the scratch, and in format 2 the covered glyphs by class
-pub record Ready (s : Store) (t : ℕ) (p : Plan) (gs ks cuts : List ℕ) : Type 0 where
+pub record PlanReady (s : Store) (t : ℕ) (p : Plan) (gs ks cuts : List ℕ) : Type 0 where
   pub opens : Opens s t (p .table)
   pub count : p .cuts ≡ length (cutPlaces s t)
   pub few : p .cuts < 65536

@@ -23,7 +23,7 @@ ghost use Rattle.folds.specs.Moments.{came, left};
 ghost use Rattle.store_rules.specs.Moments.{storeCame, storeLeft, storeNow};
 ghost use Rattle.call_rules.specs.Moments.{scratchCame, scratchLeft};
 ghost use Rattle.pair_split.specs.Arranging.{Arranging};
-ghost use Rattle.pair_split.specs.Splitting.{Ready, CutIfRoom};
+ghost use Rattle.pair_split.specs.Splitting.{PlanReady, CutIfRoom};
 
 // Splits a table at any places that ascend within it, if there is room, and says whether there was. The lists have their exact lengths.
 pub fn split_at(
@@ -84,7 +84,7 @@ fn split_planned(
     new_tables: &mut [u32],
     new_count: &mut u32,
 ) -> u32
-    requires { ⌜ Ready (storeNow «data» objects links counts) table plan (now glyphs) (now classes) (now cuts) ⌝ }
+    requires { ⌜ PlanReady (storeNow «data» objects links counts) table plan (now glyphs) (now classes) (now cuts) ⌝ }
     ensures { λ r. ⌜
         ((w : Scratch)
         → outcome r (left «new_count») (storeLeft «data» objects links counts) (left «new_tables») (cleared w)

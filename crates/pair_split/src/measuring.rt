@@ -13,7 +13,7 @@ ghost use Rattle.ot_pairpos.specs.Layout.{layoutOf};
 ghost use Rattle.store_rules.specs.Store.{lent};
 ghost use Rattle.pair_rules.specs.Written.{needsOf};
 ghost use Rattle.pair_split.specs.Arranging.{Arranging};
-ghost use Rattle.pair_split.specs.Measuring.{Measures};
+ghost use Rattle.pair_split.specs.Measuring.{MeasuresNeeds};
 
 // What so many cuts need, whose new objects take `bytes` bytes: the kept table gets no new object for itself.
 fn needs_of(layout: Layout, cuts: usize, bytes: usize) -> Needs
@@ -41,7 +41,7 @@ pub fn measure_needs(
         ((l c : List ℕ) × (t : ℕ) × Arranging (lent (now «data») (now objects) l c) t opened (now glyphs) (now classes) (now cuts))
         ⌝ }
     ensures { λ r. ⌜
-        Measures (came «data») (came objects) opened (came glyphs) (came classes) (came cuts) (left glyphs) (left classes) r
+        MeasuresNeeds (came «data») (came objects) opened (came glyphs) (came classes) (came cuts) (left glyphs) (left classes) r
         ⌝ }
 {
     let layout = opened.layout;

@@ -13,7 +13,7 @@ use Rattle.folds.proofs.Tests.{by-test}
 use Rattle.folds.proofs.InRange.{between-is, is-between, below-range}
 use Rattle.store_rules.specs.Store.{Store}
 use Rattle.cut_rules.proofs.CutPlaces.{loAt, ranges-apart, covering}
-use Rattle.mark_rules.specs.Table.{Mark, classesOf, marksOf, inRange, cutPlaces}
+use Rattle.mark_rules.specs.Table.{Mark, classesOf, marksOf, inClasses, cutPlaces}
 use Rattle.mark_rules.specs.Written.{splitStore}
 use Rattle.mark_rules.specs.Attachments.{Anchors, attachOf, attachAmong, orAttach}
 use Rattle.mark_rules.proofs.Marks.{classes-low}
@@ -75,7 +75,7 @@ module _ (s : Store) (t : ℕ) (cs : List ℕ) (g : Ready s t cs) where
 
     -- the mark lies in range k
     abbrev liesIn : Mark → ℕ → Bool
-    liesIn m k = inRange (loAt cs k) (getD cs k n) (m .class)
+    liesIn m k = inClasses (loAt cs k) (getD cs k n) (m .class)
 
     -- the old attachment, if the mark lies there
     abbrev there : ℕ → Mark → Option Anchors

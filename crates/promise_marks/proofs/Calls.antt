@@ -23,7 +23,7 @@ use Rattle.mark_rules.proofs.NewCounts.{tables-many}
 use Rattle.promise_calls.proofs.Keeps.{call-keeps}
 use Rattle.promise_marks.specs.Demands.{Splits, resulting}
 use Rattle.promise_marks.specs.Exactly.{MaySplit, MayPlan}
-use Rattle.promise_marks.specs.Calls.{inOrder, readInOrder, SplitLeaves, SplitKeeps, PlanLeaves, PlanKeeps, MarkKeeps}
+use Rattle.promise_marks.specs.Calls.{keptThenNew, readInOrder, SplitLeaves, SplitKeeps, PlanLeaves, PlanKeeps, MarkKeeps}
 use Rattle.promise_marks.proofs.Exactly.{no-case-splits, splits-no-case, no-case-plans, plans-no-case}
 use Rattle.promise_marks.proofs.Ready.{splitAhead, store-written}
 use Rattle.promise_marks.proofs.Refusals.{planAhead, as-many-as-cuts}
@@ -59,7 +59,7 @@ module _ (s : Store) (t : ℕ) (w : Scratch) (list : List ℕ) where
   o = markSplitCall s t w list
 
   -- the list has the new tables in front
-  in-order : Splits s t w list → inOrder t o ≡ resulting s t
+  in-order : Splits s t w list → keptThenNew t o ≡ resulting s t
   in-order p =
       let (many, listed) = as-many-as-cuts s t w list p in
       let new = newTables s t (cutPlaces s t) in
@@ -69,7 +69,7 @@ module _ (s : Store) (t : ℕ) (w : Scratch) (list : List ℕ) where
       ap (λ (xs : List ℕ). t ∷ xs) front
 
   module _ (p : Splits s t w list) where
-    marks-read : (m b : ℕ) → readInOrder (o .store) (inOrder t o) m b ≡ markCall s t m b
+    marks-read : (m b : ℕ) → readInOrder (o .store) (keptThenNew t o) m b ≡ markCall s t m b
     marks-read m b =
         let (old, each) = readings-kept s t w list p m b in
         ap (λ (us : List ℕ). readInOrder (o .store) us m b) (in-order p)

@@ -23,7 +23,7 @@ use Rattle.store_rules.proofs.Lookups.{child-row, child-used, linked-is}
 use Rattle.store_rules.proofs.Header.{header-each, kept-any}
 use Rattle.store_rules.proofs.SlotLinks.{slots-each}
 use Rattle.cut_rules.specs.Ranges.{from, to}
-use Rattle.mark_rules.specs.Table.{Mark, classesOf, marksIn, basesIn, markArray, markAnchor, baseArray, marksOf, markAt, within, inRange, baseAnchor}
+use Rattle.mark_rules.specs.Table.{Mark, classesOf, marksIn, basesIn, markArray, markAnchor, baseArray, marksOf, markAt, within, inClasses, baseAnchor}
 use Rattle.mark_rules.specs.Written.{perTable, noMark, markChild, baseChild, markLinks, baseLinks, arrayLinks, tableLinks, freshLinks, splitStore}
 use Rattle.mark_rules.proofs.Checks.{AtSlots}
 use Rattle.promise_marks.proofs.Ready.{Ready, objects-then}
@@ -125,7 +125,7 @@ module _ (s : Store) (t : ℕ) (cs : List ℕ) (g : Ready s t cs) where
   marks-known : (lo hi : ℕ) → Each KnownAnchor (within lo hi (marksOf s t))
   unfolding within marksOf markAt markAnchor
   marks-known lo hi =
-      each-sift KnownAnchor KnownAnchor (λ m. inRange lo hi (m .class)) (λ m h e. h) (marksOf s t)
+      each-sift KnownAnchor KnownAnchor (λ m. inClasses lo hi (m .class)) (λ m h e. h) (marksOf s t)
       (each-upto KnownAnchor (markAt s t) (marksIn s t)
       (λ k l c e. inr (child-used s (markArray s t) (g .fit) (markSlot k) c e, mark-leads (markSlot k) c e)))
 

@@ -11,7 +11,7 @@ use Rattle.folds.proofs.Moved.{has-moved}
 use Rattle.folds.proofs.InRange.{is-between}
 use Rattle.ot_layouts.specs.MarkBasePos.{markClass}
 use Rattle.store_rules.specs.Store.{Store}
-use Rattle.mark_rules.specs.Table.{Mark, marksIn, basesIn, markBytes, markAnchor, marksOf, markAt, within, inRange, baseAnchor}
+use Rattle.mark_rules.specs.Table.{Mark, marksIn, basesIn, markBytes, markAnchor, marksOf, markAt, within, inClasses, baseAnchor}
 use Rattle.mark_rules.specs.Written.{noMark}
 use Rattle.mark_rules.specs.Reads.{Reads}
 use Rattle.mark_rules.proofs.Marks.{marks-many, mark-is, reduce}
@@ -30,7 +30,7 @@ module _ {s : Store} {t : ℕ} {s′ : Store} {u hi : ℕ} (v : View s t s′ u 
   unfolding within marksOf
   marks-were =
       subst (Each Was) (sym (view-marks v old))
-      (each-moved Is Was (reduce 0) (λ m. inRange 0 hi (m .class)) (λ m (i, l, e) h. (i, l, ap (reduce 0) e)) (marksOf s t)
+      (each-moved Is Was (reduce 0) (λ m. inClasses 0 hi (m .class)) (λ m (i, l, e) h. (i, l, ap (reduce 0) e)) (marksOf s t)
       (each-upto Is (markAt s t) (marksIn s t) (λ i l. (i, l, refl))))
 
   pub anchor-old : (c : ℕ) → Anchor s′ u 0 j c → Anchor s t 0 j c
@@ -50,9 +50,9 @@ module _ {s : Store} {t : ℕ} {s′ : Store} {u hi : ℕ} (v : View s t s′ u 
   unfolding markAt within
   anchor-new c (inl (i, l, a, b, e)) =
       let at : getD (marksOf s t) i noMark ≡ markAt s t i = mark-is s t i l in
-      let inside : inRange 0 hi (getD (marksOf s t) i noMark .class) ≡ true
-      = ap (λ (m : Mark). inRange 0 hi (m .class)) at ∙ is-between 0 hi (markClass (markBytes s t) i) (omega arith) (omega arith) in
-      let (k, m, f) = has-moved (reduce 0) (λ m. inRange 0 hi (m .class)) noMark noMark (marksOf s t) i (omega (arith, marks-many s t)) inside in
+      let inside : inClasses 0 hi (getD (marksOf s t) i noMark .class) ≡ true
+      = ap (λ (m : Mark). inClasses 0 hi (m .class)) at ∙ is-between 0 hi (markClass (markBytes s t) i) (omega arith) (omega arith) in
+      let (k, m, f) = has-moved (reduce 0) (λ m. inClasses 0 hi (m .class)) noMark noMark (marksOf s t) i (omega (arith, marks-many s t)) inside in
       let n : k < marksIn s′ u = omega (arith, ap length (view-marks v old), marks-many s′ u) in
       let same : markAt s′ u k ≡ reduce 0 (markAt s t i)
       = sym (mark-is s′ u k n) ∙ ap (λ (ms : List Mark). getD ms k noMark) (view-marks v old) ∙ f ∙ ap (reduce 0) at in

@@ -23,7 +23,7 @@ use Rattle.store_rules.proofs.Header.{Rising, header-climb, header-each, kept-a
 use Rattle.store_rules.proofs.SlotLinks.{slots-each, slots-climb}
 use Rattle.store_rules.proofs.AppendedFits.{appended-fits}
 use Rattle.cut_rules.specs.Ranges.{from, to}
-use Rattle.mark_rules.specs.Table.{Mark, classesOf, basesIn, marksIn, markArray, markAnchor, baseArray, marksOf, markAt, within, inRange, baseAnchor, cutPlaces}
+use Rattle.mark_rules.specs.Table.{Mark, classesOf, basesIn, marksIn, markArray, markAnchor, baseArray, marksOf, markAt, within, inClasses, baseAnchor, cutPlaces}
 use Rattle.mark_rules.specs.Written.{
   newTable,
   newParts,
@@ -124,7 +124,7 @@ module _ (s : Store) (t : ℕ) (cs : List ℕ) (g : Ready s t cs) where
   anchors-used : (lo hi : ℕ) → Each OldAnchor (within lo hi (marksOf s t))
   unfolding within marksOf markAt markAnchor
   anchors-used lo hi =
-      each-sift OldAnchor OldAnchor (λ m. inRange lo hi (m .class)) (λ m h e. h) (marksOf s t)
+      each-sift OldAnchor OldAnchor (λ m. inClasses lo hi (m .class)) (λ m h e. h) (marksOf s t)
       (each-upto OldAnchor (markAt s t) (marksIn s t) (λ k l c e. child-used s (markArray s t) (g .fit) (markSlot k) c e))
 
   -- the links of two arrays that are long enough

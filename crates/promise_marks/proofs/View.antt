@@ -27,7 +27,7 @@ use Rattle.mark_rules.specs.Table.{
   baseBytes,
   marksOf,
   within,
-  inRange,
+  inClasses,
   baseAnchor,
 }
 use Rattle.mark_rules.specs.Written.{newCoverage, newMarkArray, newBaseArray, markChild, baseChild}
@@ -149,7 +149,7 @@ module _ {s : Store} {t : ℕ} {s′ : Store} {u lo hi : ℕ} (v : View s t s′
           ∙ mark-reduced lo ms g
           ∙ ap (λ (o : Option Mark). andThen o λ m. some (reduce lo m)) (mark-within lo hi (marksOf s t) 0 g (marks-rise s t old))
 
-      test : (m : Mark) (x : Bool) → inRange lo hi (m .class) ≡ x
+      test : (m : Mark) (x : Bool) → inClasses lo hi (m .class) ≡ x
           → andThen (andThen (given x m) λ m. some (reduce lo m)) (attachMark s′ u b) ≡ andThen (given x m) (attachMark s t b)
       test m true e = let (h, k) = between-is lo hi (m .class) e in view-mark b m h k
       test m false e = refl
@@ -157,4 +157,4 @@ module _ {s : Store} {t : ℕ} {s′ : Store} {u lo hi : ℕ} (v : View s t s′
       go : (o : Option Mark) → andThen (andThen (andThen o (only lo hi)) λ m. some (reduce lo m)) (attachMark s′ u b)
           ≡ andThen o λ m. andThen (only lo hi m) (attachMark s t b)
       go none = refl
-      go (some m) = test m (inRange lo hi (m .class)) refl
+      go (some m) = test m (inClasses lo hi (m .class)) refl

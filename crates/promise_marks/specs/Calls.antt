@@ -23,8 +23,8 @@ use Rattle.promise_marks.specs.Exactly.{MaySplit, MayPlan}
 use Rattle.promise_marks.specs.Demands.{AllAfresh}
 
 -- the tables to read then: "the kept table and then the new ones in order", as the list has them
-abbrev pub inOrder : ℕ → Outcome → List ℕ
-inOrder t o = t ∷ part (o .list) 0 (o .count)
+abbrev pub keptThenNew : ℕ → Outcome → List ℕ
+keptThenNew t o = t ∷ part (o .list) 0 (o .count)
 
 -- attachment readings of several tables, one after the other: the first with an attachment decides
 unfoldable pub readInOrder : Store → List ℕ → ℕ → ℕ → MarkOutcome
@@ -40,7 +40,7 @@ pub record SplitLeaves (s : Store) (t : ℕ) (list : List ℕ) (o : Outcome) : T
   -- "What is written", and that all else stays
   pub written : o .store ≡ splitStore s t (cutPlaces s t)
   -- "reading the kept table and then the new ones in order gives, for every two glyphs, what the old table gave"
-  pub attachments : (m b : ℕ) → readInOrder (o .store) (inOrder t o) m b ≡ markCall s t m b
+  pub attachments : (m b : ℕ) → readInOrder (o .store) (keptThenNew t o) m b ≡ markCall s t m b
   -- "Each table with its own parts is what writing its range afresh would give."
   pub afresh : AllAfresh s t (o .store) (cutPlaces s t)
   -- "Every other old object keeps its bytes and links."

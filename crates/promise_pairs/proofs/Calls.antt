@@ -22,7 +22,7 @@ use Rattle.pair_rules.specs.Calls.{PairOutcome, settlePair, readCases, splitCas
 use Rattle.call_rules.specs.Answers.{firstCase}
 use Rattle.promise_calls.specs.Unchanged.{Octets}
 use Rattle.promise_pairs.specs.Demands.{Splits, resulting}
-use Rattle.promise_pairs.specs.Calls.{inOrder, readInOrder, SplitLeaves, SplitKeeps, PlanLeaves, PlanKeeps, PairKeeps}
+use Rattle.promise_pairs.specs.Calls.{keptThenNew, readInOrder, SplitLeaves, SplitKeeps, PlanLeaves, PlanKeeps, PairKeeps}
 use Rattle.promise_pairs.proofs.Refusals.{as-many-as-cuts}
 use Rattle.promise_calls.proofs.Keeps.{call-keeps}
 use Rattle.promise_pairs.specs.Exactly.{MaySplit, MayPlan}
@@ -67,7 +67,7 @@ module _ (s : Store) (t : ℕ) (w : Scratch) (list : List ℕ) where
   o = splitCall s t w list
 
   -- the list has the new tables in front
-  in-order : Splits s t w list → inOrder t o ≡ resulting s t
+  in-order : Splits s t w list → keptThenNew t o ≡ resulting s t
   unfolding newTables
   in-order p =
       let (many, listed) = as-many-as-cuts s t w list p in
@@ -78,7 +78,7 @@ module _ (s : Store) (t : ℕ) (w : Scratch) (list : List ℕ) where
       ap (λ (xs : List ℕ). t ∷ xs) front
 
   module _ (bytes : Octets s) (p : Splits s t w list) where
-    pairs-read : (a b : ℕ) → readInOrder (o .store) (inOrder t o) a b ≡ pairCall s t a b
+    pairs-read : (a b : ℕ) → readInOrder (o .store) (keptThenNew t o) a b ≡ pairCall s t a b
     pairs-read a b =
         let (old, each) = readings-kept s t w list bytes p a b in
         ap (λ (us : List ℕ). readInOrder (o .store) us a b) (in-order p)

@@ -10,11 +10,11 @@ use Rattle.folds.specs.Lists.{put}
 use Rattle.folds.proofs.Moved.{map-upto}
 use Rattle.folds.proofs.FromTheFront.{flat-same}
 use Rattle.folds.proofs.Put.{put-nil, put-put, put-four}
-use Rattle.store_rules.specs.Store.{Store, Link, linkAt, linksOf}
+use Rattle.store_rules.specs.Store.{rowChild, Store, Link, linkAt, linksOf}
 use Rattle.store_rules.specs.Appended.{rowNumbers}
 use Rattle.store_rules.specs.Header.{ownChild, kept}
 use Rattle.store_rules.specs.Store.{perLink}
-use Rattle.store_link_rows.specs.Rows.{span, parentIn, positionIn, widthIn, childIn, row, keptRow}
+use Rattle.store_link_rows.specs.Rows.{segment, parentIn, positionIn, widthIn, childIn, row, keptRow}
 use Rattle.store_link_rows.proofs.Spans.{span-empty, span-back, flat-span}
 use Rattle.store_link_rows.proofs.Links.{numbers, numbers-flat}
 use Rattle.store_link_rows.proofs.RowLaws.{row-above, put-same, length-span}
@@ -23,7 +23,7 @@ length-kept : (ls own : List ℕ) (t v k : ℕ) → length (keptRow ls own t v k
 unfolding keptRow
 length-kept ls own t v k = refl
 
-pub kept-long : (ls own : List ℕ) (t v lo hi : ℕ) → lo ≤ hi → perLink * lo + length (span (keptRow ls own t v) lo hi) ≡ perLink * hi
+pub kept-long : (ls own : List ℕ) (t v lo hi : ℕ) → lo ≤ hi → perLink * lo + length (segment (keptRow ls own t v) lo hi) ≡ perLink * hi
 kept-long ls own t v lo hi l = length-span (keptRow ls own t v) (length-kept ls own t v) lo hi l
 
 -- as links
@@ -31,7 +31,7 @@ pub numbers-kept : (s : Store) (own : List ℕ) (t v k : ℕ) → numbers (kept 
 unfolding kept keptRow
 numbers-kept s own t v k = let e : 4 * k + 0 ≡ 4 * k = omega arith in rw e
 
-pub kept-numbers : (s : Store) (own : List ℕ) (t v : ℕ) → rowNumbers (map (kept own t v) (linksOf s)) ≡ span (keptRow (s .links) own t v) 0 (s .linkCount)
+pub kept-numbers : (s : Store) (own : List ℕ) (t v : ℕ) → rowNumbers (map (kept own t v) (linksOf s)) ≡ segment (keptRow (s .links) own t v) 0 (s .linkCount)
 unfolding linksOf rowNumbers
 kept-numbers s own t v =
     let stays : ℕ → Link = λ k. kept own t v (linkAt s k) in
@@ -51,16 +51,16 @@ kept-is ls out own t v i k e =
     rw (p, q, w, c)
 
 -- a row of another table is as it was
-pub kept-other : (d own : List ℕ) (t v k : ℕ) → perLink * k + 3 < length d → (parentIn d k ≡ t → ⊥) → d ≡ put d (perLink * k) (keptRow d own t v k)
+pub kept-other : (d own : List ℕ) (t v k : ℕ) → perLink * k + rowChild < length d → (parentIn d k ≡ t → ⊥) → d ≡ put d (perLink * k) (keptRow d own t v k)
 unfolding row keptRow
 kept-other d own t v k l n = rw (ne-eqb (parentIn d k) t n) (sym (put-same d k l))
 
 -- a row of the kept table has another child
-pub kept-own : (d own : List ℕ) (t v k x : ℕ) → perLink * k + 3 < length d → parentIn d k ≡ t → x ≡ ownChild own v (positionIn d k) (childIn d k)
-    → set d (perLink * k + 3) x ≡ put d (perLink * k) (keptRow d own t v k)
+pub kept-own : (d own : List ℕ) (t v k x : ℕ) → perLink * k + rowChild < length d → parentIn d k ≡ t → x ≡ ownChild own v (positionIn d k) (childIn d k)
+    → set d (perLink * k + rowChild) x ≡ put d (perLink * k) (keptRow d own t v k)
 unfolding keptRow
 kept-own d own t v k x l e h =
-    let s : put d (perLink * k) _ ≡ set d (perLink * k + 3) x = sym (put-four d (perLink * k) (parentIn d k) (positionIn d k) (widthIn d k) x l) ∙ simp set-getD in
+    let s : put d (perLink * k) _ ≡ set d (perLink * k + rowChild) x = sym (put-four d (perLink * k) (parentIn d k) (positionIn d k) (widthIn d k) x l) ∙ simp set-getD in
     rw (eq-eqb (parentIn d k) t e, ← h) (sym s)
 
 -- ---- row by row
@@ -70,7 +70,7 @@ pub record Kept (ls own : List ℕ) (count t v : ℕ) (out : List ℕ) (k : ℕ)
   pub few : k ≤ count
   pub room : perLink * count ≤ length ls
   pub same : length out ≡ length ls
-  pub is : out ≡ put ls 0 (span (keptRow ls own t v) 0 k)
+  pub is : out ≡ put ls 0 (segment (keptRow ls own t v) 0 k)
 
 module _ (ls own : List ℕ) (count t v : ℕ) where
   pub kept-start : perLink * count ≤ length ls → Kept ls own count t v ls 0
@@ -85,7 +85,7 @@ module _ (ls own : List ℕ) (count t v : ℕ) where
   pub kept-turn : (out : List ℕ) (k : ℕ) → Kept ls own count t v out k → (out′ : List ℕ) → k < count → length out′ ≡ length out
       → out′ ≡ put out (perLink * k) (keptRow out own t v k) → Kept ls own count t v out′ (k + 1)
   kept-turn out k i out′ l n h =
-      let A = span (keptRow ls own t v) 0 k in
+      let A = segment (keptRow ls own t v) 0 k in
       let long : perLink * 0 + length A ≡ perLink * k = kept-long ls own t v 0 k (omega arith) in
       let same : row out k ≡ row ls k = ap (λ (o : List ℕ). row o k) (i .is) ∙ row-above ls 0 A (omega arith) k (omega arith) in
       record {
@@ -99,5 +99,5 @@ module _ (ls own : List ℕ) (count t v : ℕ) where
             ∙ ap (put ls 0) (sym (span-back (keptRow ls own t v) 0 k (omega arith)));
       }
 
-  pub kept-done : (out : List ℕ) (k : ℕ) → Kept ls own count t v out k → count ≤ k → out ≡ put ls 0 (span (keptRow ls own t v) 0 count)
+  pub kept-done : (out : List ℕ) (k : ℕ) → Kept ls own count t v out k → count ≤ k → out ≡ put ls 0 (segment (keptRow ls own t v) 0 count)
   kept-done out k i l = let e : k ≡ count = omega (arith, i .few) in rw e at (i .is)

@@ -9,7 +9,7 @@ use Rattle.folds.specs.Lists.{put}
 use Rattle.folds.proofs.Tests.{either}
 use Rattle.folds.proofs.Put.{put-nil, put-put, length-put, put-comm, put-before, put-over}
 use Rattle.store_rules.specs.Store.{perLink}
-use Rattle.store_link_rows.specs.Rows.{seg, span, row, rows, reversed}
+use Rattle.store_link_rows.specs.Rows.{seg, segment, row, rows, reversed}
 use Rattle.store_link_rows.proofs.Spans.{seg-ext, seg-add, span-empty, span-join, span-front, span-back}
 use Rattle.store_link_rows.proofs.RowLaws.{length-row, row-below, row-above, row-inside, put-same, length-span, own-rows}
 
@@ -23,7 +23,7 @@ pub record Ends (ls : List ℕ) (lo hi : ℕ) (out : List ℕ) (i j : ℕ) : Typ
   pub room : perLink * hi ≤ length ls
   pub even : i + j ≡ lo + hi
   pub same : length out ≡ length ls
-  pub is : out ≡ put (put ls (perLink * lo) (span (mirror ls lo hi) lo i)) (perLink * j) (span (mirror ls lo hi) j hi)
+  pub is : out ≡ put (put ls (perLink * lo) (segment (mirror ls lo hi) lo i)) (perLink * j) (segment (mirror ls lo hi) j hi)
 
 pub ends-start : (ls : List ℕ) (lo hi : ℕ) → lo ≤ hi → perLink * hi ≤ length ls → Ends ls lo hi ls lo hi
 ends-start ls lo hi l r =
@@ -35,44 +35,44 @@ ends-start ls lo hi l r =
       room = r;
       even = refl;
       same = refl;
-      is = put-nil ls (perLink * lo) ∙ ap (put ls (perLink * lo)) (sym (span-empty f lo)) ∙ put-nil _ (perLink * hi) ∙ ap (put (put ls (perLink * lo) (span f lo lo)) (perLink * hi)) (sym (span-empty f hi));
+      is = put-nil ls (perLink * lo) ∙ ap (put ls (perLink * lo)) (sym (span-empty f lo)) ∙ put-nil _ (perLink * hi) ∙ ap (put (put ls (perLink * lo) (segment f lo lo)) (perLink * hi)) (sym (span-empty f hi));
     }
 
 module _ (ls : List ℕ) (lo hi : ℕ) (out : List ℕ) (i j : ℕ) (e : Ends ls lo hi out i j) where
-  front : perLink * lo + length (span (mirror ls lo hi) lo i) ≡ perLink * i
+  front : perLink * lo + length (segment (mirror ls lo hi) lo i) ≡ perLink * i
   front = length-span (mirror ls lo hi) (λ k. length-row ls (lo + hi - 1 - k)) lo i (e .low)
 
-  back : perLink * j + length (span (mirror ls lo hi) j hi) ≡ perLink * hi
+  back : perLink * j + length (segment (mirror ls lo hi) j hi) ≡ perLink * hi
   back = length-span (mirror ls lo hi) (λ k. length-row ls (lo + hi - 1 - k)) j hi (e .high)
 
-  first-long : length (put ls (perLink * lo) (span (mirror ls lo hi) lo i)) ≡ length ls
-  first-long = length-put ls (perLink * lo) (span (mirror ls lo hi) lo i) (omega (arith, front))
+  first-long : length (put ls (perLink * lo) (segment (mirror ls lo hi) lo i)) ≡ length ls
+  first-long = length-put ls (perLink * lo) (segment (mirror ls lo hi) lo i) (omega (arith, front))
 
   -- a row between the ends
   pub middle : (k : ℕ) → i ≤ k → k < j → row out k ≡ row ls k
   middle k l h =
       ap (λ (o : List ℕ). row o k) (e .is)
-      ∙ row-below (put ls (perLink * lo) (span (mirror ls lo hi) lo i)) (perLink * j) (span (mirror ls lo hi) j hi) (omega (arith, first-long)) k (omega arith)
-      ∙ row-above ls (perLink * lo) (span (mirror ls lo hi) lo i) (omega arith) k (omega (arith, front))
+      ∙ row-below (put ls (perLink * lo) (segment (mirror ls lo hi) lo i)) (perLink * j) (segment (mirror ls lo hi) j hi) (omega (arith, first-long)) k (omega arith)
+      ∙ row-above ls (perLink * lo) (segment (mirror ls lo hi) lo i) (omega arith) k (omega (arith, front))
 
   pub ends-turn : (out′ : List ℕ) → i + 1 < j → length out′ ≡ length out → out′ ≡ put (put out (perLink * i) (row out (j - 1))) (perLink * (j - 1)) (row out i) → Ends ls lo hi out′ (i + 1) (j - 1)
   ends-turn out′ l n h =
       let g = mirror ls lo hi in
-      let A = span (mirror ls lo hi) lo i in
-      let B = span (mirror ls lo hi) j hi in
+      let A = segment (mirror ls lo hi) lo i in
+      let B = segment (mirror ls lo hi) j hi in
       let ei : j - 1 ≡ lo + hi - 1 - i = omega arith in
       let ej : i ≡ lo + hi - 1 - (j - 1) = omega arith in
       let y : row out (j - 1) ≡ g i = middle (j - 1) (omega arith) (omega arith) ∙ ap (row ls) ei in
       let x : row out i ≡ g (j - 1) = middle i (omega arith) (omega arith) ∙ ap (row ls) ej in
       let ny = length-row ls (lo + hi - 1 - i) in
       let nx = length-row ls (lo + hi - 1 - (j - 1)) in
-      let s : put (put (put ls (perLink * lo) A) (perLink * j) B) (perLink * i) (g i) ≡ put (put ls (perLink * lo) (span g lo (i + 1))) (perLink * j) B
+      let s : put (put (put ls (perLink * lo) A) (perLink * j) B) (perLink * i) (g i) ≡ put (put ls (perLink * lo) (segment g lo (i + 1))) (perLink * j) B
       = sym (put-comm (put ls (perLink * lo) A) (perLink * i) (g i) (perLink * j) B (omega arith) (omega (arith, back, first-long)))
       ∙ ap (λ (o : List ℕ). put o (perLink * j) B) (put-put ls (perLink * lo) A (perLink * i) (g i) (omega arith) (sym front) ∙ ap (put ls (perLink * lo)) (sym (span-back g lo i (e .low)))) in
       let ji : j - 1 + 1 ≡ j = omega arith in
-      let t : g (j - 1) ++ B ≡ span g (j - 1) hi = ap (λ (b : ℕ). g (j - 1) ++ span g b hi) (sym ji) ∙ sym (span-front g (j - 1) hi (omega arith)) in
+      let t : g (j - 1) ++ B ≡ segment g (j - 1) hi = ap (λ (b : ℕ). g (j - 1) ++ segment g b hi) (sym ji) ∙ sym (span-front g (j - 1) hi (omega arith)) in
       let longer = length-span g (λ k. length-row ls (lo + hi - 1 - k)) lo (i + 1) (omega arith) in
-      let next-long : length (put ls (perLink * lo) (span g lo (i + 1))) ≡ length ls = length-put ls (perLink * lo) (span g lo (i + 1)) (omega arith) in
+      let next-long : length (put ls (perLink * lo) (segment g lo (i + 1))) ≡ length ls = length-put ls (perLink * lo) (segment g lo (i + 1)) (omega arith) in
       record {
         low = omega arith;
         mid = omega arith;
@@ -85,34 +85,34 @@ module _ (ls : List ℕ) (lo hi : ℕ) (out : List ℕ) (i j : ℕ) (e : Ends ls
             ∙ ap₂ (λ (u v : List ℕ). put (put out (perLink * i) u) (perLink * (j - 1)) v) y x
             ∙ ap (λ (o : List ℕ). put (put o (perLink * i) (g i)) (perLink * (j - 1)) (g (j - 1))) (e .is)
             ∙ ap (λ (o : List ℕ). put o (perLink * (j - 1)) (g (j - 1))) s
-            ∙ put-before (put ls (perLink * lo) (span g lo (i + 1))) (perLink * (j - 1)) (g (j - 1)) (perLink * j) B (omega arith) (omega (arith, back))
-            ∙ ap (put (put ls (perLink * lo) (span g lo (i + 1))) (perLink * (j - 1))) t;
+            ∙ put-before (put ls (perLink * lo) (segment g lo (i + 1))) (perLink * (j - 1)) (g (j - 1)) (perLink * j) B (omega arith) (omega (arith, back))
+            ∙ ap (put (put ls (perLink * lo) (segment g lo (i + 1))) (perLink * (j - 1))) t;
       }
 
   -- the ends meet, or one row is between them
-  closed : (z : ℕ) → z ≡ j → put (put ls (perLink * lo) (span (mirror ls lo hi) lo z)) (perLink * j) (span (mirror ls lo hi) j hi) ≡ put ls (perLink * lo) (reversed ls lo hi)
+  closed : (z : ℕ) → z ≡ j → put (put ls (perLink * lo) (segment (mirror ls lo hi) lo z)) (perLink * j) (segment (mirror ls lo hi) j hi) ≡ put ls (perLink * lo) (reversed ls lo hi)
   closed z q =
       let g = mirror ls lo hi in
       let w = length-span g (λ k. length-row ls (lo + hi - 1 - k)) lo j (omega arith) in
-      ap (λ (b : ℕ). put (put ls (perLink * lo) (span g lo b)) (perLink * j) (span g j hi)) q
-      ∙ put-put ls (perLink * lo) (span g lo j) (perLink * j) (span g j hi) (omega arith) (sym w)
+      ap (λ (b : ℕ). put (put ls (perLink * lo) (segment g lo b)) (perLink * j) (segment g j hi)) q
+      ∙ put-put ls (perLink * lo) (segment g lo j) (perLink * j) (segment g j hi) (omega arith) (sym w)
       ∙ ap (put ls (perLink * lo)) (sym (span-join g lo j hi (omega arith) (e .high)))
 
   pub ends-done : j ≤ i + 1 → out ≡ put ls (perLink * lo) (reversed ls lo hi)
   ends-done l =
       let g = mirror ls lo hi in
-      let A = span (mirror ls lo hi) lo i in
+      let A = segment (mirror ls lo hi) lo i in
       ⊎-elim
       (λ lt.
       let D = put ls (perLink * lo) A in
       let q : i ≡ lo + hi - 1 - i = omega arith in
       let own : row D i ≡ g i = row-above ls (perLink * lo) A (omega arith) i (omega (arith, front)) ∙ ap (row ls) q in
-      let m : D ≡ put ls (perLink * lo) (span g lo (i + 1)) =
+      let m : D ≡ put ls (perLink * lo) (segment g lo (i + 1)) =
       sym (put-same D i (omega (arith, first-long)))
       ∙ ap (put D (perLink * i)) own
       ∙ put-put ls (perLink * lo) A (perLink * i) (g i) (omega arith) (sym front)
       ∙ ap (put ls (perLink * lo)) (sym (span-back g lo i (e .low))) in
-      e .is ∙ ap (λ (o : List ℕ). put o (perLink * j) (span g j hi)) m ∙ closed (i + 1) (omega arith))
+      e .is ∙ ap (λ (o : List ℕ). put o (perLink * j) (segment g j hi)) m ∙ closed (i + 1) (omega arith))
       (λ ge. e .is ∙ closed i (omega arith))
       (either i j)
 

@@ -7,8 +7,8 @@ use lib.ListN.{length, getD}
 use lib.Seq.{set-getD}
 use Rattle.folds.specs.Lists.{put}
 use Rattle.folds.proofs.Put.{put-nil, put-put, put-below, put-inside, put-above, put-four}
-use Rattle.store_rules.specs.Store.{perLink}
-use Rattle.store_link_rows.specs.Rows.{seg, span, row, rows}
+use Rattle.store_rules.specs.Store.{perLink, rowParent, rowPosition, rowWidth, rowChild}
+use Rattle.store_link_rows.specs.Rows.{seg, segment, row, rows}
 use Rattle.store_link_rows.proofs.Spans.{seg-ext, length-seg, seg-at, span-empty, span-back}
 
 pub length-row : (ls : List ℕ) (k : ℕ) → length (row ls k) ≡ 4
@@ -20,9 +20,9 @@ pub row-same : (d e : List ℕ) (k : ℕ) → ((i : ℕ) → perLink * k ≤ i �
 unfolding row
 row-same d e k h =
     let p = h (perLink * k) (omega arith) (omega arith) in
-    let q = h (perLink * k + 1) (omega arith) (omega arith) in
-    let w = h (perLink * k + 2) (omega arith) (omega arith) in
-    let c = h (perLink * k + 3) (omega arith) (omega arith) in
+    let q = h (perLink * k + rowPosition) (omega arith) (omega arith) in
+    let w = h (perLink * k + rowWidth) (omega arith) (omega arith) in
+    let c = h (perLink * k + rowChild) (omega arith) (omega arith) in
     cc
 
 module _ (d : List ℕ) (b : ℕ) (xs : List ℕ) (fits : b ≤ length d) where
@@ -33,20 +33,20 @@ module _ (d : List ℕ) (b : ℕ) (xs : List ℕ) (fits : b ≤ length d) where
   row-above k l = row-same (put d b xs) d k (λ i p q. put-above d b xs fits i (omega arith))
 
 -- the row at its own place
-pub put-same : (d : List ℕ) (k : ℕ) → perLink * k + 3 < length d → put d (perLink * k) (row d k) ≡ d
+pub put-same : (d : List ℕ) (k : ℕ) → perLink * k + rowChild < length d → put d (perLink * k) (row d k) ≡ d
 unfolding row
-put-same d k l = sym (put-four d (perLink * k) (getD d (perLink * k) 0) (getD d (perLink * k + 1) 0) (getD d (perLink * k + 2) 0) (getD d (perLink * k + 3) 0) l) ∙ simp set-getD
+put-same d k l = sym (put-four d (perLink * k) (getD d (perLink * k) 0) (getD d (perLink * k + rowPosition) 0) (getD d (perLink * k + rowWidth) 0) (getD d (perLink * k + rowChild) 0) l) ∙ simp set-getD
 
 module _ (f : ℕ → List ℕ) (four : (k : ℕ) → length (f k) ≡ 4) where
-  pub length-span : (lo hi : ℕ) → lo ≤ hi → perLink * lo + length (span f lo hi) ≡ perLink * hi
+  pub length-span : (lo hi : ℕ) → lo ≤ hi → perLink * lo + length (segment f lo hi) ≡ perLink * hi
   length-span lo hi l = omega (arith, length-seg f four lo (hi - lo))
 
-  pub span-at : (d : List ℕ) (lo hi k c : ℕ) → perLink * hi ≤ length d → lo ≤ k → k < hi → c < 4 → getD (put d (perLink * lo) (span f lo hi)) (perLink * k + c) 0 ≡ getD (f k) c 0
+  pub span-at : (d : List ℕ) (lo hi k c : ℕ) → perLink * hi ≤ length d → lo ≤ k → k < hi → c < 4 → getD (put d (perLink * lo) (segment f lo hi)) (perLink * k + c) 0 ≡ getD (f k) c 0
   span-at d lo hi k c room l h m =
       let e : perLink * k + c - perLink * lo ≡ perLink * (k - lo) + c = omega arith in
       let q : lo + (k - lo) ≡ k = omega arith in
-      put-inside d (perLink * lo) (span f lo hi) (omega arith) (perLink * k + c) (omega arith) (omega (arith, length-span lo hi (omega arith)))
-      ∙ ap (λ (i : ℕ). getD (span f lo hi) i 0) e
+      put-inside d (perLink * lo) (segment f lo hi) (omega arith) (perLink * k + c) (omega arith) (omega (arith, length-span lo hi (omega arith)))
+      ∙ ap (λ (i : ℕ). getD (segment f lo hi) i 0) e
       ∙ seg-at f four lo (hi - lo) (k - lo) c (omega arith) m
       ∙ ap (λ (i : ℕ). getD (f i) c 0) q
 
@@ -55,16 +55,16 @@ rows-long ls lo hi l = length-span (row ls) (length-row ls) lo hi l
 
 -- a row of a segment of rows, after the segment was written
 module _ (ls : List ℕ) (g : ℕ → ℕ) where
-  pub row-inside : (d : List ℕ) (lo hi k : ℕ) → perLink * hi ≤ length d → lo ≤ k → k < hi → row (put d (perLink * lo) (span (λ k. row ls (g k)) lo hi)) k ≡ row ls (g k)
+  pub row-inside : (d : List ℕ) (lo hi k : ℕ) → perLink * hi ≤ length d → lo ≤ k → k < hi → row (put d (perLink * lo) (segment (λ k. row ls (g k)) lo hi)) k ≡ row ls (g k)
   unfolding row
   row-inside d lo hi k room l h =
       let f : ℕ → List ℕ = λ k. row ls (g k) in
       let n : (k : ℕ) → length (f k) ≡ 4 = λ k. length-row ls (g k) in
-      let z : perLink * k + 0 ≡ perLink * k = omega arith in
-      let p : getD (put d (perLink * lo) (span f lo hi)) (perLink * k) 0 ≡ getD ls (perLink * g k) 0 = ap (λ (i : ℕ). getD (put d (perLink * lo) (span f lo hi)) i 0) (sym z) ∙ span-at f n d lo hi k 0 room l h (omega arith) in
-      let q : getD (put d (perLink * lo) (span f lo hi)) (perLink * k + 1) 0 ≡ getD ls (perLink * g k + 1) 0 = span-at f n d lo hi k 1 room l h (omega arith) in
-      let w : getD (put d (perLink * lo) (span f lo hi)) (perLink * k + 2) 0 ≡ getD ls (perLink * g k + 2) 0 = span-at f n d lo hi k 2 room l h (omega arith) in
-      let c : getD (put d (perLink * lo) (span f lo hi)) (perLink * k + 3) 0 ≡ getD ls (perLink * g k + 3) 0 = span-at f n d lo hi k 3 room l h (omega arith) in
+      let z : perLink * k + rowParent ≡ perLink * k = omega arith in
+      let p : getD (put d (perLink * lo) (segment f lo hi)) (perLink * k) 0 ≡ getD ls (perLink * g k) 0 = ap (λ (i : ℕ). getD (put d (perLink * lo) (segment f lo hi)) i 0) (sym z) ∙ span-at f n d lo hi k 0 room l h (omega arith) in
+      let q : getD (put d (perLink * lo) (segment f lo hi)) (perLink * k + rowPosition) 0 ≡ getD ls (perLink * g k + rowPosition) 0 = span-at f n d lo hi k 1 room l h (omega arith) in
+      let w : getD (put d (perLink * lo) (segment f lo hi)) (perLink * k + rowWidth) 0 ≡ getD ls (perLink * g k + rowWidth) 0 = span-at f n d lo hi k 2 room l h (omega arith) in
+      let c : getD (put d (perLink * lo) (segment f lo hi)) (perLink * k + rowChild) 0 ≡ getD ls (perLink * g k + rowChild) 0 = span-at f n d lo hi k 3 room l h (omega arith) in
       cc
 
 -- a row of rows that were written, at other numbers than their own
@@ -72,7 +72,7 @@ pub row-of-rows : (ls d : List ℕ) (a b n i : ℕ) → perLink * (a + n) ≤ le
 row-of-rows ls d a b n i room l =
     let g : ℕ → ℕ = λ k. b + (k - a) in
     let e : n ≡ a + n - a = omega arith in
-    let x : seg (row ls) b n ≡ span (λ k. row ls (g k)) a (a + n) =
+    let x : seg (row ls) b n ≡ segment (λ k. row ls (g k)) a (a + n) =
     seg-ext (row ls) (λ k. row ls (g k)) b a n (λ i l. let z : b + i ≡ b + (a + i - a) = omega arith in ap (row ls) z)
     ∙ ap (seg (λ k. row ls (g k)) a) e in
     let z : b + (a + i - a) ≡ b + i = omega arith in

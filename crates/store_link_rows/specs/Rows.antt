@@ -5,7 +5,7 @@ use mathlib.Core.List.{List, [], _∷_}
 use lib.ListN.{getD}
 use lib.Dec.{eqb}
 use Rattle.folds.specs.Folds.{flat}
-use Rattle.store_rules.specs.Store.{perLink}
+use Rattle.store_rules.specs.Store.{perLink, rowPosition, rowWidth, rowChild}
 use Rattle.store_rules.specs.Header.{ownChild}
 
 -- what f gives at the n indices from a on, in a row
@@ -13,8 +13,8 @@ unfoldable pub seg : (ℕ → List ℕ) → ℕ → ℕ → List ℕ
 seg f a n = flat (λ i. f (a + i)) n
 
 -- what f gives from index lo up to hi, hi left out
-abbrev pub span : (ℕ → List ℕ) → ℕ → ℕ → List ℕ
-span f lo hi = seg f lo (hi - lo)
+abbrev pub segment : (ℕ → List ℕ) → ℕ → ℕ → List ℕ
+segment f lo hi = seg f lo (hi - lo)
 
 -- row k: its parent
 abbrev pub parentIn : List ℕ → ℕ → ℕ
@@ -22,15 +22,15 @@ parentIn ls k = getD ls (perLink * k) 0
 
 -- its position in the parent
 abbrev pub positionIn : List ℕ → ℕ → ℕ
-positionIn ls k = getD ls (perLink * k + 1) 0
+positionIn ls k = getD ls (perLink * k + rowPosition) 0
 
 -- its width
 abbrev pub widthIn : List ℕ → ℕ → ℕ
-widthIn ls k = getD ls (perLink * k + 2) 0
+widthIn ls k = getD ls (perLink * k + rowWidth) 0
 
 -- its child
 abbrev pub childIn : List ℕ → ℕ → ℕ
-childIn ls k = getD ls (perLink * k + 3) 0
+childIn ls k = getD ls (perLink * k + rowChild) 0
 
 -- the four numbers of a row
 abbrev pub four : ℕ → ℕ → ℕ → ℕ → List ℕ
@@ -42,15 +42,15 @@ row ls k = four (parentIn ls k) (positionIn ls k) (widthIn ls k) (childIn ls k)
 
 -- the numbers of the rows from lo up to hi, hi left out
 abbrev pub rows : List ℕ → ℕ → ℕ → List ℕ
-rows ls lo hi = span (row ls) lo hi
+rows ls lo hi = segment (row ls) lo hi
 
 -- the same, from the last to the first
 abbrev pub reversed : List ℕ → ℕ → ℕ → List ℕ
-reversed ls lo hi = span (λ k. row ls (lo + hi - 1 - k)) lo hi
+reversed ls lo hi = segment (λ k. row ls (lo + hi - 1 - k)) lo hi
 
 -- the positions of the rows from lo up to hi do not descend
-abbrev pub Ordered : List ℕ → ℕ → ℕ → Type 0
-Ordered ls lo hi = (i j : ℕ) → lo ≤ i → i ≤ j → j < hi → positionIn ls i ≤ positionIn ls j
+abbrev pub PositionsRise : List ℕ → ℕ → ℕ → Type 0
+PositionsRise ls lo hi = (i j : ℕ) → lo ≤ i → i ≤ j → j < hi → positionIn ls i ≤ positionIn ls j
 
 -- row k where it stays: the kept table t's own parts are new objects, of which v is the first
 unfoldable pub keptRow : List ℕ → List ℕ → ℕ → ℕ → ℕ → List ℕ

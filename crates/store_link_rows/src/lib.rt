@@ -5,15 +5,15 @@ ghost use mathlib.Core.List.{_++_};
 ghost use Prim.Native.Nat.{_+_, _*_, _≤_, _<_};
 ghost use lib.ListN.{length};
 ghost use Rattle.folds.specs.Lists.{put};
-ghost use Rattle.store_rules.specs.Store.{perLink};
+ghost use Rattle.store_rules.specs.Store.{perLink, rowChild};
 ghost use Rattle.store_rules.specs.Appended.{rowNumbers};
 ghost use Rattle.store_rules.specs.Header.{ownChild, headerLinks};
 ghost use Rattle.folds.specs.Moments.{came, left};
-ghost use Rattle.store_link_rows.specs.Rows.{span, four, row, rows, reversed, keptRow};
+ghost use Rattle.store_link_rows.specs.Rows.{segment, four, row, rows, reversed, keptRow};
 
 // Writes row k.
 pub fn put_row(links: &mut [u32], k: usize, parent: u32, position: u32, width: u32, child: u32)
-    requires { ⌜ perLink * k + 3 < length (now links) ⌝ }
+    requires { ⌜ perLink * k + rowChild < length (now links) ⌝ }
     ensures { λ _. ⌜ left links ≡ put (came links) (perLink * k) (four parent position width child) ⌝ }
 {
     let at = PER_LINK * k;
@@ -25,7 +25,7 @@ pub fn put_row(links: &mut [u32], k: usize, parent: u32, position: u32, width: u
 
 // Exchanges rows i and j.
 pub fn swap_rows(links: &mut [u32], i: usize, j: usize)
-    requires { ⌜ (i < j) × (perLink * j + 3 < length (now links)) ⌝ }
+    requires { ⌜ (i < j) × (perLink * j + rowChild < length (now links)) ⌝ }
     ensures { λ _. ⌜ left links ≡ put (put (came links) (perLink * i) (row (came links) j)) (perLink * j) (row (came links) i) ⌝ }
 {
     let a = PER_LINK * i;
@@ -107,7 +107,7 @@ pub fn put_header(links: &mut [u32], k: usize, own: &[u32], heads: &[u32], table
 
 // Row k, where it is the kept table's, leads to the kept table's own new objects, of which `first` is the first.
 fn keep_row(links: &mut [u32], k: usize, own: &[u32], table: u32, first: u32)
-    requires { ⌜ (perLink * k + 3 < length (now links)) × (first + length (now own) ≤ 4294967296) ⌝ }
+    requires { ⌜ (perLink * k + rowChild < length (now links)) × (first + length (now own) ≤ 4294967296) ⌝ }
     ensures { λ _. ⌜ left links ≡ put (came links) (perLink * k) (keptRow (came links) (came own) table first k) ⌝ }
 {
     let at = PER_LINK * k;
@@ -119,7 +119,7 @@ fn keep_row(links: &mut [u32], k: usize, own: &[u32], table: u32, first: u32)
 // The same of the first `count` rows.
 pub fn keep_rows(links: &mut [u32], count: usize, own: &[u32], table: u32, first: u32)
     requires { ⌜ (perLink * count ≤ length (now links)) × (first + length (now own) ≤ 4294967296) ⌝ }
-    ensures { λ _. ⌜ left links ≡ put (came links) 0 (span (keptRow (came links) (came own) table first) 0 count) ⌝ }
+    ensures { λ _. ⌜ left links ≡ put (came links) 0 (segment (keptRow (came links) (came own) table first) 0 count) ⌝ }
 {
     let mut k = 0;
     while k < count {

@@ -12,13 +12,13 @@ use Rattle.store_rules.specs.Store.{Store, headOf, tailOf, sizeOf, bytesOf, par
 use Rattle.store_rules.specs.Appended.{rowsFrom}
 use Rattle.store_rules.proofs.ObjectRows.{rows-length}
 use Rattle.store_rules.proofs.Sound.{Fits, ObjectFits, LinkFits}
-use Rattle.store_object_rows.specs.Objects.{Room, Written, Behind}
+use Rattle.store_object_rows.specs.Objects.{ObjectsRoom, Written, Behind}
 use Rattle.store_object_rows.proofs.Writing.{data-long, rows-long}
 
 -- ---- what was written
 
 module _ {s : Store} {new : List (List ℕ)} {d o : List ℕ} {r : ℕ} (fits : Fits s)
-    (room : Room (s .bytes) (s .objects) (s .byteCount) (s .objectCount) new)
+    (room : ObjectsRoom (s .bytes) (s .objects) (s .byteCount) (s .objectCount) new)
     (w : Written (s .bytes) (s .objects) (s .byteCount) (s .objectCount) new d o r) where
   pub written-behind : Behind s d o
   written-behind =

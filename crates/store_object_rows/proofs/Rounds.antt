@@ -6,12 +6,12 @@ use native.Mathlib.Omega.{arith}
 use lib.ListN.{length, length-append}
 use Rattle.folds.specs.Folds.{flat}
 use Rattle.folds.proofs.Folds.{flat-none, flat-more, flat-split}
-use Rattle.store_object_rows.specs.Objects.{Room, Written}
+use Rattle.store_object_rows.specs.Objects.{ObjectsRoom, Written}
 use Rattle.store_object_rows.proofs.Writing.{written-none, data-long, rows-long, room-first, room-rest, written-more}
 
 -- of n rounds of m objects each, the first j are written
 pub record Rounds (d o : List ℕ) (bytes count : ℕ) (objects : ℕ → List (List ℕ)) (n m : ℕ) (d′ o′ : List ℕ) (at row j : ℕ) : Type 0 where
-  pub room : Room d o bytes count (flat objects n)
+  pub room : ObjectsRoom d o bytes count (flat objects n)
   pub each : (k : ℕ) → length (objects k) ≡ m
   pub some : j ≤ n
   pub written : Written d o bytes count (flat objects j) d′ o′ at
@@ -20,7 +20,7 @@ pub record Rounds (d o : List ℕ) (bytes count : ℕ) (objects : ℕ → List (
   pub same-rows : length o′ ≡ length o
 
 module _ (d o : List ℕ) (bytes count : ℕ) (objects : ℕ → List (List ℕ)) (n m : ℕ) where
-  pub rounds-start : Room d o bytes count (flat objects n) → ((k : ℕ) → length (objects k) ≡ m) → Rounds d o bytes count objects n m d o bytes count 0
+  pub rounds-start : ObjectsRoom d o bytes count (flat objects n) → ((k : ℕ) → length (objects k) ≡ m) → Rounds d o bytes count objects n m d o bytes count 0
   rounds-start room each =
       record {
         room = room;
@@ -38,16 +38,16 @@ module _ (d o : List ℕ) (bytes count : ℕ) (objects : ℕ → List (List ℕ)
 
     module _ (h : j < n) where
       -- there is room for one round more
-      more-room : Room d o bytes count (flat objects j ++ objects j)
+      more-room : ObjectsRoom d o bytes count (flat objects j ++ objects j)
       more-room =
           let (others, q) = flat-split objects j n h in
-          room-first (flat objects j ++ objects j) others (subst (λ (new : List (List ℕ)). Room d o bytes count new) q (t .room))
+          room-first (flat objects j ++ objects j) others (subst (λ (new : List (List ℕ)). ObjectsRoom d o bytes count new) q (t .room))
 
-      pub written-room : Room d o bytes count (flat objects j)
+      pub written-room : ObjectsRoom d o bytes count (flat objects j)
       written-room = room-first (flat objects j) (objects j) more-room
 
-      pub next-room : Room d′ o′ at row (objects j)
-      next-room = subst (λ (i : ℕ). Room d′ o′ at i (objects j)) (sym (t .row-is)) (room-rest (flat objects j) (objects j) more-room (t .written))
+      pub next-room : ObjectsRoom d′ o′ at row (objects j)
+      next-room = subst (λ (i : ℕ). ObjectsRoom d′ o′ at i (objects j)) (sym (t .row-is)) (room-rest (flat objects j) (objects j) more-room (t .written))
 
       pub row-fits : row + m ≤ length o
       row-fits = omega (arith, next-room .rows, t .each j, t .same-rows)

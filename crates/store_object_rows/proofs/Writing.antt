@@ -8,7 +8,7 @@ use Rattle.folds.specs.Lists.{put, join}
 use Rattle.folds.proofs.Put.{put-nil, put-then, length-put}
 use Rattle.store_rules.specs.Appended.{rowsFrom}
 use Rattle.store_rules.proofs.ObjectRows.{rows-length}
-use Rattle.store_object_rows.specs.Objects.{Room, Written}
+use Rattle.store_object_rows.specs.Objects.{ObjectsRoom, Written}
 use Rattle.store_object_rows.proofs.Joining.{join-append, join-long, join-one}
 
 rows-append : (xs ys : List (List ℕ)) (at : ℕ) → rowsFrom at (xs ++ ys) ≡ rowsFrom at xs ++ rowsFrom (at + length (join xs)) ys
@@ -33,15 +33,15 @@ written-one {d} {o} {at} {row} x e f q =
     }
 
 -- both buffers keep their lengths
-module _ {d o : List ℕ} {at row : ℕ} {new : List (List ℕ)} {d′ o′ : List ℕ} {r : ℕ} (room : Room d o at row new) (w : Written d o at row new d′ o′ r) where
+module _ {d o : List ℕ} {at row : ℕ} {new : List (List ℕ)} {d′ o′ : List ℕ} {r : ℕ} (room : ObjectsRoom d o at row new) (w : Written d o at row new d′ o′ r) where
   pub data-long : length d′ ≡ length d
   data-long = ap length (w .bytes) ∙ length-put d at (join new) (room .bytes)
 
   pub rows-long : length o′ ≡ length o
   rows-long = ap length (w .rows) ∙ length-put o (2 * row) (rowsFrom at new) (omega (arith, rows-length at new, room .rows))
 
-module _ {d o : List ℕ} {at row : ℕ} (xs ys : List (List ℕ)) (room : Room d o at row (xs ++ ys)) where
-  pub room-first : Room d o at row xs
+module _ {d o : List ℕ} {at row : ℕ} (xs ys : List (List ℕ)) (room : ObjectsRoom d o at row (xs ++ ys)) where
+  pub room-first : ObjectsRoom d o at row xs
   room-first =
       let b = room .bytes in
       let s = room .small in
@@ -53,7 +53,7 @@ module _ {d o : List ℕ} {at row : ℕ} (xs ys : List (List ℕ)) (room : Room 
       }
 
   module _ {d′ o′ : List ℕ} {r : ℕ} (w : Written d o at row xs d′ o′ r) where
-    pub room-rest : Room d′ o′ r (row + length xs) ys
+    pub room-rest : ObjectsRoom d′ o′ r (row + length xs) ys
     room-rest =
         let b = room .bytes in
         let s = room .small in
@@ -81,8 +81,8 @@ module _ {d o : List ℕ} {at row : ℕ} (xs ys : List (List ℕ)) (room : Room 
         }
 
 -- one object, and others behind it
-module _ {d o : List ℕ} {at row : ℕ} (x : List ℕ) (rest : List (List ℕ)) (room : Room d o at row (x ∷ rest)) where
-  one-room : Room d o at row (x ∷ [])
+module _ {d o : List ℕ} {at row : ℕ} (x : List ℕ) (rest : List (List ℕ)) (room : ObjectsRoom d o at row (x ∷ rest)) where
+  one-room : ObjectsRoom d o at row (x ∷ [])
   one-room = room-first (x ∷ []) rest room
 
   pub one-fits : at + length x ≤ length d
@@ -95,7 +95,7 @@ module _ {d o : List ℕ} {at row : ℕ} (x : List ℕ) (rest : List (List ℕ))
   one-small q = omega (arith, one-room .small, join-one x)
 
   module _ {d′ o′ : List ℕ} {r : ℕ} (e : d′ ≡ put d at x) (g : o′ ≡ put o (2 * row) (at ∷ r ∷ [])) (q : r ≡ at + length x) where
-    pub rest-room : Room d′ o′ r (row + 1) rest
+    pub rest-room : ObjectsRoom d′ o′ r (row + 1) rest
     rest-room = room-rest (x ∷ []) rest room (written-one x e g q)
 
     pub rest-done : {d″ o″ : List ℕ} {r′ : ℕ} → Written d′ o′ r (row + 1) rest d″ o″ r′ → Written d o at row (x ∷ rest) d″ o″ r′

@@ -8,7 +8,7 @@ use Rattle.store_rules.specs.Store.{Store}
 use Rattle.store_rules.specs.Appended.{rowsFrom}
 
 -- there is room for new objects from byte `at` and row `row` on, and the last ends within 32 bits
-pub record Room (d o : List ℕ) (at row : ℕ) (new : List (List ℕ)) : Type 0 where
+pub record ObjectsRoom (d o : List ℕ) (at row : ℕ) (new : List (List ℕ)) : Type 0 where
   pub bytes : at + length (join new) ≤ length d
   pub rows : 2 * (row + length new) ≤ length o
   pub small : at + length (join new) < 4294967296

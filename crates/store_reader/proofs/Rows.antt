@@ -11,7 +11,7 @@ use lib.Dec.{leb, ltb, eqb}
 use lib.ListN.{getD}
 use borrow.Author.Tests.{ltb-true, lt-ltb, le-ltb, le-leb, lt-leb, eq-eqb, ne-eqb}
 use Rattle.folds.proofs.Tests.{either, and-first, and-second}
-use Rattle.store_rules.specs.Store.{Store, perLink, sound, parentOf, positionOf, ascends}
+use Rattle.store_rules.specs.Store.{Store, perLink, rowParent, rowPosition, sound, parentOf, positionOf, ascends}
 use Rattle.store_rules.proofs.Sound.{Fits, sound-fits}
 use Rattle.store_reader.specs.declared.LinkRows.{LinkRows}
 use Rattle.store_reader.specs.Rows.{keyOf, rowKey, InOrder, FirstRow, Bracket, ParentRows}
@@ -132,19 +132,19 @@ module _ (lo hi k p a b P Q : ℕ) (small : Q < 4294967296) (short : b ≤ 42949
       (either k lo)
 
 -- row k is one of those from lo up to hi exactly if it is such a row
-pub rows-between : {l : List ℕ} {m lo hi : ℕ} (p a b : ℕ) → FirstRow l m (keyOf p a) lo → FirstRow l m (keyOf p b) hi → b ≤ 4294967296 → (k : ℕ) → k < m → getD l (perLink * k + 1) 0 < 4294967296
-    → (leb lo k && ltb k hi) ≡ (eqb (getD l (perLink * k + 0) 0) p && leb a (getD l (perLink * k + 1) 0) && ltb (getD l (perLink * k + 1) 0) b)
+pub rows-between : {l : List ℕ} {m lo hi : ℕ} (p a b : ℕ) → FirstRow l m (keyOf p a) lo → FirstRow l m (keyOf p b) hi → b ≤ 4294967296 → (k : ℕ) → k < m → getD l (perLink * k + rowPosition) 0 < 4294967296
+    → (leb lo k && ltb k hi) ≡ (eqb (getD l (perLink * k + rowParent) 0) p && leb a (getD l (perLink * k + rowPosition) 0) && ltb (getD l (perLink * k + rowPosition) 0) b)
 rows-between {l} {m} {lo} {hi} p a b f g short k used small =
-    between lo hi k p a b (getD l (perLink * k + 0) 0) (getD l (perLink * k + 1) 0) small short (f .below k) (λ d. f .above k d used) (g .below k) (λ d. g .above k d used)
+    between lo hi k p a b (getD l (perLink * k + rowParent) 0) (getD l (perLink * k + rowPosition) 0) small short (f .below k) (λ d. f .above k d used) (g .below k) (λ d. g .above k d used)
 
 -- the same for all rows of parent p
-pub parent-rows : {l : List ℕ} {m lo hi : ℕ} (p : ℕ) → FirstRow l m (keyOf p 0) lo → FirstRow l m (keyOf (p + 1) 0) hi → (k : ℕ) → k < m → getD l (perLink * k + 1) 0 < 4294967296
-    → (leb lo k && ltb k hi) ≡ eqb (getD l (perLink * k + 0) 0) p
+pub parent-rows : {l : List ℕ} {m lo hi : ℕ} (p : ℕ) → FirstRow l m (keyOf p 0) lo → FirstRow l m (keyOf (p + 1) 0) hi → (k : ℕ) → k < m → getD l (perLink * k + rowPosition) 0 < 4294967296
+    → (leb lo k && ltb k hi) ≡ eqb (getD l (perLink * k + rowParent) 0) p
 parent-rows {l} {m} {lo} {hi} p f g k used small =
     let e : keyOf (p + 1) 0 ≡ keyOf p 4294967296 = omega arith in
     let h : FirstRow l m (keyOf p 4294967296) hi = subst (λ (key : ℕ). FirstRow l m key hi) e g in
     rows-between p 0 4294967296 f h (omega arith) k used small
-    ∙ rw (le-leb 0 (getD l (perLink * k + 1) 0) (omega arith), lt-ltb (getD l (perLink * k + 1) 0) 4294967296 small) (and-true (eqb (getD l (perLink * k + 0) 0) p))
+    ∙ rw (le-leb 0 (getD l (perLink * k + rowPosition) 0) (omega arith), lt-ltb (getD l (perLink * k + rowPosition) 0) 4294967296 small) (and-true (eqb (getD l (perLink * k + rowParent) 0) p))
   where
     and-true : (b : Bool) → b && true && true ≡ b
     and-true true = refl

@@ -2,7 +2,7 @@
 use Prim.Native.Nat.{ℕ, _+_, _*_, _<_, _≤_}
 use mathlib.Core.List.{List}
 use lib.ListN.{length, getD}
-use Rattle.store_rules.specs.Store.{perLink}
+use Rattle.store_rules.specs.Store.{perLink, rowParent, rowPosition}
 use Rattle.store_reader.specs.declared.LinkRows.{LinkRows}
 
 -- object i of these rows lies within n bytes
@@ -17,7 +17,7 @@ keyOf p q = 4294967296 * p + q
 
 -- row k's parent and position
 abbrev pub rowKey : List ℕ → ℕ → ℕ
-rowKey l k = keyOf (getD l (perLink * k + 0) 0) (getD l (perLink * k + 1) 0)
+rowKey l k = keyOf (getD l (perLink * k + rowParent) 0) (getD l (perLink * k + rowPosition) 0)
 
 -- there are m rows, "strictly ascending by (parent, position)"
 pub record InOrder (l : List ℕ) (m : ℕ) : Type 0 where

@@ -5,7 +5,7 @@ ghost use mathlib.Core.List.{List};
 ghost use lib.ListN.{length, getD};
 ghost use lib.Dec.{leb};
 ghost use Rattle.folds.specs.Folds.{all, before};
-ghost use Rattle.store_rules.specs.Store.{lent, perLink, bytesOf, objectFits, ascends, linkFits, sound, handedOut, childAt};
+ghost use Rattle.store_rules.specs.Store.{lent, perLink, rowPosition, rowChild, bytesOf, objectFits, ascends, linkFits, sound, handedOut, childAt};
 ghost use Rattle.folds.specs.Moments.{came};
 ghost use Rattle.store_rules.specs.Moments.{storeCameWith};
 ghost use Rattle.store_reader.specs.Rows.{Inside, keyOf, rowKey, InOrder, Bracket, FirstRow, ParentRows};
@@ -87,7 +87,7 @@ fn key_of(parent: u32, position: u32) -> u64
 
 // Parent and position of link row `k` as one number.
 fn key_at(links: &[u32], k: usize) -> u64
-    requires { ⌜ perLink * k + 1 < length (now links) ⌝ }
+    requires { ⌜ perLink * k + rowPosition < length (now links) ⌝ }
     ensures { λ r. ⌜ r ≡ rowKey (came links) k ⌝ }
 {
     key_of(links[PER_LINK * k + PARENT], links[PER_LINK * k + POSITION])
@@ -95,7 +95,7 @@ fn key_at(links: &[u32], k: usize) -> u64
 
 // Whether link row `k` stands behind the row before it.
 fn row_ascends(links: &[u32], k: usize) -> bool
-    requires { ⌜ perLink * k + 1 < length (now links) ⌝ }
+    requires { ⌜ perLink * k + rowPosition < length (now links) ⌝ }
     ensures { λ r. ⌜ ((b o c : List ℕ) → r ≡ ascends (lent b o (came links) c) k) ⌝ }
 {
     if k == 0 {
@@ -114,7 +114,7 @@ fn position_fits(objects: &[u32], i: usize, position: u32) -> bool
 
 // Whether link row `k` fits: parent and child in use, width 2, position + 2 within the parent, and behind the row before it.
 fn link_fits(objects: &[u32], links: &[u32], counts: [u32; 3], k: usize) -> bool
-    requires { ⌜ (2 * getD counts 1 0 ≤ length (now objects)) × (perLink * k + 3 < length (now links)) ⌝ }
+    requires { ⌜ (2 * getD counts 1 0 ≤ length (now objects)) × (perLink * k + rowChild < length (now links)) ⌝ }
     ensures { λ r. ⌜ ((b : List ℕ) → r ≡ linkFits (lent b (came objects) (came links) counts) k) ⌝ }
 {
     let parent = links[PER_LINK * k + PARENT];

@@ -7,7 +7,7 @@ use Rattle.folds.specs.Lists.{Bytes, join}
 use Rattle.folds.proofs.Each.{Each}
 use Rattle.folds.proofs.Put.{length-put}
 use Rattle.folds.proofs.Bytes.{bytes-put, bytes-join}
-use Rattle.store_rules.specs.Store.{Store, Link}
+use Rattle.store_rules.specs.Store.{perLink, Store, Link}
 use Rattle.store_rules.specs.Appended.{appended, rowNumbers}
 use Rattle.store_rules.proofs.Sound.{Fits}
 use Rattle.store_rules.proofs.LinkRows.{rows-numbers}
@@ -19,11 +19,11 @@ module _ (s : Store) (new : List (List ℕ)) (ls : List Link) (room : Room s new
   abbrev s′ : Store
   s′ = appended s new ls
 
-  links-room : 4 * length ls ≤ length (s .links) → 4 * s′ .linkCount ≤ length (s′ .links)
+  links-room : perLink * length ls ≤ length (s .links) → perLink * s′ .linkCount ≤ length (s′ .links)
   unfolding appended
   links-room h = omega (arith, length-put (s .links) 0 (rowNumbers ls) (omega (arith, rows-numbers ls)))
 
-  pub appended-fits : Each (Fitting s′) ls → (e : ℕ) → Climb 0 0 e ls → 4 * length ls ≤ length (s .links) → length ls ≤ 262144 → Fits s′
+  pub appended-fits : Each (Fitting s′) ls → (e : ℕ) → Climb 0 0 e ls → perLink * length ls ≤ length (s .links) → length ls ≤ 262144 → Fits s′
   appended-fits fit e climbs within most =
       let objects = objects-then s new ls in
       let bytes = bytes-then s new ls in

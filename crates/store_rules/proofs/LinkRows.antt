@@ -8,7 +8,7 @@ use lib.ListN.{length, getD}
 use Rattle.folds.specs.Folds.{upto}
 use Rattle.folds.proofs.Folds.{upto-same}
 use Rattle.folds.proofs.FromTheFront.{upto-getD, upto-at}
-use Rattle.store_rules.specs.Store.{Link, Store, linksOf, linkAt, linkNumber}
+use Rattle.store_rules.specs.Store.{Store, Link, perLink, rowParent, rowPosition, rowWidth, rowChild, linksOf, linkAt, linkNumber}
 use Rattle.store_rules.specs.Appended.{rowNumbers}
 
 -- what a list has past its end
@@ -16,7 +16,7 @@ pub noLink : Link
 noLink = record { parent = 0; position = 0; width = 0; child = 0 }
 
 -- four numbers further on
-four-on : (k : ℕ) (j : ℕ) → 4 * suc k + j ≡ suc (suc (suc (suc (4 * k + j))))
+four-on : (k : ℕ) (j : ℕ) → perLink * suc k + j ≡ suc (suc (suc (suc (perLink * k + j))))
 four-on k j = omega arith
 
 -- number j of a link
@@ -26,7 +26,7 @@ numberAt l (suc zero) = l .position
 numberAt l (suc (suc zero)) = l .width
 numberAt l (suc (suc (suc j))) = l .child
 
-rows-at : (ls : List Link) (rest : List ℕ) (k j : ℕ) → k < length ls → j < 4 → getD (rowNumbers ls ++ rest) (4 * k + j) 0 ≡ numberAt (getD ls k noLink) j
+rows-at : (ls : List Link) (rest : List ℕ) (k j : ℕ) → k < length ls → j < 4 → getD (rowNumbers ls ++ rest) (perLink * k + j) 0 ≡ numberAt (getD ls k noLink) j
 unfolding rowNumbers
 rows-at [] rest k j h b = absurd (not-suc-le-zero h)
 rows-at (l ∷ ls) rest zero zero h b = refl
@@ -44,17 +44,17 @@ links-back s ls rest e n =
     ∙ upto-getD ls noLink
   where
     number : (k j : ℕ) → k < length ls → j < 4 → linkNumber s k j ≡ numberAt (getD ls k noLink) j
-    number k j h b = ap (λ (r : List ℕ). getD r (4 * k + j) 0) e ∙ rows-at ls rest k j h b
+    number k j h b = ap (λ (r : List ℕ). getD r (perLink * k + j) 0) e ∙ rows-at ls rest k j h b
 
     same : (k : ℕ) → k < length ls → linkAt s k ≡ getD ls k noLink
-    same k h = λ i. record { parent = number k 0 h (omega arith) i; position = number k 1 h (omega arith) i; width = number k 2 h (omega arith) i; child = number k 3 h (omega arith) i }
+    same k h = λ i. record { parent = number k rowParent h (omega arith) i; position = number k rowPosition h (omega arith) i; width = number k rowWidth h (omega arith) i; child = number k rowChild h (omega arith) i }
 
 -- row k is link k
 pub row-is : (s : Store) (ls : List Link) → linksOf s ≡ ls → (k : ℕ) → k < s .linkCount → (d : Link) → linkAt s k ≡ getD ls k d
 unfolding linksOf
 row-is s ls e k h d = sym (upto-at (linkAt s) (s .linkCount) k d h) ∙ ap (λ (x : List Link). getD x k d) e
 
-pub rows-numbers : (ls : List Link) → length (rowNumbers ls) ≡ 4 * length ls
+pub rows-numbers : (ls : List Link) → length (rowNumbers ls) ≡ perLink * length ls
 unfolding rowNumbers
 rows-numbers [] = refl
 rows-numbers (l ∷ ls) = omega (arith, rows-numbers ls)

@@ -12,7 +12,7 @@ use Rattle.folds.specs.Folds.{all, sum, before}
 use Rattle.folds.proofs.Folds.{all-at, all-intro}
 use Rattle.folds.proofs.Joined.{and-three, and-five, three-hold, five-hold}
 use Rattle.folds.proofs.Parts.{length-part}
-use Rattle.store_rules.specs.Store.{Store, sound, byteRoom, objectRoom, linkRoom, bytesOf, headOf, tailOf, sizeOf, parentOf, positionOf, childOf, widthOf, objectFits, linkFits, ascends}
+use Rattle.store_rules.specs.Store.{perLink, Store, sound, byteRoom, objectRoom, linkRoom, bytesOf, headOf, tailOf, sizeOf, parentOf, positionOf, childOf, widthOf, objectFits, linkFits, ascends}
 
 -- "head ≤ tail ≤ data in use, each head at or after the tail before it"
 pub record ObjectFits (s : Store) (i : ℕ) : Type 0 where
@@ -34,7 +34,7 @@ pub record Fits (s : Store) : Type 0 where
   pub bytesMost : s .byteCount ≤ 16777216
   pub objectsIn : 2 * s .objectCount ≤ length (s .objects)
   pub objectsMost : s .objectCount ≤ 65536
-  pub linksIn : 4 * s .linkCount ≤ length (s .links)
+  pub linksIn : perLink * s .linkCount ≤ length (s .links)
   pub linksMost : s .linkCount ≤ 262144
   pub object : (i : ℕ) → i < s .objectCount → ObjectFits s i
   pub link : (k : ℕ) → k < s .linkCount → LinkFits s k

@@ -25,6 +25,19 @@ lent b o l c = record { bytes = b; objects = o; links = l; byteCount = getD c 0 
 abbrev pub perLink : ℕ
 perLink = 4
 
+-- "link rows (parent, position, width, child)": which number of a row is which
+abbrev pub rowParent : ℕ
+rowParent = 0
+
+abbrev pub rowPosition : ℕ
+rowPosition = 1
+
+abbrev pub rowWidth : ℕ
+rowWidth = 2
+
+abbrev pub rowChild : ℕ
+rowChild = 3
+
 -- "Room is the smaller of lent length and maximum": "16,777,216 data bytes, 65,536 objects, 262,144 links"
 unfoldable pub byteRoom : ℕ → ℕ
 byteRoom n = min n 16777216
@@ -57,21 +70,21 @@ bytesOf s i = part (s .bytes) (headOf s i) (tailOf s i)
 abbrev pub linkNumber : Store → ℕ → ℕ → ℕ
 linkNumber s k j = getD (s .links) (perLink * k + j) 0
 
--- "link rows (parent, position, width, child)"
+-- its parent
 abbrev pub parentOf : Store → ℕ → ℕ
-parentOf s k = linkNumber s k 0
+parentOf s k = linkNumber s k rowParent
 
 -- its position in the parent
 abbrev pub positionOf : Store → ℕ → ℕ
-positionOf s k = linkNumber s k 1
+positionOf s k = linkNumber s k rowPosition
 
 -- its width
 abbrev pub widthOf : Store → ℕ → ℕ
-widthOf s k = linkNumber s k 2
+widthOf s k = linkNumber s k rowWidth
 
 -- its child
 abbrev pub childOf : Store → ℕ → ℕ
-childOf s k = linkNumber s k 3
+childOf s k = linkNumber s k rowChild
 
 -- "head ≤ tail ≤ data in use, each head at or after the tail before it"
 unfoldable pub objectFits : Store → ℕ → Bool

@@ -9,7 +9,7 @@ use Rattle.store_reader.specs.Rows.{InOrder}
 use Rattle.store_reader.proofs.Rows.{in-order}
 use Rattle.store_rules.specs.Store.{lent, sound}
 use Rattle.store_rules.proofs.Sound.{Fits, sound-fits}
-use Rattle.store_walk.specs.Marks.{noRow, Blank, Prepared, Ready}
+use Rattle.store_walk.specs.Marks.{noRow, Blank, Prepared, WalkReady}
 use Rattle.store_runs.specs.Looks.{Looks}
 
 module _ {o l c w : List ℕ} (p : Looks o l c w) where
@@ -25,7 +25,7 @@ module _ {o l c w : List ℕ} (p : Looks o l c w) where
   pub blank : Blank l c w
   blank = record { bytes = p .bytes; objects = o; is-sound = p .is-sound; room = p .room }
 
-  pub ready : {z : List ℕ} → Prepared l c z → Ready o l c noRow 1 z
+  pub ready : {z : List ℕ} → Prepared l c z → WalkReady o l c noRow 1 z
   ready q = record { bytes = p .bytes; is-sound = p .is-sound; marks = q (p .bytes) o (p .is-sound); early = omega arith }
 
 is-true : (b : Bool) → not b ≡ false → b ≡ true

@@ -9,7 +9,7 @@ use native.Mathlib.Omega.{arith}
 use lib.ListN.{length, getD, set, length-set, replicate, length-replicate, getD-replicate}
 use lib.Seq.{getD-set-same, getD-set-other}
 use Rattle.folds.specs.Folds.{before}
-use Rattle.store_rules.specs.Store.{perLink}
+use Rattle.store_rules.specs.Store.{perLink, rowParent, rowPosition}
 use Rattle.store_reader.specs.Rows.{keyOf, rowKey, InOrder, FirstRow}
 use Rattle.store_walk.specs.Marks.{Blank, LastOf, Lasts}
 
@@ -58,7 +58,7 @@ none-passed {l} {m} {n} {w} z room =
     record { few = omega arith; long = refl; unmarked = λ i h. zero-at i (omega arith); lasts = λ i h. none-last l i (getD w (n + i) 0) (zero-at (n + i) (omega arith)) }
 
 -- one row more
-pub passed-more : {l : List ℕ} {m n : ℕ} {w₀ w : List ℕ} {k : ℕ} → Passed l m n w₀ w k → 2 * n ≤ length w₀ → k < m → getD l (perLink * k + 0) 0 < n → Passed l m n w₀ (set w (n + getD l (perLink * k + 0) 0) (k + 1)) (k + 1)
+pub passed-more : {l : List ℕ} {m n : ℕ} {w₀ w : List ℕ} {k : ℕ} → Passed l m n w₀ w k → 2 * n ≤ length w₀ → k < m → getD l (perLink * k + rowParent) 0 < n → Passed l m n w₀ (set w (n + getD l (perLink * k + rowParent) 0) (k + 1)) (k + 1)
 passed-more {l} {m} {n} {w₀} {w} {k} v room more h = record {
   few = omega arith;
   long = simp length-set (v .long);
@@ -70,14 +70,14 @@ passed-more {l} {m} {n} {w₀} {w} {k} v room more h = record {
 }
   where
     p : ℕ
-    p = getD l (perLink * k + 0) 0
+    p = getD l (perLink * k + rowParent) 0
 
     here : (i : ℕ) → i ≡ p → LastOf l (k + 1) i (k + 1)
-    here i e = let z : k + 1 - 1 ≡ k = omega arith in record { all = λ j a b. a; last = inr (omega arith, ap (λ (x : ℕ). getD l (perLink * x + 0) 0) z ∙ sym e) }
+    here i e = let z : k + 1 - 1 ≡ k = omega arith in record { all = λ j a b. a; last = inr (omega arith, ap (λ (x : ℕ). getD l (perLink * x + rowParent) 0) z ∙ sym e) }
 
     there : (i : ℕ) → (i ≡ p → ⊥) → {x : ℕ} → LastOf l k i x → LastOf l (k + 1) i x
     there i d {x} f = record {
-      all = λ j a b. ⊎-elim (λ e. absurd (d (sym b ∙ ap (λ (y : ℕ). getD l (perLink * y + 0) 0) e))) (λ (g : j < k). f .all j g b) (eq-or-lt-of-le (omega arith));
+      all = λ j a b. ⊎-elim (λ e. absurd (d (sym b ∙ ap (λ (y : ℕ). getD l (perLink * y + rowParent) 0) e))) (λ (g : j < k). f .all j g b) (eq-or-lt-of-le (omega arith));
       last = ⊎-elim inl (λ z. inr (omega (arith, z .0), z .1)) (f .last);
     }
 
@@ -90,15 +90,15 @@ lasts-all {l} {c} {w₀} {w} {k} v h =
 -- ---- one object after another: where its rows end
 
 -- where the last of object i's rows is known, so is where the next object's start
-module _ {l : List ℕ} {m : ℕ} (ordered : InOrder l m) (short : (k : ℕ) → k < m → getD l (perLink * k + 1) 0 < 4294967296) {i end v : ℕ} (s : FirstRow l m (keyOf i 0) end) (f : LastOf l m i v) where
+module _ {l : List ℕ} {m : ℕ} (ordered : InOrder l m) (short : (k : ℕ) → k < m → getD l (perLink * k + rowPosition) 0 < 4294967296) {i end v : ℕ} (s : FirstRow l m (keyOf i 0) end) (f : LastOf l m i v) where
   -- rows at or past this object's, of another one
-  past : (k : ℕ) → k < m → keyOf i 0 ≤ rowKey l k → (getD l (perLink * k + 0) 0 ≡ i → ⊥) → keyOf (i + 1) 0 ≤ rowKey l k
+  past : (k : ℕ) → k < m → keyOf i 0 ≤ rowKey l k → (getD l (perLink * k + rowParent) 0 ≡ i → ⊥) → keyOf (i + 1) 0 ≤ rowKey l k
   past k h a d = omega (arith, short k h)
 
   pub end-moves : end < v → FirstRow l m (keyOf (i + 1) 0) v
-  end-moves g = ⊎-elim (λ z. absurd (omega arith)) (λ (z : (v ≤ m) × (getD l (perLink * (v - 1) + 0) 0 ≡ i)). at (z .0) (z .1)) (f .last)
+  end-moves g = ⊎-elim (λ z. absurd (omega arith)) (λ (z : (v ≤ m) × (getD l (perLink * (v - 1) + rowParent) 0 ≡ i)). at (z .0) (z .1)) (f .last)
     where
-      at : v ≤ m → getD l (perLink * (v - 1) + 0) 0 ≡ i → FirstRow l m (keyOf (i + 1) 0) v
+      at : v ≤ m → getD l (perLink * (v - 1) + rowParent) 0 ≡ i → FirstRow l m (keyOf (i + 1) 0) v
       at a q =
           let own : rowKey l (v - 1) < keyOf (i + 1) 0 = omega (arith, short (v - 1) (omega arith)) in
           record {
@@ -111,7 +111,7 @@ module _ {l : List ℕ} {m : ℕ} (ordered : InOrder l m) (short : (k : ℕ) →
   end-stays g = record { within = s .within; below = λ k h. omega (arith, s .below k h); above = λ k b h. past k h (s .above k b h) (λ e. omega (arith, none, f .all k h e)) }
     where
       none : v ≡ 0
-      none = ⊎-elim (λ z. z) (λ (z : (v ≤ m) × (getD l (perLink * (v - 1) + 0) 0 ≡ i)). ⊎-elim (λ e. e) (λ (b : 0 < v). absurd (omega (arith, z .1, s .below (v - 1) (omega arith)))) (zero-or v)) (f .last)
+      none = ⊎-elim (λ z. z) (λ (z : (v ≤ m) × (getD l (perLink * (v - 1) + rowParent) 0 ≡ i)). ⊎-elim (λ e. e) (λ (b : 0 < v). absurd (omega (arith, z .1, s .below (v - 1) (omega arith)))) (zero-or v)) (f .last)
 
 -- for the first i of n objects it is written down where their rows end; the last of these is `end`
 pub record Ended (l : List ℕ) (m n : ℕ) (w₀ w : List ℕ) (end i : ℕ) : Type 0 where

@@ -14,7 +14,7 @@ use borrow.Author.Tests.{le-leb, lt-leb, lt-ltb, eq-eqb, ne-eqb}
 use Rattle.folds.specs.Folds.{sum}
 use Rattle.folds.proofs.Tests.{and-intro, either}
 use Rattle.folds.proofs.Tally.{tally, count, tally-same, tally-one, tally-le}
-use Rattle.store_rules.specs.Store.{Store, perLink}
+use Rattle.store_rules.specs.Store.{Store, perLink, rowParent, rowPosition, rowChild}
 use Rattle.store_rules.specs.Reach.{Reach}
 use Rattle.store_rules.proofs.Sound.{Fits}
 use Rattle.store_reader.specs.Rows.{keyOf, FirstRow}
@@ -29,10 +29,10 @@ graph l m = record { bytes = []; objects = []; links = l; byteCount = 0; objectC
 
 -- row k's parent and child, and object i's length
 abbrev pub rowParent : List ℕ → ℕ → ℕ
-rowParent l k = getD l (perLink * k + 0) 0
+rowParent l k = getD l (perLink * k + rowParent) 0
 
 abbrev pub rowChild : List ℕ → ℕ → ℕ
-rowChild l k = getD l (perLink * k + 3) 0
+rowChild l k = getD l (perLink * k + rowChild) 0
 
 abbrev pub sizeAt : List ℕ → ℕ → ℕ
 sizeAt o i = getD o (2 * i + 1) 0 - getD o (2 * i) 0
@@ -63,7 +63,7 @@ unread e w i = not (eqb (getD w i 0) e)
 pub record Used (l : List ℕ) (m n : ℕ) : Type 0 where
   pub parents : (k : ℕ) → k < m → rowParent l k < n
   pub children : (k : ℕ) → k < m → rowChild l k < n
-  pub short : (k : ℕ) → k < m → getD l (perLink * k + 1) 0 < 4294967296
+  pub short : (k : ℕ) → k < m → getD l (perLink * k + rowPosition) 0 < 4294967296
 
 pub used : (s : Store) → Fits s → Used (s .links) (s .linkCount) (s .objectCount)
 used s f = record { parents = λ k h. f .link k h .parentUsed; children = λ k h. f .link k h .childUsed; short = λ k h. omega (arith, position-most s f k h) }

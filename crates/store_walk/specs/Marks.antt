@@ -8,7 +8,7 @@ use mathlib.Core.Path.{_≡_}
 use lib.Dec.{leb, ltb, eqb}
 use lib.ListN.{length, getD, set}
 use Rattle.folds.specs.Lists.{among}
-use Rattle.store_rules.specs.Store.{Store, lent, perLink, linkAt, positionOf, sound, ofParent}
+use Rattle.store_rules.specs.Store.{Store, lent, perLink, rowParent, linkAt, positionOf, sound, ofParent}
 use Rattle.store_rules.specs.Reach.{marked, reached, reachSize}
 use Rattle.store_reader.specs.Rows.{keyOf, FirstRow}
 
@@ -52,8 +52,8 @@ pub record Blank (l c w : List ℕ) : Type 0 where
 
 -- v is one more than the last of the first k rows that are object i's, 0 where none is
 pub record LastOf (l : List ℕ) (k i v : ℕ) : Type 0 where
-  pub all : (j : ℕ) → j < k → getD l (perLink * j + 0) 0 ≡ i → j < v
-  pub last : (v ≡ 0) ⊎ ((v ≤ k) × (getD l (perLink * (v - 1) + 0) 0 ≡ i))
+  pub all : (j : ℕ) → j < k → getD l (perLink * j + rowParent) 0 ≡ i → j < v
+  pub last : (v ≡ 0) ⊎ ((v ≤ k) × (getD l (perLink * (v - 1) + rowParent) 0 ≡ i))
 
 -- no object has a mark, and the last of its rows is written down
 pub record Lasts (l c w : List ℕ) : Type 0 where
@@ -65,7 +65,7 @@ abbrev pub Prepared : List ℕ → List ℕ → List ℕ → Type 0
 Prepared l c w = (b o : List ℕ) → sound (lent b o l c) ≡ true → Marks (lent b o l c) noRow 1 w
 
 -- before a walk: the rows are those of a sound store, those of `from` have been walked, and the epochs leave room for numbers above them
-pub record Ready (o l c : List ℕ) (from : ℕ → Bool) (e : ℕ) (w : List ℕ) : Type 0 where
+pub record WalkReady (o l c : List ℕ) (from : ℕ → Bool) (e : ℕ) (w : List ℕ) : Type 0 where
   pub bytes : List ℕ
   pub is-sound : sound (lent bytes o l c) ≡ true
   pub marks : Marks (lent bytes o l c) from e w

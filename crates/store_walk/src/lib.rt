@@ -9,7 +9,7 @@ ghost use lib.ListN.{length, getD, replicate};
 ghost use Rattle.folds.specs.Folds.{before};
 ghost use Rattle.store_rules.specs.Store.{lent, sound};
 ghost use Rattle.folds.specs.Moments.{came, left};
-ghost use Rattle.store_walk.specs.Marks.{noRow, Blank, Lasts, Prepared, Ready, Walks, Begun};
+ghost use Rattle.store_walk.specs.Marks.{noRow, Blank, Lasts, Prepared, WalkReady, Walks, Begun};
 
 // Prepares the scratch, which may hold anything: no object has a mark, and the row where each object's rows end is at hand.
 pub fn prepare(links: &[u32], counts: [u32; 3], walk: &mut [u32])
@@ -77,7 +77,7 @@ pub fn subgraph_size(
     epoch: u32,
     walk: &mut [u32],
 ) -> u64
-    requires { ⌜ (hi ≤ getD counts 2 0) × ((from : ℕ → Bool) × Ready (now objects) (now links) counts from epoch (now walk)) ⌝ }
+    requires { ⌜ (hi ≤ getD counts 2 0) × ((from : ℕ → Bool) × WalkReady (now objects) (now links) counts from epoch (now walk)) ⌝ }
     ensures { λ r. ⌜ Walks (came objects) (came links) counts lo hi epoch (came walk) (left walk) r ⌝ }
 {
     let mut sum: u64 = 0;
@@ -118,7 +118,7 @@ fn walk_before(
     end: u32,
     walk: &mut [u32],
 )
-    requires { ⌜ (table < getD counts 1 0) × Ready (now objects) (now links) counts noRow 1 (now walk) ⌝ }
+    requires { ⌜ (table < getD counts 1 0) × WalkReady (now objects) (now links) counts noRow 1 (now walk) ⌝ }
     ensures { λ _. ⌜ ((b : List ℕ) → Begun (lent b (came objects) (came links) counts) table end (left walk)) ⌝ }
 {
     let n = counts[1] as usize;

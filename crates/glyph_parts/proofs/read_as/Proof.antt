@@ -1,5 +1,4 @@
 -- `glyph_parts::read_as` meets its contract: each kind by its own reader. Assumes nothing.
-use Prim.Native.Nat.{ℕ}
 use mathlib.Core.Path.{_∙_, sym, ap}
 use borrow.Author.Needs.{needs}
 use Rattle.glyph_parts.specs.declared.PartKind.{PartKind}

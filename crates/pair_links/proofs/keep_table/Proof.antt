@@ -6,7 +6,7 @@ use native.Mathlib.Omega.{arith}
 use lib.ListN.{length}
 use Rattle.folds.specs.Lists.{put}
 use Rattle.ot_pairpos.proofs.Layouts.{few-heads}
-use Rattle.store_link_rows.specs.Rows.{span, keptRow}
+use Rattle.store_link_rows.specs.Rows.{segment, keptRow}
 use Rattle.pair_links.proofs.Spreading.{own-positions}
 use borrow.Author.Needs.{needs}
 use Rattle.pair_links.proofs.keep_table.Statement.{statement}
@@ -25,7 +25,7 @@ returns c =
     let start = c .before .before .before .before .before .before .before in
     let a = start .args in
     c .before .before .keep-rows .ensures
-    ∙ ap (λ (own : List ℕ). put (a .links .now) 0 (span (keptRow (a .links .now) own (a .table) (a .first)) 0 (a .count))) (own-positions _ (start .pre .0))
+    ∙ ap (λ (own : List ℕ). put (a .links .now) 0 (segment (keptRow (a .links .now) own (a .table) (a .first)) 0 (a .count))) (own-positions _ (start .pre .0))
 
 pub keep-table-spec : {M : Type 1} → statement M
 keep-table-spec =

@@ -1,5 +1,5 @@
 -- `pair_links::move_up` meets its contract: rows move from the last on, so that none is written over before it is read. Assumes nothing.
-use Rattle.store_rules.specs.Store.{perLink}
+use Rattle.store_rules.specs.Store.{perLink, rowPosition}
 use borrow.Author.Needs.{needs}
 use Prim.Native.Nat.{_+_, _-_, _*_}
 use native.Mathlib.Omega.{arith}
@@ -18,7 +18,7 @@ loop-holds : tie.Need-loop-holds Inv-loop μ-loop
 loop-holds c = up-start _ _ _ _ _ _ _ (omega arith) (omega arith) (omega arith)
 
 cast-position : tie.Need-cast-position Inv-loop μ-loop
-cast-position c = omega (arith, c .slice-known2 .given (perLink * (c .before .before .before .before .args .q + c .before .before .loop .left - 1) + 1))
+cast-position c = omega (arith, c .slice-known2 .given (perLink * (c .before .before .before .before .args .q + c .before .before .loop .left - 1) + rowPosition))
 
 returns : tie.Need-returns Inv-loop μ-loop
 returns c = up-stop _ _ _ _ _ _ _ _ _ _ (c .before .before .before .loop .inv) (c .before .before .loop-test .taken) (c .if1 .taken)
@@ -26,7 +26,7 @@ returns c = up-stop _ _ _ _ _ _ _ _ _ _ (c .before .before .before .loop .inv) (
 cast-put-row : tie.Need-cast-put-row Inv-loop μ-loop
 cast-put-row c =
     let start = c .before .before .before .before .before .before .before .before in
-    omega (arith, c .before .before .before .before .slice-known2 .given (perLink * (start .args .q + c .before .before .before .before .before .before .loop .left - 1) + 1))
+    omega (arith, c .before .before .before .before .slice-known2 .given (perLink * (start .args .q + c .before .before .before .before .before .before .loop .left - 1) + rowPosition))
 
 loop-again : tie.Need-loop-again Inv-loop μ-loop
 unfolding movedRow

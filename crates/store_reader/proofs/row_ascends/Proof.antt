@@ -5,7 +5,7 @@ use native.Mathlib.Omega.{arith}
 use lib.Dec.{ltb}
 use denote.Ref.{now}
 use borrow.Author.Needs.{needs}
-use Rattle.store_rules.specs.Store.{lent}
+use Rattle.store_rules.specs.Store.{perLink, rowPosition, lent}
 use Rattle.store_reader.proofs.Rows.{first-ascends, next-ascends}
 use Rattle.store_reader.proofs.row_ascends.Statement.{statement}
 use Rattle.store_reader.proofs.row_ascends.Tie as tie
@@ -20,8 +20,8 @@ returns-2 c =
     λ b o c′.
     ap₂ ltb (c .before .key-at .ensures) (c .key-at2 .ensures)
     ∙ next-ascends (lent b o (now (a .links)) c′) (a .k) (c .before .before .if1 .left)
-    (omega (arith, d .shared-slice-known .given (4 * (a .k - 1) + 1)))
-    (omega (arith, d .shared-slice-known .given (4 * a .k + 1)))
+    (omega (arith, d .shared-slice-known .given (perLink * (a .k - 1) + rowPosition)))
+    (omega (arith, d .shared-slice-known .given (perLink * a .k + rowPosition)))
 
 pub row-ascends-spec : {M : Type 1} → statement M
 row-ascends-spec =

@@ -4,7 +4,7 @@ use native.Mathlib.Omega.{arith}
 use lib.ListN.{getD}
 use denote.Ref.{now}
 use borrow.Author.Needs.{needs}
-use Rattle.store_rules.specs.Store.{lent, perLink}
+use Rattle.store_rules.specs.Store.{lent, perLink, rowParent}
 use Rattle.store_rules.proofs.Sound.{Fits, sound-fits}
 use Rattle.store_walk.proofs.Ends.{Passed, none-passed, passed-more, lasts-all}
 use Rattle.store_walk.proofs.last_rows.Statement.{statement}
@@ -25,7 +25,7 @@ fit : (s : tie.Start Inv-loop μ-loop) → Fits (lent (s .pre .0 .bytes) (s .pre
 fit s = sound-fits (lent (s .pre .0 .bytes) (s .pre .0 .objects) (now (s .args .links)) (s .args .t2)) (s .pre .0 .is-sound)
 
 -- the row's parent is an object
-parent : (c : tie.In-loop Inv-loop μ-loop) → getD (now (begin (c .before) .args .links)) (perLink * c .before .loop .k + 0) 0 < getD (begin (c .before) .args .t2) 1 0
+parent : (c : tie.In-loop Inv-loop μ-loop) → getD (now (begin (c .before) .args .links)) (perLink * c .before .loop .k + rowParent) 0 < getD (begin (c .before) .args .t2) 1 0
 parent c = fit (begin (c .before)) .link (c .before .loop .k) (c .loop-test .taken) .parentUsed
 
 cast-m : tie.Need-cast-m Inv-loop μ-loop

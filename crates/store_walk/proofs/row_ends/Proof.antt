@@ -6,7 +6,7 @@ use native.Mathlib.Omega.{arith}
 use lib.ListN.{getD}
 use denote.Ref.{now}
 use borrow.Author.Needs.{needs}
-use Rattle.store_rules.specs.Store.{lent, perLink}
+use Rattle.store_rules.specs.Store.{lent, perLink, rowPosition}
 use Rattle.store_rules.proofs.Sound.{Fits, sound-fits}
 use Rattle.store_reader.specs.Rows.{keyOf, FirstRow}
 use Rattle.store_reader.proofs.Rows.{in-order, position-most}
@@ -43,7 +43,7 @@ next c =
     let h = c .before .before .loop-test .taken in
     let v = a .loop .inv in
     let last : LastOf l m i (getD (a .loop .walk) (n + i) 0) = subst (LastOf l m i) (sym (v .rest i (omega arith) h)) (s .pre .1 .lasts i h) in
-    let short : (k : ℕ) → k < m → getD l (perLink * k + 1) 0 < 4294967296 = λ k g. omega (arith, position-most x (fit s) k g) in
+    let short : (k : ℕ) → k < m → getD l (perLink * k + rowPosition) 0 < 4294967296 = λ k g. omega (arith, position-most x (fit s) k g) in
     ⊎-elim
     (λ t. subst (FirstRow l m (keyOf (i + 1) 0)) (sym (t .1)) (end-moves (in-order x (fit s)) short (v .start) last (t .0 .taken)))
     (λ t. subst (FirstRow l m (keyOf (i + 1) 0)) (sym (t .1)) (end-stays (in-order x (fit s)) short (v .start) last (t .0 .left)))

@@ -3,7 +3,7 @@ use Prim.Native.Nat.{_*_, _+_}
 use mathlib.Core.Path.{_∙_}
 use native.Mathlib.Omega.{arith}
 use borrow.Author.Needs.{needs}
-use Rattle.store_rules.specs.Store.{lent, perLink}
+use Rattle.store_rules.specs.Store.{lent, perLink, rowPosition}
 use Rattle.store_reader.proofs.AtSlots.{own-rows-at}
 use Rattle.ot_markbasepos.specs.Kinds.{slotOf}
 use Rattle.mark_checks.proofs.slots.all_at.Statement.{statement}
@@ -19,7 +19,7 @@ returns c b o =
     let a = c .before .before .before .args in
     c .rows-at-slots .ensures
     ∙ own-rows-at (lent b o (a .links .now) (a .t2)) (a .parent) (slotOf (a .holder)) (c .before .rows-of .ensures)
-    (λ k. omega (arith, c .before .before .shared-slice-known .given (perLink * k + 1)))
+    (λ k. omega (arith, c .before .before .shared-slice-known .given (perLink * k + rowPosition)))
 
 pub all-at-spec : {M : Type 1} → statement M
 all-at-spec =

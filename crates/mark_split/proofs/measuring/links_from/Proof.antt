@@ -2,7 +2,7 @@
 use Prim.Native.Nat.{_*_, _+_}
 use native.Mathlib.Omega.{arith}
 use borrow.Author.Needs.{needs}
-use Rattle.store_rules.specs.Store.{lent, perLink}
+use Rattle.store_rules.specs.Store.{lent, perLink, rowPosition}
 use Rattle.mark_split.proofs.LinkCounts.{rows-counted}
 use Rattle.mark_split.proofs.measuring.links_from.Statement.{statement}
 use Rattle.mark_split.proofs.measuring.links_from.Tie as tie
@@ -17,7 +17,7 @@ returns c =
     let a = known .before .args in (
       omega (arith, rows .rows-of .ensures .after .within),
       λ b o. rows-counted (lent b o (a .links .now) (a .t2)) (a .object) (rows .rows-of .ensures)
-          (λ k. omega (arith, known .shared-slice-known .given (perLink * k + 1))),
+          (λ k. omega (arith, known .shared-slice-known .given (perLink * k + rowPosition))),
     )
 
 pub links-from-spec : {M : Type 1} → statement M

@@ -4,7 +4,7 @@ use mathlib.Core.Path.{_∙_}
 use native.Mathlib.Omega.{arith}
 use Rattle.store_reader.proofs.AtSlots.{own-rows-at}
 use Rattle.ot_layouts.specs.PairPos.{shapeOf, isSlot}
-use Rattle.store_rules.specs.Store.{lent, perLink, bytesOf}
+use Rattle.store_rules.specs.Store.{lent, perLink, rowPosition, bytesOf}
 use Rattle.pair_rules.specs.Table.{allAtSlots}
 use borrow.Author.Needs.{needs}
 use Rattle.pair_checks.proofs.slots.links_at_slots.Statement.{statement}
@@ -22,7 +22,7 @@ returns c b o e =
     let s = lent b o (a .links .now) (a .t2) in
     c .rows-at-slots .ensures (bytesOf s (a .table)) e
     ∙ own-rows-at s (a .table) (isSlot (shapeOf (bytesOf s (a .table)))) (c .before .rows-of .ensures)
-    (λ k. omega (arith, c .before .before .shared-slice-known .given (perLink * k + 1)))
+    (λ k. omega (arith, c .before .before .shared-slice-known .given (perLink * k + rowPosition)))
 
 pub links-at-slots-spec : {M : Type 1} → statement M
 links-at-slots-spec =

@@ -6,7 +6,7 @@ use native.Mathlib.Omega.{arith}
 use borrow.Author.Needs.{needs}
 use Rattle.ot_pairpos.specs.Layout.{layoutOf}
 use Rattle.store_reader.proofs.Checks.{Passed, start, turn, stop, fail}
-use Rattle.store_rules.specs.Store.{perLink}
+use Rattle.store_rules.specs.Store.{perLink, rowPosition}
 use Rattle.pair_checks.proofs.AtSlots.{slotAt}
 use Rattle.pair_checks.proofs.slots.rows_at_slots.Statement.{statement}
 use Rattle.pair_checks.proofs.slots.rows_at_slots.Tie as tie
@@ -23,7 +23,7 @@ loop-holds c b e = start
 cast-position : tie.Need-cast-position Inv-loop μ-loop
 cast-position c =
     let a = c .before .before .before .before .before .args in
-    omega (arith, c .shared-slice-known2 .given (perLink * (a .rows .first + c .before .before .loop .i) + 1))
+    omega (arith, c .shared-slice-known2 .given (perLink * (a .rows .first + c .before .before .loop .i) + rowPosition))
 
 returns : tie.Need-returns Inv-loop μ-loop
 returns c b e = fail (c .before .before .before .before .loop .inv b e) (c .before .before .before .loop-test .taken) (c .before .is-slot .ensures b e) (c .if1 .taken)
