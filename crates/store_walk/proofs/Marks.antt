@@ -20,7 +20,7 @@ use Rattle.store_rules.proofs.Reaching.{reach-all, reach-more, reached-bytes, r
 use Rattle.store_rules.proofs.Sound.{Fits, sizes-most}
 use Rattle.store_reader.specs.Rows.{keyOf, FirstRow}
 use Rattle.store_walk.specs.Marks.{between, noRow, alsoBetween, Marks, stamp, Walked}
-use Rattle.store_walk.proofs.Turns.{graph, rowParent, rowChild, sizeAt, Has, has, Spread}
+use Rattle.store_walk.proofs.Turns.{graph, parentAtRow, childAtRow, sizeAt, Has, has, Spread}
 
 -- ---- the scratch with some marks more
 
@@ -64,8 +64,8 @@ module _ {s : Store} {from : ℕ → Bool} {e : ℕ} {w : List ℕ} (f : Fits s)
   reach-marked i h r = eqb-true (getD w i 0) e (v .seen i h ∙ reached-all s from f r)
 
   -- so that rows from marked objects lead to marked ones
-  pub marks-closed : (k : ℕ) → k < s .linkCount → Has e w (rowParent (s .links) k) → Has e w (rowChild (s .links) k)
-  marks-closed k h t = reach-marked (rowChild (s .links) k) (f .link k h .childUsed) (Reach.step (marked-reach (rowParent (s .links) k) (f .link k h .parentUsed) t) k h refl refl)
+  pub marks-closed : (k : ℕ) → k < s .linkCount → Has e w (parentAtRow (s .links) k) → Has e w (childAtRow (s .links) k)
+  marks-closed k h t = reach-marked (childAtRow (s .links) k) (f .link k h .childUsed) (Reach.step (marked-reach (parentAtRow (s .links) k) (f .link k h .parentUsed) t) k h refl refl)
 
 -- ---- after a walk
 
@@ -86,7 +86,7 @@ module _ {s : Store} {from : ℕ → Bool} {lo hi e : ℕ} {w w′ : List ℕ} {
   reach-marks : {i : ℕ} → Reach s (alsoBetween from lo hi) i → Has e w′ i
   reach-marks r =
       reach-all (Has e w′)
-      (λ k l a. ⊎-elim (λ b. kept (rowChild (s .links) k) (f .link k l .childUsed) (reach-marked f v (rowChild (s .links) k) (f .link k l .childUsed) (Reach.seed k l b refl)))
+      (λ k l a. ⊎-elim (λ b. kept (childAtRow (s .links) k) (f .link k l .childUsed) (reach-marked f v (childAtRow (s .links) k) (f .link k l .childUsed) (Reach.seed k l b refl)))
       (λ b. let (p, q) = and-both (leb lo k) (ltb k hi) b in d .seeds k (leb-true lo k p) (ltb-true k hi q)) (or-either (from k) (between lo hi k) a))
       (d .closed) r
 

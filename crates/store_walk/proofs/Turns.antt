@@ -28,11 +28,11 @@ abbrev pub graph : List ℕ → ℕ → Store
 graph l m = record { bytes = []; objects = []; links = l; byteCount = 0; objectCount = 0; linkCount = m }
 
 -- row k's parent and child, and object i's length
-abbrev pub rowParent : List ℕ → ℕ → ℕ
-rowParent l k = getD l (perLink * k + rowParent) 0
+abbrev pub parentAtRow : List ℕ → ℕ → ℕ
+parentAtRow l k = getD l (perLink * k + rowParent) 0
 
-abbrev pub rowChild : List ℕ → ℕ → ℕ
-rowChild l k = getD l (perLink * k + rowChild) 0
+abbrev pub childAtRow : List ℕ → ℕ → ℕ
+childAtRow l k = getD l (perLink * k + rowChild) 0
 
 abbrev pub sizeAt : List ℕ → ℕ → ℕ
 sizeAt o i = getD o (2 * i + 1) 0 - getD o (2 * i) 0
@@ -61,8 +61,8 @@ unread e w i = not (eqb (getD w i 0) e)
 
 -- m link rows name objects below n, at positions of 32 bits
 pub record Used (l : List ℕ) (m n : ℕ) : Type 0 where
-  pub parents : (k : ℕ) → k < m → rowParent l k < n
-  pub children : (k : ℕ) → k < m → rowChild l k < n
+  pub parents : (k : ℕ) → k < m → parentAtRow l k < n
+  pub children : (k : ℕ) → k < m → childAtRow l k < n
   pub short : (k : ℕ) → k < m → getD l (perLink * k + rowPosition) 0 < 4294967296
 
 pub used : (s : Store) → Fits s → Used (s .links) (s .linkCount) (s .objectCount)
@@ -84,9 +84,9 @@ pub record Inv (o l : List ℕ) (n m lo hi e : ℕ) (w₀ w : List ℕ) (total r
   pub reaches : (i : ℕ) → In i stack → Reach (graph l m) (between lo hi) i
   pub other : (i : ℕ) → i < n → (getD w i 0 ≡ getD w₀ i 0) ⊎ Found e w i
   pub only : (i : ℕ) → i < n → Found e w i → Has e w₀ i ⊎ Reach (graph l m) (between lo hi) i
-  pub current : (k : ℕ) → row ≤ k → k < stop → Reach (graph l m) (between lo hi) (rowChild l k)
-  pub seeds : (k : ℕ) → lo ≤ k → k < hi → Found e w (rowChild l k) ⊎ Ahead row stop k
-  pub pending : (k : ℕ) → k < m → Has e w (rowParent l k) → Found e w (rowChild l k) ⊎ Ahead row stop k
+  pub current : (k : ℕ) → row ≤ k → k < stop → Reach (graph l m) (between lo hi) (childAtRow l k)
+  pub seeds : (k : ℕ) → lo ≤ k → k < hi → Found e w (childAtRow l k) ⊎ Ahead row stop k
+  pub pending : (k : ℕ) → k < m → Has e w (parentAtRow l k) → Found e w (childAtRow l k) ⊎ Ahead row stop k
   pub outside : (i : ℕ) → n ≤ i → getD w i 0 ≡ getD w₀ i 0
   pub total-is : total + tally (sizeAt o) (found e w₀) n ≡ tally (sizeAt o) (found e w) n
 
@@ -95,24 +95,24 @@ pub record Spread (o l : List ℕ) (n m lo hi e : ℕ) (w₀ w : List ℕ) (tota
   pub long : length w ≡ length w₀
   pub other : (i : ℕ) → i < n → (getD w i 0 ≡ getD w₀ i 0) ⊎ Has e w i
   pub only : (i : ℕ) → i < n → Has e w i → Has e w₀ i ⊎ Reach (graph l m) (between lo hi) i
-  pub seeds : (k : ℕ) → lo ≤ k → k < hi → Has e w (rowChild l k)
-  pub closed : (k : ℕ) → k < m → Has e w (rowParent l k) → Has e w (rowChild l k)
+  pub seeds : (k : ℕ) → lo ≤ k → k < hi → Has e w (childAtRow l k)
+  pub closed : (k : ℕ) → k < m → Has e w (parentAtRow l k) → Has e w (childAtRow l k)
   pub outside : (i : ℕ) → n ≤ i → getD w i 0 ≡ getD w₀ i 0
   pub total-is : total + tally (sizeAt o) (has e w₀) n ≡ tally (sizeAt o) (has e w) n
 
 -- the rows of the parent x
 module _ {l : List ℕ} {m n x row stop : ℕ} (u : Used l m n) (f : FirstRow l m (keyOf x 0) row) (g : FirstRow l m (keyOf (x + 1) 0) stop) where
-  pub of-parent : (k : ℕ) → row ≤ k → k < stop → (k < m) × (rowParent l k ≡ x)
+  pub of-parent : (k : ℕ) → row ≤ k → k < stop → (k < m) × (parentAtRow l k ≡ x)
   of-parent k a b = let h : k < m = omega (arith, g .within) in (h, omega (arith, f .above k a h, g .below k b, u .short k h))
 
-  pub parent-in : (k : ℕ) → k < m → x ≡ rowParent l k → Ahead row stop k
+  pub parent-in : (k : ℕ) → k < m → x ≡ parentAtRow l k → Ahead row stop k
   parent-in k h q =
       let a : k < row → ⊥ = λ z. omega (arith, f .below k z) in
       let b : stop ≤ k → ⊥ = λ z. omega (arith, g .above k z h, u .short k h) in
       omega arith
 
 module _ {o l : List ℕ} {n m lo hi e : ℕ} {w₀ : List ℕ} (latest : (i : ℕ) → i < n → getD w₀ i 0 ≤ e) where
-  pub start : hi ≤ m → ((k : ℕ) → k < m → Has e w₀ (rowParent l k) → Has e w₀ (rowChild l k)) → Inv o l n m lo hi e w₀ w₀ 0 lo hi 0
+  pub start : hi ≤ m → ((k : ℕ) → k < m → Has e w₀ (parentAtRow l k) → Has e w₀ (childAtRow l k)) → Inv o l n m lo hi e w₀ w₀ 0 lo hi 0
   unfolding In Stacked
   start h closed = record {
     long = refl;
@@ -132,7 +132,7 @@ module _ {o l : List ℕ} {n m lo hi e : ℕ} {w₀ : List ℕ} (latest : (i : �
 
   module _ {w : List ℕ} {total row stop top : ℕ} (v : Inv o l n m lo hi e w₀ w total row stop top) where
     -- a row whose child was found
-    pub skip : Found e w (rowChild l row) → Inv o l n m lo hi e w₀ w total (row + 1) stop top
+    pub skip : Found e w (childAtRow l row) → Inv o l n m lo hi e w₀ w total (row + 1) stop top
     skip t = record {
       long = v .long;
       stop-le = v .stop-le;
@@ -149,7 +149,7 @@ module _ {o l : List ℕ} {n m lo hi e : ℕ} {w₀ : List ℕ} (latest : (i : �
       total-is = v .total-is;
     }
       where
-        past : (k : ℕ) → Ahead row stop k → Found e w (rowChild l k) ⊎ Ahead (row + 1) stop k
+        past : (k : ℕ) → Ahead row stop k → Found e w (childAtRow l k) ⊎ Ahead (row + 1) stop k
         past k a = ⊎-elim (λ q. inl (rw (← q) t)) (λ b. inr (omega arith)) (eq-or-lt-of-le (a .0))
 
     -- an object that can be reached and was not found goes onto the stack
@@ -179,8 +179,8 @@ module _ {o l : List ℕ} {n m lo hi e : ℕ} {w₀ : List ℕ} (latest : (i : �
         other = λ i a. ⊎-elim (λ q. inr (rw q (omega (arith, here)))) (λ q. ⊎-elim (λ z. inl (q ∙ z)) (λ t. inr (more i t)) (v .other i a)) (at i);
         only = λ i a t. ⊎-elim (λ q. inr (rw q rc)) (λ q. v .only i a (omega arith)) (at i);
         current = v .current;
-        seeds = λ k a b. ⊎-elim (λ t. inl (more (rowChild l k) t)) inr (v .seeds k a b);
-        pending = λ k a t. ⊎-elim (λ q. absurd (omega (arith, here, ap (λ (i : ℕ). getD marked i 0) q))) (λ q. ⊎-elim (λ p. inl (more (rowChild l k) p)) inr (v .pending k a (sym q ∙ t))) (at (rowParent l k));
+        seeds = λ k a b. ⊎-elim (λ t. inl (more (childAtRow l k) t)) inr (v .seeds k a b);
+        pending = λ k a t. ⊎-elim (λ q. absurd (omega (arith, here, ap (λ (i : ℕ). getD marked i 0) q))) (λ q. ⊎-elim (λ p. inl (more (childAtRow l k) p)) inr (v .pending k a (sym q ∙ t))) (at (parentAtRow l k));
         outside = λ i a. getD-set-other w c i (e + 1 + top) 0 (omega arith) ∙ v .outside i a;
         total-is = omega (arith, grown, v .total-is);
       }
@@ -204,11 +204,11 @@ module _ {o l : List ℕ} {n m lo hi e : ℕ} {w₀ : List ℕ} (latest : (i : �
     top-few u = ⊎-elim (λ q. omega arith) (λ h. omega (arith, reach-used u (v .reaches (top - 1) (stack-pop e w top (v .stack) h (v .stacked) .is-in)))) (zero-or top)
 
     -- a row whose child was not found
-    module _ (u : Used l m n) (big : 2 * n ≤ length w₀) (h : row < stop) (low : getD w (rowChild l row) 0 < e) where
-      child< : rowChild l row < n
+    module _ (u : Used l m n) (big : 2 * n ≤ length w₀) (h : row < stop) (low : getD w (childAtRow l row) 0 < e) where
+      child< : childAtRow l row < n
       child< = u .children row (omega (arith, v .stop-le))
 
-      pub push-unread : count (unread e (set w (rowChild l row) (e + 1 + top))) n ≡ count (unread e w) n
+      pub push-unread : count (unread e (set w (childAtRow l row) (e + 1 + top))) n ≡ count (unread e w) n
       push-unread = mark-unread big child< (v .current row (omega arith) h) low
 
     -- the last of the stack leaves it and gets the mark, and its rows are walked
@@ -257,9 +257,9 @@ module _ {o l : List ℕ} {n m lo hi e : ℕ} {w₀ : List ℕ} (latest : (i : �
         other = λ i a. ⊎-elim (λ q. inr (rw q (omega (arith, at-top)))) (λ q. ⊎-elim (λ z. inl (q ∙ z)) (λ t. inr (kept i t)) (v .other i a)) (apart i);
         only = λ i a t. v .only i a (was i t);
         current = λ k a b. let (d, q) = of-parent u f g k a b in Reach.step top-reached k d q refl;
-        seeds = λ k a b. ⊎-elim (λ t. inl (kept (rowChild l k) t)) (λ z. absurd (omega arith)) (v .seeds k a b);
+        seeds = λ k a b. ⊎-elim (λ t. inl (kept (childAtRow l k) t)) (λ z. absurd (omega arith)) (v .seeds k a b);
         pending = λ k a t. ⊎-elim (λ q. inr (parent-in u f g k a (sym q)))
-            (λ q. ⊎-elim (λ z. inl (kept (rowChild l k) z)) (λ z. absurd (omega arith)) (v .pending k a (sym q ∙ t))) (apart (rowParent l k));
+            (λ q. ⊎-elim (λ z. inl (kept (childAtRow l k) z)) (λ z. absurd (omega arith)) (v .pending k a (sym q ∙ t))) (apart (parentAtRow l k));
         outside = λ i a. getD-set-other w (top - 1) i e 0 (omega (arith, top-used)) ∙ v .outside i a;
         total-is = omega (arith, v .total-is, tally-same (sizeAt o) (found e popped) (found e w) n same);
       }
@@ -280,8 +280,8 @@ module _ {o l : List ℕ} {n m lo hi e : ℕ} {w₀ : List ℕ} (latest : (i : �
       long = v .long;
       other = λ i a. ⊎-elim inl (λ t. inr (settled i a t)) (v .other i a);
       only = λ i a t. v .only i a (omega arith);
-      seeds = λ k a b. ⊎-elim (λ t. settled (rowChild l k) (u .children k (omega arith)) t) (λ z. absurd (omega arith)) (v .seeds k a b);
-      closed = λ k a t. ⊎-elim (λ z. settled (rowChild l k) (u .children k a) z) (λ z. absurd (omega arith)) (v .pending k a t);
+      seeds = λ k a b. ⊎-elim (λ t. settled (childAtRow l k) (u .children k (omega arith)) t) (λ z. absurd (omega arith)) (v .seeds k a b);
+      closed = λ k a t. ⊎-elim (λ z. settled (childAtRow l k) (u .children k a) z) (λ z. absurd (omega arith)) (v .pending k a t);
       outside = v .outside;
       total-is = omega (arith, v .total-is, tally-same (sizeAt o) (found e w₀) (has e w₀) n at-first, tally-same (sizeAt o) (found e w) (has e w) n at-last);
     }
@@ -305,12 +305,12 @@ module _ {o l : List ℕ} {n m lo hi e : ℕ} {w₀ : List ℕ} (latest : (i : �
     pub total-most : sum (sizeAt o) n ≤ 16777216 → total ≤ 16777216
     total-most h = omega (arith, v .total-is, tally-le (sizeAt o) (found e w) n)
 
-  pub push : {w : List ℕ} {total row stop top : ℕ} → Inv o l n m lo hi e w₀ w total row stop top → Used l m n → 2 * n ≤ length w₀ → row < stop → getD w (rowChild l row) 0 < e
-      → Inv o l n m lo hi e w₀ (set w (rowChild l row) (e + 1 + top)) (total + sizeAt o (rowChild l row)) (row + 1) stop (rowChild l row + 1)
+  pub push : {w : List ℕ} {total row stop top : ℕ} → Inv o l n m lo hi e w₀ w total row stop top → Used l m n → 2 * n ≤ length w₀ → row < stop → getD w (childAtRow l row) 0 < e
+      → Inv o l n m lo hi e w₀ (set w (childAtRow l row) (e + 1 + top)) (total + sizeAt o (childAtRow l row)) (row + 1) stop (childAtRow l row + 1)
   push {w} {row = row} {top = top} v u big h low =
-      let c< : rowChild l row < n = child< v u big h low in
+      let c< : childAtRow l row < n = child< v u big h low in
       skip (mark v big c< (v .current row (omega arith) h) low)
-      (omega (arith, getD-set-same w (rowChild l row) (e + 1 + top) 0 (omega (arith, v .long))))
+      (omega (arith, getD-set-same w (childAtRow l row) (e + 1 + top) 0 (omega (arith, v .long))))
 
 -- the measure falls when the stack gives its last object
 pub falls : (m u u′ row stop a : ℕ) → u ≡ u′ + 1 → stop ≤ m → u′ * (m + 1) + (stop - row) < u * (m + 1) + a

@@ -13,7 +13,7 @@ use Rattle.store_rules.proofs.Sound.{Fits, sound-fits, sizes-most}
 use Rattle.store_reader.specs.Rows.{keyOf, FirstRow}
 use Rattle.store_walk.proofs.Ends.{rows-start}
 use Rattle.store_walk.proofs.Marks.{marks-closed, walked, marks-bytes, walked-bytes}
-use Rattle.store_walk.proofs.Turns.{Inv, Used, used, rowChild, sizeAt, unread, start, skip, push, push-unread, pop, pop-ends, pop-unread, top-used, top-high, top-few, done, total-most, falls}
+use Rattle.store_walk.proofs.Turns.{Inv, Used, used, childAtRow, sizeAt, unread, start, skip, push, push-unread, pop, pop-ends, pop-unread, top-used, top-high, top-few, done, total-most, falls}
 use Rattle.store_walk.proofs.subgraph_size.Statement.{statement}
 use Rattle.store_walk.proofs.subgraph_size.Tie as tie
 
@@ -35,14 +35,14 @@ use-of : (s : tie.Start Inv-loop μ-loop) → Used (now (s .args .links)) (getD 
 use-of s = used (lent (s .pre .1 .1 .bytes) (now (s .args .objects)) (now (s .args .links)) (s .args .t3)) (fit s)
 
 -- the row's child is an object
-child : (c : tie.Then1 Inv-loop μ-loop) → rowChild (now (begin (c .before) .args .links)) (c .before .loop .row) < getD (begin (c .before) .args .t3) 1 0
+child : (c : tie.Then1 Inv-loop μ-loop) → childAtRow (now (begin (c .before) .args .links)) (c .before .loop .row) < getD (begin (c .before) .args .t3) 1 0
 child c = use-of (begin (c .before)) .children (c .before .loop .row) (omega arith)
 
 abbrev then1 : tie.Then2 Inv-loop μ-loop → tie.Then1 Inv-loop μ-loop
 then1 c = c .before .before .before
 
 -- what holds once the row's child, which was not found yet, stands in the stack
-entered : (c : tie.Then2 Inv-loop μ-loop) → (let a = then1 c .before in let x = begin a .args in let d = rowChild (now (x .links)) (a .loop .row) in
+entered : (c : tie.Then2 Inv-loop μ-loop) → (let a = then1 c .before in let x = begin a .args in let d = childAtRow (now (x .links)) (a .loop .row) in
     Inv (now (x .objects)) (now (x .links)) (getD (x .t3) 1 0) (getD (x .t3) 2 0) (x .lo) (x .hi) (x .epoch) (now (x .walk))
     (set (a .loop .walk) d (x .epoch + 1 + a .loop .top)) (a .loop .sum + sizeAt (now (x .objects)) d) (a .loop .row + 1) (a .loop .stop) (d + 1))
 entered c =
@@ -138,7 +138,7 @@ size-of-requires c κs =
     let t = then1 c in
     let a = t .before in
     let f = fit (begin a) in
-    (omega (arith, f .objectsIn, child t), f .object (rowChild (now (begin a .args .links)) (a .loop .row)) (child t) .ordered)
+    (omega (arith, f .objectsIn, child t), f .object (childAtRow (now (begin a .args .links)) (a .loop .row)) (child t) .ordered)
 
 add-sum : tie.Need-add-sum Inv-loop μ-loop
 add-sum c =
