@@ -1,8 +1,10 @@
 // Replays stored answers of the oracle. host/differential writes them, and says in src/vectors.rs how they were made and what stands where.
 mod digest;
 mod input;
+mod marks;
 mod pairs;
 mod plans;
+mod readings;
 mod report;
 mod splits;
 
@@ -11,9 +13,9 @@ use input::lay_u32;
 use input::read_number;
 use libc::STDIN_FILENO;
 use libc::STDOUT_FILENO;
-use pairs::pairs_agree;
 use plans::plan_agrees;
-use report::add_kind;
+use readings::readings_agree;
+use report::add_case;
 use report::both;
 use report::print_kinds;
 use report::print_line;
@@ -34,10 +36,11 @@ fn replay(text: &[u8]) {
         return;
     }
     let count = read_number(text, length.at);
-    let mut kinds = [0u64; 10];
-    let differing = replay_cases(text, count.at, count.value, &mut kinds);
-    print_kinds(&kinds);
+    let mut tally = [0u64; 11];
+    let differing = replay_cases(text, count.at, count.value, &mut tally);
+    print_kinds(&tally);
     print_line(b"cases", count.value as u64);
+    print_line(b"cases of marks", tally[10]);
     print_line(b"not as stored", differing as u64);
 }
 
@@ -47,7 +50,7 @@ fn is_whole(text: &[u8], length: u32) -> bool {
 }
 
 // Replays case after case; answers how many are not as stored, or not there.
-fn replay_cases(text: &[u8], from: usize, count: u32, kinds: &mut [u64; 10]) -> u32 {
+fn replay_cases(text: &[u8], from: usize, count: u32, tally: &mut [u64; 11]) -> u32 {
     let mut at = from;
     let mut differing: u32 = 0;
     let mut k: u32 = 0;
@@ -56,7 +59,7 @@ fn replay_cases(text: &[u8], from: usize, count: u32, kinds: &mut [u64; 10]) -> 
             return differing + (count - k);
         }
         let case = replay_case(text, at, k as u64 + 1);
-        add_kind(kinds, case.answer, case.count);
+        add_case(tally, case.answer, case.count, case.marks);
         at = case.at;
         k += 1;
         if !case.agrees {
@@ -66,13 +69,15 @@ fn replay_cases(text: &[u8], from: usize, count: u32, kinds: &mut [u64; 10]) -> 
     differing
 }
 
-// Lays a case's store, and makes the calls.
+// Lays a case's store, and makes the calls. A lookup type of 4 is that of a table of marks, 2 that of one of pairs.
 fn replay_case(text: &[u8], from: usize, case: u64) -> Outcome {
     let mut counts = [0u32; 3];
     let mut data = [0u8; 524288];
     let mut objects = [0u32; 16384];
     let mut links = [0u32; 32768];
-    let table = read_number(text, from);
+    let lookup_type = read_number(text, from);
+    let marks = lookup_type.value == 4;
+    let table = read_number(text, lookup_type.at);
     let a = lay_u32(text, table.at, &mut counts);
     let b = lay_u8(text, a.at, &mut data);
     let c = lay_u32(text, b.at, &mut objects);
@@ -84,6 +89,7 @@ fn replay_case(text: &[u8], from: usize, case: u64) -> Outcome {
         text,
         d.at,
         case,
+        marks,
         &mut data[..data_count],
         &mut objects[..object_count],
         &mut links[..link_count],
@@ -92,21 +98,23 @@ fn replay_case(text: &[u8], from: usize, case: u64) -> Outcome {
     )
 }
 
-// Reads the stored pairs, plans the cuts, splits, and reads the pairs again.
+// Reads what is stored of glyphs, plans the cuts, splits, and reads again.
 fn replay_calls(
     text: &[u8],
     from: usize,
     case: u64,
+    marks: bool,
     data: &mut [u8],
     objects: &mut [u32],
     links: &mut [u32],
     counts: &mut [u32; 3],
     table: u32,
 ) -> Outcome {
-    let before = pairs_agree(
+    let before = readings_agree(
         text,
         from,
         case,
+        marks,
         data,
         objects,
         links,
@@ -115,12 +123,23 @@ fn replay_calls(
         &[0; 8192],
         0,
     );
-    let plan = plan_agrees(text, before.at, case, data, objects, links, counts, table);
+    let plan = plan_agrees(
+        text,
+        before.at,
+        case,
+        marks,
+        data,
+        objects,
+        links,
+        counts,
+        table,
+    );
     let split = split_agrees(
         text,
         plan.at,
         from,
         case,
+        marks,
         data,
         objects,
         links,
@@ -130,6 +149,7 @@ fn replay_calls(
     let agrees = both(both(before.agrees, plan.agrees), split.agrees);
     Outcome {
         at: split.at,
+        marks,
         answer: split.answer,
         count: split.count,
         agrees,

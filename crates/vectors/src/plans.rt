@@ -12,12 +12,14 @@ use crate::report::both;
 use crate::report::call_agrees;
 use crate::report::same;
 use splitter::cut_plan;
+use splitter::cut_plan_markbasepos;
 
 // Lays the list, makes the call, and compares.
 pub fn plan_agrees(
     text: &[u8],
     from: usize,
     case: u64,
+    marks: bool,
     data: &[u8],
     objects: &[u32],
     links: &[u32],
@@ -30,6 +32,7 @@ pub fn plan_agrees(
     let called = plan_with_walk(
         text,
         laid.at,
+        marks,
         data,
         objects,
         links,
@@ -44,6 +47,7 @@ pub fn plan_agrees(
 fn plan_with_walk(
     text: &[u8],
     from: usize,
+    marks: bool,
     data: &[u8],
     objects: &[u32],
     links: &[u32],
@@ -60,6 +64,7 @@ fn plan_with_walk(
     plan_with_glyphs(
         text,
         b.at,
+        marks,
         data,
         objects,
         links,
@@ -75,6 +80,7 @@ fn plan_with_walk(
 fn plan_with_glyphs(
     text: &[u8],
     from: usize,
+    marks: bool,
     data: &[u8],
     objects: &[u32],
     links: &[u32],
@@ -95,6 +101,7 @@ fn plan_with_glyphs(
     let cut_count = c.count;
     call_plan(
         c.at,
+        marks,
         data,
         objects,
         links,
@@ -111,6 +118,7 @@ fn plan_with_glyphs(
 
 fn call_plan(
     at: usize,
+    marks: bool,
     data: &[u8],
     objects: &[u32],
     links: &[u32],
@@ -124,7 +132,8 @@ fn call_plan(
     places: &mut [u16],
 ) -> Called {
     let mut count: u32 = 7;
-    let answer = cut_plan(
+    let answer = either_plan(
+        marks,
         data,
         objects,
         links,
@@ -146,6 +155,54 @@ fn call_plan(
         count,
         digest,
     }
+}
+
+// The cut plan of a table of pairs or of marks.
+fn either_plan(
+    marks: bool,
+    data: &[u8],
+    objects: &[u32],
+    links: &[u32],
+    counts: &[u32; 3],
+    table: u32,
+    walk: &mut [u32],
+    glyph_set: &mut [u8],
+    glyphs: &mut [u16],
+    classes: &mut [u16],
+    cuts: &mut [u16],
+    places: &mut [u16],
+    place_count: &mut u32,
+) -> u32 {
+    if marks {
+        return cut_plan_markbasepos(
+            data,
+            objects,
+            links,
+            counts,
+            table,
+            walk,
+            glyph_set,
+            glyphs,
+            classes,
+            cuts,
+            places,
+            place_count,
+        );
+    }
+    cut_plan(
+        data,
+        objects,
+        links,
+        counts,
+        table,
+        walk,
+        glyph_set,
+        glyphs,
+        classes,
+        cuts,
+        places,
+        place_count,
+    )
 }
 
 // The stored answer, digest and places are those of the call.

@@ -17,6 +17,13 @@ pub struct Called {
     pub digest: u64,
 }
 
+// What a reading answers, whether two glyphs have something, and whether that is as stored.
+pub struct Reading {
+    pub answer: u32,
+    pub found: u32,
+    pub agrees: bool,
+}
+
 // The stored answer and digest of a call are its own.
 pub fn call_agrees(text: &[u8], case: u64, call: &[u8], called: Called) -> Seen {
     let answer = read_number(text, called.at);
@@ -53,11 +60,19 @@ pub fn same(case: u64, call: &[u8], what: &[u8], agrees: bool) -> bool {
     false
 }
 
-// Adds a case to its kind: 0 where the table was cut, 1 to 8 where the split was refused, 9 where there was nothing to cut.
-pub fn add_kind(kinds: &mut [u64; 10], answer: u32, count: u32) {
-    let kind = kind_of(answer, count);
-    if kinds[kind] < u64::MAX {
-        kinds[kind] += 1;
+// Adds a case to its kind: 0 where the table was cut, 1 to 8 where the split was refused, 9 where there was nothing to cut; and one of marks to 10.
+pub fn add_case(tally: &mut [u64; 11], answer: u32, count: u32, marks: bool) {
+    add_one(tally, kind_of(answer, count));
+    if marks {
+        add_one(tally, 10);
+    }
+}
+
+fn add_one(tally: &mut [u64; 11], kind: usize)
+    requires { ⌜ kind < 11 ⌝ }
+{
+    if tally[kind] < u64::MAX {
+        tally[kind] += 1;
     }
 }
 
@@ -77,14 +92,14 @@ fn kind_of(answer: u32, count: u32) -> usize
 }
 
 // Says how many cases of each kind there are.
-pub fn print_kinds(kinds: &[u64; 10]) {
-    print_line(b"cut", kinds[0]);
-    print_line(b"nothing to cut", kinds[9]);
+pub fn print_kinds(tally: &[u64; 11]) {
+    print_line(b"cut", tally[0]);
+    print_line(b"nothing to cut", tally[9]);
     let mut k: usize = 1;
     while k < 9 {
         io::write_all(STDOUT_FILENO, b"refused by ");
         io::print_decimal(STDOUT_FILENO, k as u64);
-        print_line(b"", kinds[k]);
+        print_line(b"", tally[k]);
         k += 1;
     }
 }

@@ -7,28 +7,31 @@ use crate::input::lay_u16;
 use crate::input::lay_u32;
 use crate::input::least;
 use crate::input::read_number;
-use crate::pairs::pairs_agree;
+use crate::readings::readings_agree;
 use crate::report::Called;
 use crate::report::Seen;
 use crate::report::both;
 use crate::report::call_agrees;
 use crate::report::same;
+use splitter::split_markbasepos;
 use splitter::split_pairpos;
 
-// What came of a split, and whether it is as stored; and the place behind it.
+// What came of a split, whether its table is one of marks, and whether all is as stored; and the place behind it.
 pub struct Outcome {
     pub at: usize,
+    pub marks: bool,
     pub answer: u32,
     pub count: u32,
     pub agrees: bool,
 }
 
-// Lays the list, makes the call, compares, and reads the stored pairs, which stand at `pairs`, by the table and the new tables.
+// Lays the list, makes the call, compares, and reads the stored readings again, which stand at `readings`, by the table and the new tables.
 pub fn split_agrees(
     text: &[u8],
     from: usize,
-    pairs: usize,
+    readings: usize,
     case: u64,
+    marks: bool,
     data: &mut [u8],
     objects: &mut [u32],
     links: &mut [u32],
@@ -41,6 +44,7 @@ pub fn split_agrees(
     let called = split_with_walk(
         text,
         laid.at,
+        marks,
         data,
         objects,
         links,
@@ -49,10 +53,11 @@ pub fn split_agrees(
         &mut new_tables[..room],
     );
     let split = tables_agree(text, case, called, &new_tables);
-    let after = pairs_agree(
+    let after = readings_agree(
         text,
-        pairs,
+        readings,
         case,
+        marks,
         data,
         objects,
         links,
@@ -63,6 +68,7 @@ pub fn split_agrees(
     );
     Outcome {
         at: split.at,
+        marks,
         answer: called.answer,
         count: called.count,
         agrees: both(split.agrees, after.agrees),
@@ -73,6 +79,7 @@ pub fn split_agrees(
 fn split_with_walk(
     text: &[u8],
     from: usize,
+    marks: bool,
     data: &mut [u8],
     objects: &mut [u32],
     links: &mut [u32],
@@ -89,6 +96,7 @@ fn split_with_walk(
     split_with_glyphs(
         text,
         b.at,
+        marks,
         data,
         objects,
         links,
@@ -104,6 +112,7 @@ fn split_with_walk(
 fn split_with_glyphs(
     text: &[u8],
     from: usize,
+    marks: bool,
     data: &mut [u8],
     objects: &mut [u32],
     links: &mut [u32],
@@ -124,6 +133,7 @@ fn split_with_glyphs(
     let cut_count = c.count;
     call_split(
         c.at,
+        marks,
         data,
         objects,
         links,
@@ -140,6 +150,7 @@ fn split_with_glyphs(
 
 fn call_split(
     at: usize,
+    marks: bool,
     data: &mut [u8],
     objects: &mut [u32],
     links: &mut [u32],
@@ -153,7 +164,8 @@ fn call_split(
     new_tables: &mut [u32],
 ) -> Called {
     let mut count: u32 = 7;
-    let answer = split_pairpos(
+    let answer = either_split(
+        marks,
         data,
         objects,
         links,
@@ -176,6 +188,54 @@ fn call_split(
         count,
         digest,
     }
+}
+
+// The split of a table of pairs or of marks.
+fn either_split(
+    marks: bool,
+    data: &mut [u8],
+    objects: &mut [u32],
+    links: &mut [u32],
+    counts: &mut [u32; 3],
+    table: u32,
+    walk: &mut [u32],
+    glyph_set: &mut [u8],
+    glyphs: &mut [u16],
+    classes: &mut [u16],
+    cuts: &mut [u16],
+    new_tables: &mut [u32],
+    new_count: &mut u32,
+) -> u32 {
+    if marks {
+        return split_markbasepos(
+            data,
+            objects,
+            links,
+            counts,
+            table,
+            walk,
+            glyph_set,
+            glyphs,
+            classes,
+            cuts,
+            new_tables,
+            new_count,
+        );
+    }
+    split_pairpos(
+        data,
+        objects,
+        links,
+        counts,
+        table,
+        walk,
+        glyph_set,
+        glyphs,
+        classes,
+        cuts,
+        new_tables,
+        new_count,
+    )
 }
 
 // The stored answer, digest and new tables are those of the call.

@@ -3,11 +3,12 @@
 //! # How it is made
 //!
 //! [`sample`] takes hand-made stores, generated ones and damaged ones, lends each to the [`Model`],
-//! and stores what a cut plan, a split and some pair readings answer and leave. Whatever is not
+//! and stores what a cut plan, a split and some readings answer and leave. Whatever is not
 //! refused is held against the oracle first: cut places and new tables are the oracle's own, and
 //! the digest of a split is stored only where all that is reachable is as the oracle leaves it and
-//! nothing else has changed. What the 16-bit product of the crate's text would change is left out.
-//! Refusals and pair readings are the model's, which is document 01's: the oracle has none.
+//! nothing else has changed. What the 16-bit product of the crate's text would change is left out; where
+//! it keeps old offsets in the arrays of a MarkBasePos table, the zeros of the model are stored.
+//! Refusals and readings are the model's, which is that of documents 01 and 02: the oracle has none.
 //!
 //! # The text
 //!
@@ -19,9 +20,11 @@
 //!
 //! | | |
 //! |---|---|
+//! | lookup type | 2 where the table is one of PairPos, 4 where it is one of MarkBasePos: which functions are called |
 //! | table | the number of the table |
 //! | counts, data, objects, links | the store as it is lent, each an array |
 //! | pairs | how many there are; each is two glyphs, answer, found, and an array of the sixteen values, each raised by 65,536 |
+//! | or attachments | how many there are; each is two glyphs, a mark's and a base's, answer, found, and an array of the two anchors |
 //! | cut plan | what it is lent beside the store, then what it leaves |
 //! | split | likewise |
 //!
@@ -31,16 +34,19 @@
 //! objects, links and counts; then the list. It starts with 0, and each number n makes of a digest
 //! d the next, (65,599 · d + n + 1) modulo 4,294,967,291.
 //!
-//! The pairs hold before the split by the table, and after it by the first of the table and the new
-//! tables that has a pair, or else by the last of them.
+//! The readings hold before the split by the table, and after it by the first of the table and the new
+//! tables that has a pair or an attachment, or else by the last of them.
 
 mod answers;
 mod cases;
 mod plain;
+mod readings;
 mod text;
 
 use crate::{check::Outcome, Tally};
 use answers::Answers;
+use readings::Reading;
+use splitter::Kind;
 use text::Text;
 
 /// Stored answers, and what came of making them.
@@ -50,12 +56,18 @@ pub struct Sample {
     pub input: String,
     /// What it writes, if all is as stored.
     pub output: String,
-    /// The cases that the oracle was asked for.
+    /// The cases of pairs that the oracle was asked for.
     pub tally: Tally,
+    /// Those of marks.
+    pub mark_tally: Tally,
+    /// How many cases are of marks.
+    pub marks: usize,
     /// Splits by kind: cut, refused by 1 to 8, nothing to cut.
     pub kinds: [usize; 10],
     /// Stored pairs that are found, and those of them with a device.
     pub pairs_found: [usize; 2],
+    /// Stored attachments that are found.
+    pub attachments_found: usize,
 }
 
 /// Makes the sample, or says which case is not as the oracle has it.
@@ -68,31 +80,47 @@ pub fn sample() -> Result<Sample, String> {
         stored.map_err(|reason| format!("{}: {reason}", case.name))?;
     }
     sample.input = text.finish(cases.len());
-    sample.output = output(&sample.kinds);
+    sample.output = output(&sample.kinds, sample.marks);
     Ok(sample)
 }
 
 impl Sample {
     fn add(&mut self, text: &mut Text, case: &cases::Case) -> Outcome {
-        let answers = Answers::of(&case.call, &mut self.tally)?;
+        let tally = match case.kind {
+            Kind::Pairs => &mut self.tally,
+            Kind::Marks => &mut self.mark_tally,
+        };
+        let answers = Answers::of(case, tally)?;
         self.kinds[answers.kind()] += 1;
-        for (_, _, pair) in &answers.pairs {
-            let has_device = (0..16).any(|place| place % 8 >= 4 && pair.values[place] != 0);
-            self.pairs_found[0] += pair.found as usize;
-            self.pairs_found[1] += usize::from(has_device);
+        self.marks += usize::from(case.kind == Kind::Marks);
+        for reading in &answers.readings {
+            self.count(case.kind, reading);
         }
-        text.case(&case.name, &answers);
+        text.case(case, &answers);
         Ok(())
+    }
+
+    fn count(&mut self, kind: Kind, reading: &Reading) {
+        match kind {
+            Kind::Pairs => {
+                let is_device = |place: usize| place % 8 >= 4;
+                let has_device = (0..16).any(|at| is_device(at) && reading.numbers[at] != 65_536);
+                self.pairs_found[0] += reading.found as usize;
+                self.pairs_found[1] += usize::from(has_device);
+            }
+            Kind::Marks => self.attachments_found += reading.found as usize,
+        }
     }
 }
 
-/// What the program writes of so many cases of each kind.
-fn output(kinds: &[usize; 10]) -> String {
+/// What the program writes of so many cases of each kind, of which so many are of marks.
+fn output(kinds: &[usize; 10], marks: usize) -> String {
     let [cut, refused @ .., uncut] = kinds;
     let mut lines = vec![format!("cut: {cut}"), format!("nothing to cut: {uncut}")];
     let refused = refused.iter().enumerate();
     lines.extend(refused.map(|(i, count)| format!("refused by {}: {count}", i + 1)));
     lines.push(format!("cases: {}", kinds.iter().sum::<usize>()));
+    lines.push(format!("cases of marks: {marks}"));
     lines.push("not as stored: 0\n".into());
     lines.join("\n")
 }

@@ -19,13 +19,14 @@ fn the_stored_answers_are_those_of_now() {
     }
 }
 
-/// No cut up to many, each refusal, totals on both sides of the limit, products that wrap, devices.
+/// No cut up to many, each refusal, totals on both sides of the limit, products that wrap, devices; and of
+/// marks the same, with offsets that the text keeps.
 #[test]
 fn all_that_is_to_be_replayed_occurs() {
     let sample = sample();
     let tally = &sample.tally;
     let [found, with_device] = sample.pairs_found;
-    assert!(sample.input.len() <= 200_000);
+    assert!(sample.input.len() <= 220_000);
     assert!(sample.kinds.iter().all(|&count| count > 0));
     assert!(tally.cut_counts[..5].iter().all(|&count| count > 0));
     assert!(tally.at_limit.iter().all(|&count| count > 1));
@@ -33,4 +34,9 @@ fn all_that_is_to_be_replayed_occurs() {
     assert!(tally.differences[0] > 0);
     assert_eq!(tally.differences[1], 0);
     assert!(found > 100 && with_device > 20);
+    let marks = &sample.mark_tally;
+    assert!(marks.cut_counts[..5].iter().all(|&count| count > 0));
+    assert!(marks.at_limit[1] > 0 && marks.at_limit[2] > 0 && marks.cuts_at_0 > 1);
+    assert!(marks.differences.iter().all(|&count| count > 0));
+    assert!(sample.marks > 40 && sample.attachments_found > 40);
 }

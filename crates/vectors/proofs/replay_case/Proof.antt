@@ -8,6 +8,9 @@ use Rattle.vectors.proofs.replay_case.Tie as tie
 read-number-requires : tie.Need-read-number-requires
 read-number-requires c κs = tt
 
+read-number-requires-2 : tie.Need-read-number-requires-2
+read-number-requires-2 c κs = tt
+
 slice-aggregate-lay-u32 : tie.Need-slice-aggregate-lay-u32
 slice-aggregate-lay-u32 c = refl
 
@@ -61,6 +64,7 @@ replay-case-spec =
     tie.close
     (tie.spec
     read-number-requires
+    read-number-requires-2
     slice-aggregate-lay-u32
     lay-u32-requires
     slice-aggregate-lay-u8

@@ -5,10 +5,10 @@ use Rattle.vectors.proofs.replay_cases.Statement.{statement}
 use Rattle.vectors.proofs.replay_cases.Tie as tie
 
 abbrev Inv-loop : tie.InvT-loop
-Inv-loop text from count kinds₀ at₀ differing₀ k₀ kinds at differing k = (k ≤ count) × (differing ≤ k)
+Inv-loop text from count tally₀ at₀ differing₀ k₀ tally at differing k = (k ≤ count) × (differing ≤ k)
 
 abbrev μ-loop : tie.MeasureT-loop
-μ-loop text from count kinds₀ at₀ differing₀ k₀ kinds at differing k = count - k
+μ-loop text from count tally₀ at₀ differing₀ k₀ tally at differing k = count - k
 
 pub replay-cases-spec : {M : Type 1} → statement M
 replay-cases-spec =

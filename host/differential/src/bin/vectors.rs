@@ -8,12 +8,9 @@ fn main() {
     for (name, text) in [("stdin", &sample.input), ("stdout", &sample.output)] {
         fs::write(crate_dir.join(name), text).expect("crates/vectors can be written");
     }
-    print!(
-        "{} bytes\n{}{}\n",
-        sample.input.len(),
-        sample.output,
-        sample.tally
-    );
+    print!("{} bytes\n{}", sample.input.len(), sample.output);
+    println!("pairs: {}\nmarks: {}", sample.tally, sample.mark_tally);
     let [found, with_device] = sample.pairs_found;
     println!("stored pairs found {found}, with a device {with_device}");
+    println!("stored attachments found {}", sample.attachments_found);
 }

@@ -2,7 +2,12 @@
 
 use crate::{
     edit,
-    model::{answers, header::Format, table::PairPos},
+    model::{
+        answers,
+        header::Format,
+        marks::{MarkBasePos, OFFSETS},
+        table::PairPos,
+    },
     Call,
 };
 use oracle::Store;
@@ -41,6 +46,35 @@ pub fn store(old: &Store, table: u32) -> Store {
         store.data[head..head + bytes.len()].copy_from_slice(&bytes);
     }
     store
+}
+
+/// The same of a MarkBasePos table: no rule looks into anchors, or at offsets.
+pub fn marks_store(old: &Store, table: u32) -> Store {
+    let mut store = old.clone();
+    let Ok(Some(marks)) = answers::open_marks(old, table) else {
+        return store;
+    };
+    for object in 0..old.counts[1] {
+        let bytes = plain_anchor(&marks, object);
+        let head = edit::head(old, object);
+        store.data[head..head + bytes.len()].copy_from_slice(&bytes);
+    }
+    store
+}
+
+fn plain_anchor(marks: &MarkBasePos, object: u32) -> Vec<u8> {
+    let mut bytes = marks.objects.bytes(object).to_vec();
+    let parts = OFFSETS.map(|position| marks.objects.child_at(marks.table, position));
+    if object == marks.base_array && object != marks.mark_array {
+        bytes[2..].fill(0);
+    } else if object == marks.mark_array && object != marks.base_array {
+        bytes[2..]
+            .chunks_mut(4)
+            .for_each(|record| record[2..].fill(0));
+    } else if object != marks.table && !parts.contains(&Some(object)) {
+        bytes.fill(object as u8);
+    }
+    bytes
 }
 
 fn plain_bytes(pairpos: &PairPos, object: u32) -> Vec<u8> {

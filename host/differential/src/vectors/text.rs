@@ -1,7 +1,8 @@
 //! The stored text.
 
-use super::answers::Answers;
-use crate::{Call, Pair, Scratch};
+use super::{answers::Answers, cases::Case, readings::Reading};
+use crate::{Call, Scratch};
+use splitter::Kind;
 use std::fmt::Write;
 
 /// Lines are no longer than this, where the numbers allow it.
@@ -21,20 +22,23 @@ pub struct Text {
 
 impl Text {
     /// Adds a case.
-    pub fn case(&mut self, name: &str, answers: &Answers) {
+    pub fn case(&mut self, case: &Case, answers: &Answers) {
+        let name = &case.name;
         assert!(!name.contains(|letter: char| letter.is_ascii_digit()));
         self.end_line();
         self.word(&format!("case: {name}"));
         self.end_line();
         let call = &answers.split.before;
         let store = &call.store;
+        self.word("lookup type");
+        self.number(case.kind.lookup_type());
         self.word("table");
         self.number(call.table);
         self.array("counts", &store.counts);
         self.array("data", &store.data);
         self.array("objects", &store.objects);
         self.array("links", &store.links);
-        self.pairs(&answers.pairs);
+        self.readings(case.kind, &answers.readings);
         self.call("cut plan", &call.to_plan());
         self.outcome(answers.plan_answer, answers.plan_digest);
         self.array("cut at", &answers.places);
@@ -54,21 +58,25 @@ impl Text {
         text(text(0).len())
     }
 
-    fn pairs(&mut self, pairs: &[([u16; 2], u32, Pair)]) {
+    fn readings(&mut self, kind: Kind, readings: &[Reading]) {
+        let (name, numbers) = match kind {
+            Kind::Pairs => ("pairs", "values"),
+            Kind::Marks => ("attachments", "anchors"),
+        };
         self.end_line();
-        self.word("pairs");
-        self.number(pairs.len() as u32);
-        for &([first, second], answer, pair) in pairs {
+        self.word(name);
+        self.number(readings.len() as u32);
+        for reading in readings {
+            let [first, second] = reading.glyphs;
             self.end_line();
             self.word("glyphs");
             self.number(first);
             self.number(second);
             self.word("answer");
-            self.number(answer);
+            self.number(reading.answer);
             self.word("found");
-            self.number(pair.found);
-            let raised = pair.values.map(|value| (value + 65_536) as u32);
-            self.array("values", &raised);
+            self.number(reading.found);
+            self.array(numbers, &reading.numbers);
         }
     }
 

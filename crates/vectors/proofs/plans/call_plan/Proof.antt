@@ -2,8 +2,8 @@
 use Rattle.vectors.proofs.plans.call_plan.Statement.{statement}
 use Rattle.vectors.proofs.plans.call_plan.Tie as tie
 
-cut-plan-requires : tie.Need-cut-plan-requires
-cut-plan-requires c κs = tt
+either-plan-requires : tie.Need-either-plan-requires
+either-plan-requires c κs = tt
 
 of-scratch-requires : tie.Need-of-scratch-requires
 of-scratch-requires c κs = tt
@@ -36,7 +36,7 @@ pub call-plan-spec : {M : Type 1} → statement M
 call-plan-spec =
     tie.close
     (tie.spec
-    cut-plan-requires
+    either-plan-requires
     of-scratch-requires
     mix-u16-requires
     same-length

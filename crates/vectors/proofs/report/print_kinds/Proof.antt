@@ -5,10 +5,10 @@ use Rattle.vectors.proofs.report.print_kinds.Statement.{statement}
 use Rattle.vectors.proofs.report.print_kinds.Tie as tie
 
 abbrev Inv-loop : tie.InvT-loop
-Inv-loop kinds k₀ t5 t6 k = Unit {0}
+Inv-loop tally k₀ t5 t6 k = Unit {0}
 
 abbrev μ-loop : tie.MeasureT-loop
-μ-loop kinds k₀ t5 t6 k = 9 - k
+μ-loop tally k₀ t5 t6 k = 9 - k
 
 pub print-kinds-spec : {M : Type 1} → statement M
 print-kinds-spec =

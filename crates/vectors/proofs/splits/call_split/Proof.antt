@@ -2,8 +2,8 @@
 use Rattle.vectors.proofs.splits.call_split.Statement.{statement}
 use Rattle.vectors.proofs.splits.call_split.Tie as tie
 
-split-pairpos-requires : tie.Need-split-pairpos-requires
-split-pairpos-requires c κs = tt
+either-split-requires : tie.Need-either-split-requires
+either-split-requires c κs = tt
 
 of-scratch-requires : tie.Need-of-scratch-requires
 of-scratch-requires c κs = tt
@@ -58,7 +58,7 @@ pub call-split-spec : {M : Type 1} → statement M
 call-split-spec =
     tie.close
     (tie.spec
-    split-pairpos-requires
+    either-split-requires
     of-scratch-requires
     mix-store-requires
     mix-u32-requires

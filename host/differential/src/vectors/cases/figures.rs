@@ -8,6 +8,7 @@ use crate::{
     Call, Random,
 };
 use oracle::Store;
+use splitter::Kind;
 
 /// The table of each of these stores.
 const TABLE: usize = 0;
@@ -18,7 +19,11 @@ pub fn all() -> Vec<Case> {
     let mut add = |name: &str, store: Store| {
         let call = lent(store);
         let name = name.into();
-        cases.push(Case { name, call });
+        cases.push(Case {
+            name,
+            kind: Kind::Pairs,
+            call,
+        });
     };
     let three = [10, 20, 30];
     add("no sets", format1(&[], &[]));

@@ -5,6 +5,7 @@ use crate::{
     by_hand::format1_slots, edit, lend, model::numbers::bytes, Call, Model, Random, Subject,
 };
 use oracle::Store;
+use splitter::Kind;
 
 /// Two neighbours in the order of document 01's table.
 pub struct Neighbours {
@@ -162,7 +163,11 @@ impl Neighbours {
         let answers = [&mut self.both, &mut self.second].map(|call| Model.split_pairpos(call));
         assert_eq!(answers, self.answers, "{}", self.name);
         let name = self.name.into();
-        Case { name, call }
+        Case {
+            name,
+            kind: Kind::Pairs,
+            call,
+        }
     }
 }
 
