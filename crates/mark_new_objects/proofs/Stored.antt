@@ -1,5 +1,5 @@
 -- What a caller has of the marks of a table in a store: the plan, and that the new objects are those of the split. Assumes nothing.
-use Prim.Native.Nat.{ℕ, zero, suc, _+_, _*_, _<_, _≤_}
+use Prim.Native.Nat.{ℕ, zero, suc, _+_, _<_, _≤_}
 use mathlib.Core.Path.{_≡_, sym, subst, ap, ap₂, _∙_}
 use mathlib.Core.Bool.{true, _&&_}
 use mathlib.Core.List.{List, [], _∷_, _++_, map}
@@ -11,7 +11,7 @@ use Rattle.folds.proofs.Tests.{and-both}
 use Rattle.folds.proofs.Joined.{and-three}
 use Rattle.folds.proofs.Folds.{length-upto, upto-part}
 use Rattle.folds.proofs.Moved.{map-upto}
-use Rattle.folds.proofs.Each.{Each, each-upto}
+use Rattle.folds.proofs.Each.{Each}
 use Rattle.folds.proofs.FromTheFront.{flat-same}
 use Rattle.ot_layouts.specs.Numbers.{u16At}
 use Rattle.ot_layouts.specs.Coverage.{Entry, coverReadable, Ascends, Under}
@@ -25,7 +25,7 @@ use Rattle.ot_layouts.specs.MarkBasePos.{
   marksReadable,
   basesReadable,
 }
-use Rattle.ot_layouts.proofs.CoverageGlyphs.{Sorted, sorted-le, sorted-ascends, sorted-under, cover-sorted}
+use Rattle.ot_layouts.proofs.CoverageGlyphs.{Sorted, sorted-le, sorted-ascends, cover-sorted}
 use Rattle.ot_layouts.proofs.Octets.{bytes-u16}
 use Rattle.ot_layouts.proofs.RunStarts.{entry}
 use Rattle.ot_layouts.proofs.Entries.{ascends-plain}
@@ -37,7 +37,6 @@ use Rattle.cut_rules.specs.Ranges.{from, to}
 use Rattle.cut_rules.specs.Places.{Places}
 use Rattle.cut_parts.specs.Tables.{paired, lowAt, highAt, entriesAt}
 use Rattle.cut_parts.specs.Order.{Arranged}
-use Rattle.cut_parts.proofs.Keys.{Small}
 use Rattle.cut_parts.proofs.Arranging.{arranged-parted, kept-same, new-same}
 use Rattle.store_rules.specs.Store.{Store, bytesOf, childAt, linkedAt, linkedBytes}
 use Rattle.store_rules.proofs.Bytes.{object-bytes}
@@ -104,10 +103,6 @@ sorted-take zero gs lo hi a = sorted-le gs lo hi a
 sorted-take (suc n) [] lo hi a = a
 sorted-take (suc n) (g ∷ gs) lo hi a = (a .0, sorted-take n gs (g + 1) hi (a .1))
 
-small-from : (es : List Entry) → Under 65536 es → Each (λ e. e .class < 65536) es → Small es
-small-from [] u c = tt
-small-from (e ∷ es) u c = ((u .0, c .0), small-from es (u .1) (c .1))
-
 module _ (s : Store) (t : ℕ) (reads : Reads s t) (octets : Bytes (s .bytes)) where
   -- the entries of its marks
   abbrev es : List Entry
@@ -160,14 +155,6 @@ module _ (s : Store) (t : ℕ) (reads : Reads s t) (octets : Bytes (s .bytes)) w
 
   pub stored-ascend : Ascends 0 es
   stored-ascend = let (hi, h, x) = in-order in sorted-ascends es 0 hi x
-
-  -- glyphs and classes of sixteen bits
-  pub stored-small : Small es
-  stored-small =
-      let (hi, h, x) = in-order in
-      small-from es (sorted-under es 0 hi 65536 h x)
-      (subst (λ (l : List Entry). Each (λ (e : Entry). e .class < 65536) l) (sym entries-are)
-      (each-upto (λ (e : Entry). e .class < 65536) mark m (λ k l. bits (markArray s t) (2 + 4 * k))))
 
   pub stored-plan : (gs ks cs : List ℕ) → Arranged gs ks cs (classesOf s t) es → Places (classesOf s t) cs → 0 < length cs → PlannedParts gs ks cs (classesOf s t)
   stored-plan gs ks cs r p some =

@@ -12,7 +12,7 @@ use Rattle.folds.specs.Lists.{among}
 use Rattle.folds.proofs.Tests.{true-false, or-none}
 use Rattle.folds.proofs.Among.{among-append}
 use Rattle.ot_layouts.specs.Values.{fieldCount, devices}
-use Rattle.ot_layouts.specs.PairPos.{Shape, ownIn, sharedIn, coverAt, class1At, class2At, heads, formatOf, shape1, shape2, shapeOf, recordSize, columns, itemAt, value1, value2, deviceSlots}
+use Rattle.ot_layouts.specs.PairPos.{Shape, ownIn, coverAt, class1At, class2At, heads, formatOf, shape1, shape2, shapeOf, recordSize, columns, itemAt, value1, value2, deviceSlots}
 
 -- by the two formats
 pub by-format : (P : Shape → Type 0) (b : List ℕ) → (eqb (formatOf b) 1 ≡ true → P (shape1 b)) → (eqb (formatOf b) 1 ≡ false → P (shape2 b)) → P (shapeOf b)
@@ -65,10 +65,6 @@ format-test b = by-format (λ sh. eqb (sh .format) 1 ≡ eqb (formatOf b) 1) b (
 pub own-of : (b : List ℕ) → shapeOf b .own ≡ ownIn (shapeOf b .format)
 unfolding shape1 shape2
 own-of b = by-format (λ sh. sh .own ≡ ownIn (sh .format)) b (λ e. refl) (λ e. refl)
-
-pub heads-of : (b : List ℕ) → heads (shapeOf b) ≡ ownIn (shapeOf b .format) ++ sharedIn (shapeOf b .format)
-unfolding shape1 shape2
-heads-of b = by-format (λ sh. heads sh ≡ ownIn (sh .format) ++ sharedIn (sh .format)) b (λ e. refl) (λ e. refl)
 
 pub count-in-header : (b : List ℕ) → shapeOf b .countAt + 2 ≤ shapeOf b .header
 unfolding shape1 shape2

@@ -1,6 +1,6 @@
 -- A field lies in its value record, and a link slot in its unit. Assumes nothing.
 use Prim.Native.Nat.{ℕ, _+_, _-_, _*_, _/_, _%_, _<_, _≤_}
-use mathlib.Core.Path.{_≡_, refl, sym}
+use mathlib.Core.Path.{_≡_, refl}
 use mathlib.Core.Bool.{Bool, true, false, cond, _&&_}
 use mathlib.Core.List.{List, [], _∷_, map}
 use mathlib.Core.Logic.{⊎-elim}
@@ -9,7 +9,7 @@ use native.Mathlib.Nat.{div-add-mod, lt-of-mul-lt-mul-left, mul-le-mul-left, mul
 use lib.Dec.{eqb, leb}
 use borrow.Author.Tests.{eqb-false, eqb-true, ne-eqb, leb-true}
 use Rattle.folds.specs.Lists.{among}
-use Rattle.folds.proofs.Tests.{and-both, true-false}
+use Rattle.folds.proofs.Tests.{and-both}
 use Rattle.folds.proofs.Joined.{or-either}
 use Rattle.folds.proofs.Each.{Each, each-flat, each-append, each-map, each-among}
 use Rattle.ot_layouts.specs.Values.{bit, position, fieldCount, devices, fieldAt}
@@ -75,8 +75,3 @@ slot-fits b q n =
     let m : recordSize b * columns b * n ≡ recordSize b * (columns b * n) = mul-assoc (recordSize b) (columns b) n in
     omega (arith, unit-fits (recordSize b) (columns b * n) (q - 16) z (omega arith)))
     (or-either (among q (2 ∷ 8 ∷ 10 ∷ [])) (leb 16 q && among ((q - 16) % recordSize b) (deviceSlots b)) h))
-
--- in format 1 no slot stands where format 2 has class definition 1
-pub slot-eight : (b : List ℕ) → isSlot (shapeOf b) 8 ≡ true → eqb (shapeOf b .format) 1 ≡ false
-unfolding isSlot shape1 shape2 among
-slot-eight b = by-format (λ sh. isSlot sh 8 ≡ true → eqb (sh .format) 1 ≡ false) b (λ e h. true-false (sym h)) (λ e h. refl)

@@ -1,4 +1,5 @@
-// The cut places of a table that has passed the checks, but for the look for a cycle, which the walks of its items make on the way. In format 2 the covered glyphs are put in the order of their classes on the way.
+// The cut places of a table that has passed the checks, but for the look for a cycle, which the walks of its items make on the way. In format 2 the
+// covered glyphs are put in the order of their classes on the way.
 use buffers::clear_u8;
 use glyph_by_class::order_by_class;
 use ot_class_def_reader::classes_into;
@@ -19,7 +20,8 @@ ghost use Rattle.folds.specs.Moments.{came, left};
 ghost use Rattle.store_rules.specs.Moments.{storeCameWith, storeNowWith};
 ghost use Rattle.pair_plan.specs.Cutting.{Gathering, Gathers, HasLength, infoOf, Looked1, CutsSets, SetsTell, Looked2, CutsRows, RowsTell, Looked, CutsByClass, CutsTable};
 
-// What the cut rules ask of the table; object `beside` is the one whose length they ask. The marks of their walks come after that of the walk of the header's links.
+// What the cut rules ask of the table; object `beside` is the one whose length they ask. The marks of their walks come after that of the walk of the
+// header's links.
 fn info_of(objects: &[u32], table: u32, opened: PairTable, beside: u32) -> TableInfo
     requires { ⌜ HasLength (now objects) beside ⌝ }
     ensures { λ r. ⌜ r ≡ infoOf (came objects) table opened beside ⌝ }

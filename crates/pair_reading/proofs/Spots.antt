@@ -14,7 +14,7 @@ use Rattle.ot_layouts.specs.Coverage.{coverPlace}
 use Rattle.ot_layouts.specs.ClassDef.{classOf}
 use Rattle.ot_layouts.specs.PairPos.{columns, recordSize, shape1, shape2, firstRecord, valuesAt}
 use Rattle.ot_layouts.proofs.Shapes as Shapes
-use Rattle.ot_layouts.proofs.Shapes.{Format1, Format2, by-format, format-test}
+use Rattle.ot_layouts.proofs.Shapes.{Format1, by-format, format-test}
 use Rattle.ot_pairpos.specs.Layout.{layoutOf}
 use Rattle.ot_pairpos.specs.declared.Layout.{Layout}
 use Rattle.store_rules.specs.Store.{Store, bytesOf, childAt, linkedBytes}
@@ -68,9 +68,6 @@ module _ {s : Store} {t : ℕ} {p : PairTable} (o : Opens s t p) where
         some (record { object = c; at = valuesAt (sym same-size i) r }))
 
   module _ (two : eqb (shape s t .format) 1 ≡ false) where
-    form2 : Format2 (bytesOf s t) (shape s t)
-    form2 = Shapes.format-two (bytesOf s t) two
-
     pub same-unit : p .layout .unit ≡ recordSize (bytesOf s t)
     unfolding layoutOf shape1 shape2
     same-unit =
