@@ -11,10 +11,9 @@ use Rattle.folds.proofs.Tests.{and-both}
 use Rattle.folds.proofs.Joined.{and-three}
 use Rattle.folds.proofs.Folds.{length-upto, upto-part}
 use Rattle.folds.proofs.Moved.{map-upto}
-use Rattle.folds.proofs.Each.{Each}
 use Rattle.folds.proofs.FromTheFront.{flat-same}
 use Rattle.ot_layouts.specs.Numbers.{u16At}
-use Rattle.ot_layouts.specs.Coverage.{Entry, coverReadable, Ascends, Under}
+use Rattle.ot_layouts.specs.Coverage.{Entry, coverReadable, Ascends}
 use Rattle.ot_layouts.specs.MarkBasePos.{
   coverAt,
   baseCoverAt,
