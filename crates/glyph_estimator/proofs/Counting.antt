@@ -17,7 +17,7 @@ use Rattle.ot_layouts.proofs.RunCount.{many-le, plain-length}
 use Rattle.glyph_set.specs.GlyphSet.{member, mark, members, runCount, joined}
 use Rattle.glyph_set.proofs.Members.{length-members, runs-members, first-members, last-members}
 use Rattle.glyph_estimator.specs.declared.Estimator.{Estimator}
-use Rattle.glyph_estimator.specs.States.{Takes, Covered}
+use Rattle.glyph_estimator.specs.States.{counted, Takes, Covered}
 
 -- ---- out of 65,536
 
@@ -51,16 +51,22 @@ span-some (e ∷ es) h = refl
 
 -- ---- one more
 
+-- the runs with it
 module _ (e : Estimator) (s : List ℕ) (g : ℕ) (l : g < 65536) (t : Takes e s g) where
-  grown : length (members (mark s g)) ≡ length (members s) + 1
-  grown = length-members s g (t .long) l (t .new)
-
   pub joined-le : joined s g ≤ e .runs + 1
   joined-le = omega (arith, runs-members s g (t .long) l (t .new), t .counts .runs)
 
-  pub covered : (j first last : ℕ) (u : List ℕ) → u ≡ mark s g → j ≡ joined s g → first ≡ cond (eqb (e .glyphs) 0) g (min (e .first) g) → last ≡ cond (eqb (e .glyphs) 0) g (max (e .last) g)
-      → Covered e s g (record { first = first; last = last; glyphs = e .glyphs + 1; runs = e .runs + 1 - j; listed = 6 + 2 * (last - first + 1); ranged = e .ranged }) u
-  covered j first last u m ej ef el =
+  pub joined-runs : e .runs + 1 - joined s g ≡ runCount (mark s g)
+  joined-runs = omega (arith, runs-members s g (t .long) l (t .new), t .counts .runs)
+
+-- the other figures
+module _ (e : Estimator) (s : List ℕ) (g : ℕ) (l : g < 65536) (t : Takes (counted e s) s g) where
+  grown : length (members (mark s g)) ≡ length (members s) + 1
+  grown = length-members s g (t .long) l (t .new)
+
+  pub covered : (first last : ℕ) (u : List ℕ) → u ≡ mark s g → first ≡ cond (eqb (e .glyphs) 0) g (min (e .first) g) → last ≡ cond (eqb (e .glyphs) 0) g (max (e .last) g)
+      → Covered (counted e s) s g (counted (record { first = first; last = last; glyphs = e .glyphs + 1; runs = e .runs; listed = 6 + 2 * (last - first + 1); ranged = e .ranged }) u) u
+  covered first last u m ef el =
       let n = t .counts .glyphs in
       let f : first ≡ firstGlyph (plain (members (mark s g)))
       = ef ∙ ap₂ (λ (x y : ℕ). cond (eqb x 0) g (min y g)) n (t .counts .first) ∙ sym (first-members s g (t .long) l (t .new)) in
@@ -73,7 +79,7 @@ module _ (e : Estimator) (s : List ℕ) (g : ℕ) (l : g < 65536) (t : Takes e s
               first = f;
               last = k;
               glyphs = omega (arith, grown);
-              runs = omega (arith, runs-members s g (t .long) l (t .new), t .counts .runs);
+              runs = refl;
               listed = omega (
                 arith,
                 span-some (plain (members (mark s g))) (omega (arith, grown, plain-length (members (mark s g)))),

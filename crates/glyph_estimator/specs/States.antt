@@ -26,6 +26,14 @@ pub record Counts (e : Estimator) (s : List ℕ) : Type 0 where
   pub listed : e .listed ≡ 6 + 2 * span (plain (members s))
   pub ranged : e .ranged ≤ 4 + 6 * e .glyphs
 
+-- the state with another number of runs
+abbrev pub withRuns : Estimator → ℕ → Estimator
+withRuns e n = record { first = e .first; last = e .last; glyphs = e .glyphs; runs = n; listed = e .listed; ranged = e .ranged }
+
+-- the state with the runs of the set s, whatever runs it has itself
+abbrev pub counted : Estimator → List ℕ → Estimator
+counted e s = withRuns e (runCount s)
+
 -- ---- a class
 
 -- "6·runs of each class but 0": what a class takes in a class definition of ranges

@@ -1,6 +1,7 @@
 // The sizes of coverage and class definition 1, estimated over the classes since the last cut: the counterpart of `ClassDefSizeEstimator`.
-// The glyphs of these classes are in a set that the caller lends; runs are counted as glyphs come in.
+// The glyphs of these classes are in a set that the caller lends; runs are counted as glyphs come in, or by the word where a class has many.
 use buffers::lesser;
+use glyph_set::words::run_count;
 ghost use mathlib.Core.Path.{_≡_};
 ghost use mathlib.Core.Bool.{cond};
 ghost use mathlib.Core.List.{[]};
@@ -10,7 +11,10 @@ ghost use lib.ListN.{length, getD};
 ghost use Rattle.glyph_set.specs.GlyphSet.{blankAll};
 ghost use Rattle.glyph_rules.specs.Estimates.{estimate, coverSize, classSize, besideRows};
 ghost use Rattle.folds.specs.Moments.{came, left};
-ghost use Rattle.glyph_estimator.specs.States.{valuesOf, startsRun, Takes, Taken, Covered, EstimatorReady, Added, Small};
+ghost use Rattle.glyph_estimator.specs.States.{valuesOf, counted, startsRun, Takes, Taken, Covered, EstimatorReady, Added, Small};
+
+// A class of fewer glyphs is added glyph by glyph.
+const FEW: usize = 32;
 
 // First and last glyph, glyphs and runs for coverage, and the two sizes of class definition 1: listed and in ranges.
 pub struct Estimator {
@@ -51,7 +55,33 @@ impl Estimator {
     }
 
     // Adds a class with its glyphs, which are not in the set yet, and puts them in. A class with no glyphs changes nothing.
-    pub fn add(mut self, class: u16, glyphs: &[u16], set: &mut [u8]) -> Self
+    pub fn add(self, class: u16, glyphs: &[u16], set: &mut [u8]) -> Self
+        requires { ⌜ EstimatorReady self (now set) (now glyphs) ⌝ }
+        ensures { λ r. ⌜ Added self (came set) class (came glyphs) r (left set) ⌝ }
+    {
+        if self.fills_words(glyphs) {
+            return self.add_by_word(class, glyphs, set);
+        }
+        self.add_by_glyph(class, glyphs, set)
+    }
+
+    // Whether a class has two glyphs for each word of the set from the first glyph to the last, by its own first and last: from there on counting
+    // by the word is quicker. Either way counts the same.
+    fn fills_words(self, glyphs: &[u16]) -> bool {
+        let n = glyphs.len();
+        if n < FEW {
+            return false;
+        }
+        let from = self.first_with(glyphs[0]) / 64;
+        let to = self.last_with(glyphs[n - 1]) / 64;
+        if to < from {
+            return false;
+        }
+        2 * ((to - from) as usize + 1) <= n
+    }
+
+    // Adds a class glyph by glyph, each with the runs that it makes or joins.
+    fn add_by_glyph(mut self, class: u16, glyphs: &[u16], set: &mut [u8]) -> Self
         requires { ⌜ EstimatorReady self (now set) (now glyphs) ⌝ }
         ensures { λ r. ⌜ Added self (came set) class (came glyphs) r (left set) ⌝ }
     {
@@ -63,11 +93,38 @@ impl Estimator {
         self
     }
 
+    // Adds a class as a whole: once its glyphs are in the set, the runs are counted by the word.
+    fn add_by_word(mut self, class: u16, glyphs: &[u16], set: &mut [u8]) -> Self
+        requires { ⌜ EstimatorReady self (now set) (now glyphs) ⌝ }
+        ensures { λ r. ⌜ Added self (came set) class (came glyphs) r (left set) ⌝ }
+    {
+        let mut k: usize = 0;
+        while k < glyphs.len() {
+            self = self.take_glyph(class, glyphs, k, set);
+            k += 1;
+        }
+        self.runs = run_count(set, self.first, self.last);
+        self
+    }
+
     // Adds glyph `k` of a class.
     fn add_glyph(mut self, class: u16, glyphs: &[u16], k: usize, set: &mut [u8]) -> Self
         requires { ⌜ k < length (now glyphs) ⌝ }
         requires { ⌜ Takes self (now set) (getD (now glyphs) k 0) ⌝ }
         ensures { λ r. ⌜ Taken self (came set) class (came glyphs) k r (left set) ⌝ }
+    {
+        let joined = glyph_set::joined(set, glyphs[k]);
+        self = self.take_glyph(class, glyphs, k, set);
+        self.runs = self.runs + 1 - joined;
+        self
+    }
+
+    // Adds glyph `k` of a class to all figures but the coverage's runs, and puts it in the set.
+    fn take_glyph(mut self, class: u16, glyphs: &[u16], k: usize, set: &mut [u8]) -> Self
+        requires { ⌜ k < length (now glyphs) ⌝ }
+        requires { ⌜ Takes (counted self (now set)) (now set) (getD (now glyphs) k 0) ⌝ }
+        ensures { λ r. ⌜ Taken (counted self (came set)) (came set) class (came glyphs) k (counted r (left set)) (left set) ⌝ }
+        ensures { λ r. ⌜ r .runs ≡ self .runs ⌝ }
     {
         self = self.cover(glyphs[k], set);
         if class == 0 {
@@ -77,19 +134,18 @@ impl Estimator {
         self
     }
 
-    // Adds a glyph to the coverage, and puts it in the set.
+    // Adds a glyph to the coverage, but for the runs, and puts it in the set.
     fn cover(mut self, glyph: u16, set: &mut [u8]) -> Self
-        requires { ⌜ Takes self (now set) glyph ⌝ }
-        ensures { λ r. ⌜ Covered self (came set) glyph r (left set) ⌝ }
+        requires { ⌜ Takes (counted self (now set)) (now set) glyph ⌝ }
+        ensures { λ r. ⌜ Covered (counted self (came set)) (came set) glyph (counted r (left set)) (left set) ⌝ }
+        ensures { λ r. ⌜ r .runs ≡ self .runs ⌝ }
     {
-        let joined = glyph_set::joined(set, glyph);
         glyph_set::insert(set, glyph);
         let first = self.first_with(glyph);
         let last = self.last_with(glyph);
         self.first = first;
         self.last = last;
         self.glyphs += 1;
-        self.runs = self.runs + 1 - joined;
         self.listed = 6 + 2 * ((last - first) as usize + 1);
         self
     }

@@ -1,18 +1,21 @@
--- The glyphs of the set: of an empty set, of a set that has the glyphs of some entries, and after one more is put in: how many, how many runs, the first
--- and the last. Assumes nothing.
+-- The glyphs of the set: of an empty set, of a set that has the glyphs of some entries, from the first to the last, and after one more is put in: how
+-- many, how many runs, the first and the last. Assumes nothing.
 use Prim.Native.Nat.{ℕ, _+_, _<_, _≤_, min, max}
 use mathlib.Core.Path.{_≡_, refl, sym, ap, _∙_}
 use mathlib.Core.Bool.{false, cond}
 use mathlib.Core.List.{List, map}
+use mathlib.Core.Logic.{⊎-elim}
 use native.Mathlib.Omega.{arith}
 use lib.Dec.{eqb}
 use lib.ListN.{length, length-map}
-use Rattle.folds.proofs.Picked.{picked, Adds, picked-same, map-picked, sift-upto, length-adds}
+use Rattle.folds.proofs.Picked.{picked, Adds, picked-same, map-picked, sift-upto, length-adds, unpicked, first-picked, last-picked}
+use Rattle.folds.proofs.Tests.{either, true-false}
 use Rattle.ot_layouts.specs.Coverage.{Entry, plain, Ascends, Under}
 use Rattle.ot_layouts.specs.ClassDef.{firstGlyph, lastGlyph, classIn}
 use Rattle.ot_layouts.proofs.RunStarts.{entry, alone, runs-adds}
-use Rattle.ot_layouts.proofs.ByGlyph.{has, taken-all, first-adds, last-adds}
+use Rattle.ot_layouts.proofs.ByGlyph.{has, taken-all, first-taken, last-taken, first-adds, last-adds}
 use Rattle.glyph_set.specs.GlyphSet.{member, mark, members, runCount, behind, joined}
+use Rattle.glyph_set.specs.Words.{Spans}
 use Rattle.glyph_set.proofs.Marks.{mark-here, mark-other}
 
 pub members-picked : (s : List ℕ) → members s ≡ picked (member s) (λ g. g) 65536
@@ -29,6 +32,22 @@ members-of s es a u h =
     ∙ picked-same (member s) (has es) (λ g. g) (λ g. g) 65536 h (λ g l t. refl)
     ∙ sym (map-picked (λ (e : Entry). e .glyph) (has es) (λ g. entry g (classIn es g)) 65536)
     ∙ ap (map (λ (e : Entry). e .glyph)) (taken-all es 65536 a u)
+
+-- they lie from the first to the last
+pub members-span : (s : List ℕ) → Spans s (firstGlyph (plain (members s))) (lastGlyph (plain (members s)))
+members-span s g l h =
+    rw (members-alone s)
+    (let (m, f) = first-picked (member s) (λ x. entry x 0) 65536 some in
+    let (n, b) = last-picked (member s) (λ x. entry x 0) 65536 some in
+    let e = first-taken (member s) (λ x. 0) 65536 m f in
+    let d = last-taken (member s) (λ x. 0) 65536 n b in
+    (⊎-elim (λ k. true-false (sym h ∙ f .none g k)) (λ k. omega arith) (either g m), ⊎-elim (λ k. true-false (sym h ∙ b .none g k l)) (λ k. omega arith) (either n g)))
+  where
+    some : 0 < length (alone (member s) 65536)
+    some =
+        ⊎-elim (λ k. k)
+        (λ k. let e : length (alone (member s) 65536) ≡ 0 = omega arith in true-false (sym h ∙ unpicked (member s) (λ x. entry x 0) 65536 e g l))
+        (either 0 (length (alone (member s) 65536)))
 
 -- ---- one more
 

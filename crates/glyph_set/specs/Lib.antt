@@ -1,1 +1,2 @@
 pub mod GlyphSet
+pub mod Words

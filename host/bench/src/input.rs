@@ -1,7 +1,7 @@
 //! What is split.
 
 use differential::generate::{
-    large::{self, Fill, Order},
+    large::{self, Fill, Order, Spread},
     Case,
 };
 
@@ -16,24 +16,29 @@ pub enum Shape {
     FullMarks,
     /// MarkBasePos, with an anchor in one slot of three.
     SparseMarks,
+    /// PairPos, format 2, of three objects and many glyphs.
+    Glyphs(Spread),
 }
 
 impl Shape {
-    /// All of them.
-    pub const ALL: [Self; 4] = [
+    /// Those of which objects or anchors grow, links and all the rest with them.
+    pub const GROWING: [Self; 4] = [
         Self::Format1,
         Self::Format2,
         Self::FullMarks,
         Self::SparseMarks,
     ];
 
-    /// In two words.
+    /// In a few words.
     pub const fn name(self) -> &'static str {
         match self {
             Self::Format1 => "format 1",
             Self::Format2 => "format 2",
             Self::FullMarks => "marks, full",
             Self::SparseMarks => "marks, sparse",
+            Self::Glyphs(Spread::Dense) => "format 2, glyphs dense",
+            Self::Glyphs(Spread::Sparse) => "format 2, glyphs sparse",
+            Self::Glyphs(Spread::Alone) => "format 2, a glyph a class",
         }
     }
 
@@ -42,6 +47,7 @@ impl Shape {
         match self {
             Self::Format1 | Self::Format2 => "objects",
             Self::FullMarks | Self::SparseMarks => "anchors",
+            Self::Glyphs(_) => "glyphs",
         }
     }
 
@@ -56,6 +62,7 @@ impl Shape {
             Self::Format2 => large::format2(size, order, seed),
             Self::FullMarks => large::marks(size, Fill::Full, order, seed),
             Self::SparseMarks => large::marks(size, Fill::Sparse, order, seed),
+            Self::Glyphs(spread) => large::many_glyphs(size, spread, seed),
         }
     }
 }
@@ -64,7 +71,7 @@ impl Shape {
 pub struct Input {
     /// What the tables are like.
     pub shape: Shape,
-    /// How many objects there are, or anchors.
+    /// How many objects there are, or anchors, or glyphs.
     pub size: usize,
     /// How the objects are numbered.
     pub order: Order,
@@ -83,13 +90,13 @@ const MIDDLE: (u64, usize) = (8, 48);
 const LARGE: (u64, usize) = (1, 15);
 
 impl Input {
-    /// One of those that grow.
+    /// Some of a shape and size.
     fn of(shape: Shape, size: usize, order: Order, (stores, repetitions): (u64, usize)) -> Self {
         Self {
             shape,
             size,
             order,
-            grows: true,
+            grows: Shape::GROWING.contains(&shape),
             repetitions,
             cases: (0..stores)
                 .map(|seed| shape.build(size, order, seed))
@@ -133,11 +140,12 @@ pub fn order_name(order: Order) -> &'static str {
 
 /// Those that take a moment.
 pub fn small() -> Vec<Input> {
-    let mut inputs: Vec<Input> = Shape::ALL
+    let mut inputs: Vec<Input> = Shape::GROWING
         .into_iter()
         .map(|shape| Input::of(shape, 1_000, Order::Made, SMALL))
         .collect();
     inputs.push(Input::few_objects());
+    inputs.extend(many_glyphs(&[(1_000, SMALL)]));
     inputs
 }
 
@@ -145,17 +153,33 @@ pub fn small() -> Vec<Input> {
 pub fn all() -> Vec<Input> {
     let mut inputs = Vec::new();
     for order in [Order::Made, Order::Any] {
-        for shape in Shape::ALL {
+        for shape in Shape::GROWING {
             inputs.push(Input::of(shape, 1_000, order, SMALL));
             inputs.push(Input::of(shape, 10_000, order, MIDDLE));
             let most = match shape {
                 Shape::Format1 => large::MOST_FORMAT1,
                 Shape::Format2 => large::MOST_FORMAT2,
-                Shape::FullMarks | Shape::SparseMarks => continue,
+                _ => continue,
             };
             inputs.push(Input::of(shape, most, order, LARGE));
         }
     }
     inputs.push(Input::few_objects());
+    inputs.extend(many_glyphs(&[
+        (1_000, SMALL),
+        (10_000, MIDDLE),
+        (65_536, LARGE),
+    ]));
     inputs
+}
+
+/// Many glyphs in three objects, dense, sparse, and one in a class.
+fn many_glyphs(sizes: &[(usize, (u64, usize))]) -> Vec<Input> {
+    let of = |spread| {
+        let input =
+            move |&(size, turns)| Input::of(Shape::Glyphs(spread), size, Order::Made, turns);
+        sizes.iter().map(input)
+    };
+    let spreads = [Spread::Dense, Spread::Sparse, Spread::Alone];
+    spreads.into_iter().flat_map(of).collect()
 }

@@ -38,6 +38,17 @@ pub enum Fill {
     Sparse,
 }
 
+/// How the covered glyphs of [`many_glyphs`] lie.
+#[derive(Clone, Copy, Debug, PartialEq, Eq)]
+pub enum Spread {
+    /// One beside the other, in sixteen classes.
+    Dense,
+    /// As far apart as there is room, in sixteen classes.
+    Sparse,
+    /// One beside the other, each in a class of its own.
+    Alone,
+}
+
 /// How many objects [`format1`] may have, so that a split has room for its own: near 65,536.
 pub const MOST_FORMAT1: usize = 65_120;
 
@@ -45,6 +56,8 @@ pub const MOST_FORMAT1: usize = 65_120;
 pub const MOST_FORMAT2: usize = 64_860;
 
 const NO_FIELDS: ValueFormat = ValueFormat(0);
+/// X advance.
+const ADVANCE: ValueFormat = ValueFormat(4);
 /// X advance, and its device.
 const KERNING: ValueFormat = ValueFormat(0x44);
 
@@ -112,6 +125,44 @@ pub fn few_objects(seed: u64) -> Case {
     )
 }
 
+/// A format 2 table of three objects that covers so many glyphs, or half of all where they are apart and there are no more.
+pub fn many_glyphs(count: usize, spread: Spread, seed: u64) -> Case {
+    let mut random = Random::new(seed);
+    let apart = match spread {
+        Spread::Dense | Spread::Alone => 1,
+        Spread::Sparse => (65_536 / count).max(2),
+    };
+    let glyphs: Vec<u16> = (0..65_536)
+        .step_by(apart)
+        .map(|glyph| glyph as u16)
+        .take(count)
+        .collect();
+    let rows = match spread {
+        Spread::Dense | Spread::Sparse => 16,
+        Spread::Alone => count.min(65_535),
+    };
+    let classes = match spread {
+        Spread::Dense | Spread::Sparse => classes(&mut random, rows, &glyphs),
+        Spread::Alone => glyphs
+            .iter()
+            .map(|&glyph| (glyph, glyph % rows as u16))
+            .collect(),
+    };
+    let columns = 128_000 / rows + 1;
+    let plan = Plan {
+        formats: [ADVANCE, NO_FIELDS],
+        rows,
+        columns,
+        glyphs: glyphs.len(),
+        second_glyphs: columns,
+        records: [0, 0],
+        device_links: 0,
+    };
+    let mut draft = Draft::default();
+    let table = with_parts(&mut draft, &plan, &glyphs, &classes, &mut random);
+    laid_out(&draft, table, Order::Made, &mut random)
+}
+
 /// A MarkBasePos table with so many anchors, of which slots of both arrays share those near to them.
 ///
 /// There is a class for a hundred of them, and a mark for eight. Whatever the fill, there are about as
@@ -166,17 +217,9 @@ fn class_table(
     random: &mut Random,
 ) -> Case {
     let mut draft = Draft::default();
-    let table = draft.object(plan.table(random));
     let glyphs = glyphs(plan.glyphs);
-    let second_glyphs = self::glyphs(plan.second_glyphs);
-    let parts = [
-        coverage::write(&glyphs),
-        class_def::write(&classes(random, plan.rows, &glyphs)),
-        class_def::write(&classes(random, plan.columns, &second_glyphs)),
-    ];
-    let parts = parts.map(|part| draft.object(part));
-    link_parts(&mut draft, table, parts);
-
+    let classes = classes(random, plan.rows, &glyphs);
+    let table = with_parts(&mut draft, &plan, &glyphs, &classes, random);
     let devices = devices(&mut draft, random, device_count, lengths);
     let [first, end] = plan.records;
     for record in first..end {
@@ -186,6 +229,26 @@ fn class_table(
         }
     }
     laid_out(&draft, table, order, random)
+}
+
+/// The table itself, with coverage and class definitions.
+fn with_parts(
+    draft: &mut Draft,
+    plan: &Plan,
+    glyphs: &[u16],
+    glyph_classes: &[(u16, u16)],
+    random: &mut Random,
+) -> usize {
+    let table = draft.object(plan.table(random));
+    let second_glyphs = self::glyphs(plan.second_glyphs);
+    let parts = [
+        coverage::write(glyphs),
+        class_def::write(glyph_classes),
+        class_def::write(&classes(random, plan.columns, &second_glyphs)),
+    ];
+    let parts = parts.map(|part| draft.object(part));
+    link_parts(draft, table, parts);
+    table
 }
 
 /// From among how many devices or anchors an item takes its own.

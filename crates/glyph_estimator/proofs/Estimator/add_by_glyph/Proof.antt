@@ -1,10 +1,10 @@
--- `glyph_estimator::Estimator::add` meets its contract: after each turn the glyphs passed are added. The measure is what is left. Assumes nothing.
+-- `glyph_estimator::Estimator::add_by_glyph` meets its contract: after each turn the glyphs passed are added. The measure is what is left. Assumes nothing.
 use borrow.Author.Needs.{needs}
 use Prim.Native.Nat.{_-_}
 use lib.ListN.{length}
 use Rattle.glyph_estimator.proofs.Taking.{Adding, start, set-length, takes, turn, stop}
-use Rattle.glyph_estimator.proofs.Estimator.add.Statement.{statement}
-use Rattle.glyph_estimator.proofs.Estimator.add.Tie as tie
+use Rattle.glyph_estimator.proofs.Estimator.add_by_glyph.Statement.{statement}
+use Rattle.glyph_estimator.proofs.Estimator.add_by_glyph.Tie as tie
 
 abbrev Inv-loop : tie.InvT-loop
 Inv-loop self₀ class glyphs set₀ k₀ self set k = Adding self₀ set₀ class glyphs self set k
@@ -27,8 +27,8 @@ same-length c = set-length _ _ _ _ _ _ _ (c .before .loop .inv)
 returns : tie.Need-returns Inv-loop μ-loop
 returns c = stop _ _ _ _ _ _ _ (c .before .loop .inv) (c .loop-test .left)
 
-pub add-spec : {M : Type 1} → statement M
-add-spec =
+pub add-by-glyph-spec : {M : Type 1} → statement M
+add-by-glyph-spec =
     tie.close
     (tie.spec
     Inv-loop
