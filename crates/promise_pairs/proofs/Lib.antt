@@ -15,6 +15,7 @@ pub mod WrittenAfresh
 pub mod ReadingsKept
 pub mod SameReach
 pub mod AgainNothing
+pub mod SplitLinks
 pub mod StaysOctets
 pub mod Calls
 pub mod Unique
