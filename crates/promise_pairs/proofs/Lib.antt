@@ -10,6 +10,7 @@ pub mod KeptAndNew
 pub mod ViewPairs
 pub mod PairsKept
 pub mod LinksCounted
+pub mod Taken
 pub mod StaysSound
 pub mod WrittenAfresh
 pub mod ReadingsKept
