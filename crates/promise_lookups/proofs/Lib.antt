@@ -5,3 +5,5 @@ pub mod Apart
 pub mod NewLookups
 pub mod StaysSound
 pub mod Kept
+pub mod LookupsKept
+pub mod AgainNothing
