@@ -5,5 +5,7 @@ pub mod Apart
 pub mod NewLookups
 pub mod StaysSound
 pub mod Kept
+pub mod WrittenAfresh
 pub mod LookupsKept
 pub mod AgainNothing
+pub mod Calls
