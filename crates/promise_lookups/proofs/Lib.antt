@@ -9,3 +9,4 @@ pub mod WrittenAfresh
 pub mod LookupsKept
 pub mod AgainNothing
 pub mod Calls
+pub mod Needed
