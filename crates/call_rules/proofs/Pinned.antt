@@ -13,13 +13,25 @@ use Rattle.folds.proofs.Compared as compared
 use Rattle.folds.proofs.Compared.{same, every}
 use Rattle.store_rules.specs.Store as Store
 use Rattle.store_rules.specs.Store.{Store}
-use Rattle.call_rules.specs.declared.Answer.the-variants.{Done, Unsound, NoTable, BadTable, BadParts, FewGlyphs, ShortScratch, BadLinks, NoRoom}
+use Rattle.call_rules.specs.declared.Answer.the-variants.{
+  Done,
+  Unsound,
+  NoTable,
+  BadList,
+  BadTable,
+  BadParts,
+  FewGlyphs,
+  ShortScratch,
+  BadLinks,
+  ManySubtables,
+  NoRoom,
+}
 use Rattle.call_rules.specs.Answers as Answers
 use Rattle.call_rules.specs.Answers.{number, case, firstCase}
 use Rattle.call_rules.specs.Scratch as Scratch
 use Rattle.call_rules.specs.Scratch.{scratchOf, lengthsOf, lengthsShort, cleared}
 use Rattle.call_rules.specs.Needs as Needs
-use Rattle.call_rules.specs.Needs.{lentOf, countsOf, shortBy, roomShort}
+use Rattle.call_rules.specs.Needs.{lentOf, countsOf, together, shortBy, roomShort}
 use Rattle.call_rules.specs.Moments.{scratchCame, scratchLeft, scratchNow}
 use Rattle.call_rules.specs.Outcomes as Outcomes
 use Rattle.call_rules.specs.Outcomes.{Outcome, outcome, done, settle}
@@ -76,8 +88,10 @@ used = 10 ∷ 3 ∷ 2 ∷ []
 unfoldable pub pins : List Bool
 pins =
     -- `number`: the table of answers
-    same (number Done ∷ number Unsound ∷ number NoTable ∷ number BadTable ∷ number BadParts ∷ number FewGlyphs ∷ number ShortScratch ∷ number BadLinks ∷ number NoRoom ∷ [])
-    (0 ∷ 1 ∷ 2 ∷ 3 ∷ 4 ∷ 5 ∷ 6 ∷ 7 ∷ 8 ∷ [])
+    same
+    (number Done ∷ number Unsound ∷ number NoTable ∷ number BadList ∷ number BadTable ∷ number BadParts ∷ number FewGlyphs ∷ number ShortScratch
+    ∷ number BadLinks ∷ number ManySubtables ∷ number NoRoom ∷ [])
+    (0 ∷ 1 ∷ 2 ∷ 9 ∷ 3 ∷ 4 ∷ 5 ∷ 6 ∷ 7 ∷ 10 ∷ 8 ∷ [])
     -- `firstCase`: the first that applies
     ∷ eqb (answered (firstCase (case NoTable false ∷ case BadLinks true ∷ case NoRoom true ∷ []))) 7
     ∷ eqb (answered (firstCase (case NoTable false ∷ []))) 99
@@ -102,6 +116,11 @@ pins =
     ∷ not (tooLittle used 16 10 24 3)
     ∷ tooLittle used 15 10 24 3 ∷ tooLittle used 16 9 24 3 ∷ tooLittle used 16 10 23 3 ∷ tooLittle used 16 10 24 2
     ∷ not (tooLittle [] 6 4 16 3)
+    -- `together`: each in its place
+    ∷ same
+    (let n = together (record { objects = 2; links = 4; bytes = 6; entries = 3 }) (record { objects = 10; links = 20; bytes = 30; entries = 40 }) in
+    n .objects ∷ n .links ∷ n .bytes ∷ n .entries ∷ [])
+    (12 ∷ 24 ∷ 36 ∷ 43 ∷ [])
     -- `roomShort`: of a store and a list
     ∷ not (roomShort (store 2) (9 ∷ []) (record { objects = 0; links = 0; bytes = 1; entries = 1 }))
     ∷ roomShort (store 2) (9 ∷ []) (record { objects = 0; links = 0; bytes = 2; entries = 1 })

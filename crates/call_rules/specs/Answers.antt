@@ -4,18 +4,32 @@ use mathlib.Core.Bool.{Bool, cond}
 use mathlib.Core.List.{List, [], _∷_}
 use mathlib.Core.Option.{Option, some, none}
 use Rattle.call_rules.specs.declared.Answer.{Answer}
-use Rattle.call_rules.specs.declared.Answer.the-variants.{Done, Unsound, NoTable, BadTable, BadParts, FewGlyphs, ShortScratch, BadLinks, NoRoom}
+use Rattle.call_rules.specs.declared.Answer.the-variants.{
+  Done,
+  Unsound,
+  NoTable,
+  BadList,
+  BadTable,
+  BadParts,
+  FewGlyphs,
+  ShortScratch,
+  BadLinks,
+  ManySubtables,
+  NoRoom,
+}
 
--- document 01's number of each answer
+-- the number of each answer: document 01's, and 9 and 10 of document 02; the order in which they are asked is that of the names
 abbrev pub number : Answer → ℕ
 number Done = 0
 number Unsound = 1
 number NoTable = 2
+number BadList = 9
 number BadTable = 3
 number BadParts = 4
 number FewGlyphs = 5
 number ShortScratch = 6
 number BadLinks = 7
+number ManySubtables = 10
 number NoRoom = 8
 
 -- an answer, and when it applies

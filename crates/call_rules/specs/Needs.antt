@@ -22,6 +22,11 @@ pub record InUse (lent : Lent) (counts : List ℕ) : Type 0 where
   pub objects : getD counts 1 0 ≤ objectRoom (lent .objects)
   pub links : getD counts 2 0 ≤ linkRoom (lent .links)
 
+-- what two parts of a call need together
+abbrev pub together : Needs → Needs → Needs
+together a b =
+    record { objects = a .objects + b .objects; links = a .links + b .links; bytes = a .bytes + b .bytes; entries = a .entries + b .entries }
+
 -- 8: what is lent is too little for what is in use and what is needed
 unfoldable pub shortBy : Lent → List ℕ → Needs → Bool
 shortBy lent counts n =

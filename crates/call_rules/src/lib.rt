@@ -2,16 +2,19 @@
 ghost use mathlib.Core.Path.{_≡_};
 ghost use Rattle.call_rules.specs.Answers.{number};
 
-// Document 01's answers, in the order of its table; specs/Answers.antt gives each its number.
+// Every answer, those of refusals in the one order in which they are asked: a call skips what it does not have. `Done` is also asked: for another format between
+// the two clauses of `BadTable`, and where there is no cut behind `BadLinks`. specs/Answers.antt gives each its number.
 pub enum Answer {
     Done,
     Unsound,
     NoTable,
+    BadList,
     BadTable,
     BadParts,
     FewGlyphs,
     ShortScratch,
     BadLinks,
+    ManySubtables,
     NoRoom,
 }
 
@@ -40,7 +43,7 @@ pub struct Needs {
     pub entries: usize,
 }
 
-// Document 01's number of an answer.
+// The number of an answer.
 pub fn number_of(answer: Answer) -> u32
     ensures { λ r. ⌜ r ≡ number answer ⌝ }
 {
@@ -48,11 +51,13 @@ pub fn number_of(answer: Answer) -> u32
         Answer::Done => 0,
         Answer::Unsound => 1,
         Answer::NoTable => 2,
+        Answer::BadList => 9,
         Answer::BadTable => 3,
         Answer::BadParts => 4,
         Answer::FewGlyphs => 5,
         Answer::ShortScratch => 6,
         Answer::BadLinks => 7,
+        Answer::ManySubtables => 10,
         Answer::NoRoom => 8,
     }
 }

@@ -19,6 +19,7 @@ pub mod ByGlyph
 pub mod Shapes
 pub mod Slots
 pub mod MarkSlots
+pub mod LookupSlots
 pub mod Octets
 pub mod Entries
 pub mod RangesCounted

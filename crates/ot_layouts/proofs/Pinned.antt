@@ -41,6 +41,8 @@ use Rattle.ot_layouts.specs.MarkBasePos.{
   columnAt,
   basesReadable,
 }
+use Rattle.ot_layouts.specs.Lookup as Lookup
+use Rattle.ot_layouts.specs.Lookup.{lookupCount, listExact, isListSlot, lookupType, subtableCount, lookupExact, isSubtableSlot}
 use Rattle.ot_layouts.specs.declared.Kind.{Kind}
 use Rattle.ot_layouts.specs.declared.Kind.the-variants as Kind
 use Rattle.ot_layouts.specs.declared.Reading.{Reading}
@@ -197,8 +199,30 @@ marks =
     ∷ basesReadable 2 twoBases ∷ not (basesReadable 3 twoBases) ∷ not (basesReadable 2 (twoBases ++ (0 ∷ []))) ∷ not (basesReadable 0 []) ∷ basesReadable 0 (words (7 ∷ []))
     ∷ []
 
-pub pinned : every (numbers ++ values ++ coverages ++ classDefs ++ pairs ++ marks) ≡ true
-unfolding Folds.computes Lists.computes compared.computes Numbers.computes Values.computes Coverage.computes ClassDef.computes PairPos.computes placed kindNumber header numbers values covers coverages classes classDefs table1 table2 wide2 described pairs MarkBasePos.computes markTable twoMarks twoBases marks
+-- a list of two lookups; a lookup of two subtables with these flags, and what stands behind their offsets
+unfoldable pub lookupList : List ℕ
+lookupList = words (2 ∷ 9 ∷ 9 ∷ [])
+
+unfoldable pub lookupOf : ℕ → List ℕ → List ℕ
+lookupOf flags behind = words (4 ∷ flags ∷ 2 ∷ 9 ∷ 9 ∷ behind)
+
+-- `lookupCount`, `lookupType`, `subtableCount`: what stands where; `listExact`, `lookupExact`, `filters`: exact lengths, two bytes more with the flag's bit alone
+-- `isOneOf`, `isListSlot`, `isSubtableSlot`: slots, and what lies beside: before, between and behind them
+unfoldable pub lookups : List Bool
+lookups =
+    eqb (lookupCount lookupList) 2 ∷ listExact lookupList ∷ not (listExact (lookupList ++ (0 ∷ []))) ∷ not (listExact (words (2 ∷ 9 ∷ []))) ∷ not (listExact [])
+    ∷ listExact (words (0 ∷ []))
+    ∷ isListSlot lookupList 2 ∷ isListSlot lookupList 4 ∷ not (isListSlot lookupList 0) ∷ not (isListSlot lookupList 3) ∷ not (isListSlot lookupList 6)
+    ∷ eqb (lookupType (lookupOf 0 [])) 4 ∷ eqb (subtableCount (lookupOf 0 [])) 2
+    ∷ lookupExact (lookupOf 0 []) ∷ lookupExact (lookupOf 0xFFEF []) ∷ not (lookupExact (lookupOf 0 (7 ∷ []))) ∷ not (lookupExact (lookupOf 0x10 []))
+    ∷ lookupExact (lookupOf 0x10 (7 ∷ [])) ∷ lookupExact (lookupOf 0xFFFF (7 ∷ [])) ∷ not (lookupExact (lookupOf 0x10 (7 ∷ 7 ∷ [])))
+    ∷ not (lookupExact (words (4 ∷ 0 ∷ []))) ∷ lookupExact (words (4 ∷ 0 ∷ 0 ∷ []))
+    ∷ isSubtableSlot (lookupOf 0 []) 6 ∷ isSubtableSlot (lookupOf 0 []) 8 ∷ not (isSubtableSlot (lookupOf 0 []) 4) ∷ not (isSubtableSlot (lookupOf 0 []) 7)
+    ∷ not (isSubtableSlot (lookupOf 0x10 (7 ∷ [])) 10)
+    ∷ []
+
+pub pinned : every (numbers ++ values ++ coverages ++ classDefs ++ pairs ++ marks ++ lookups) ≡ true
+unfolding Folds.computes Lists.computes compared.computes Numbers.computes Values.computes Coverage.computes ClassDef.computes PairPos.computes placed kindNumber header numbers values covers coverages classes classDefs table1 table2 wide2 described pairs MarkBasePos.computes markTable twoMarks twoBases marks Lookup.computes lookupList lookupOf lookups
 pinned = refl
 
 -- every third glyph from g on, n of them, of class 1

@@ -4,3 +4,4 @@ pub mod Coverage
 pub mod ClassDef
 pub mod PairPos
 pub mod MarkBasePos
+pub mod Lookup

@@ -8,3 +8,5 @@ pub mod NamedRuns
 pub mod NewCounts
 pub mod NewTable
 pub mod TableLinks
+pub mod SameReading
+pub mod SameCuts

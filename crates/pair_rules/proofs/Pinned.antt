@@ -24,7 +24,7 @@ use Rattle.pair_rules.specs.Rules.{bareRule, rule2}
 use Rattle.pair_rules.specs.Table.{cutPlaces}
 use Rattle.pair_rules.specs.Written.{newTable, newLinks, splitStore, newTables}
 use Rattle.pair_rules.specs.Pairs.{Pair, pairOf, pairAmong}
-use Rattle.pair_rules.specs.Calls.{splitCall, planCall, pairCall}
+use Rattle.pair_rules.specs.Calls.{splitCall, planCall, pairCall, readInOrder}
 use Rattle.pair_rules.specs.Computing as definitions
 
 -- ---- comparing
@@ -286,6 +286,21 @@ keepsIn s s′ objects links us gs hs =
 unfoldable pub keeps : Store → List ℕ → ℕ → ℕ → List ℕ → List ℕ → Bool
 keeps s cs objects links gs hs = keepsIn s (splitStore s 0 cs) objects links (0 ∷ newTables s 0 cs) gs hs
 
+-- reading the tables us of s′ in order gives the pair that table 0 of s has
+unfoldable pub readAs : Store → Store → List ℕ → ℕ → ℕ → Bool
+readAs s s′ us a b =
+    let x = pairCall s 0 a b in
+    let y = readInOrder s′ us a b in
+    eqb (x .answer) (y .answer) && eqb (x .found) (y .found) && sameℤs (x .values) (y .values)
+
+-- `readInOrder`: the first with a pair decides, also behind one that is refused; with none, no pair
+unfoldable pub inOrder : List Bool
+inOrder =
+    readAs store1 (splitStore store1 0 (1 ∷ [])) (0 ∷ 5 ∷ []) 10 5 ∷ readAs store1 (splitStore store1 0 (1 ∷ [])) (0 ∷ 5 ∷ []) 30 5
+    ∷ readAs store1 (splitStore store1 0 (1 ∷ [])) (0 ∷ 5 ∷ []) 10 4 ∷ readAs store1 store1 (9 ∷ 0 ∷ []) 10 5
+    ∷ eqb (pairCall store1 0 30 5 .found) 1 ∷ eqb (pairCall (splitStore store1 0 (1 ∷ [])) 0 30 5 .found) 0 ∷ eqb (readInOrder store1 [] 10 5 .found) 0
+    ∷ []
+
 -- a whole outcome of W9: a new table, its coverage and the kept table's
 unfoldable pub splitsAt0 : Outcome → Bool
 splitsAt0 o =
@@ -324,6 +339,6 @@ splittings =
     ∷ same (planCall (store9 0 0 0) 0 enough (8 ∷ 9 ∷ []) .list) (0 ∷ 9 ∷ []) ∷ eqb (planCall (store9 22 3 1) 0 enough [] .answer) 8
     ∷ []
 
-pub pinned : every (readings ++ cuttings ++ refusals ++ orders ++ tables ++ splittings) ≡ true
-unfolding definitions.computes compared.computes packed sameℤs samePair storeOf roomy bare1 under1 tens slots1 store1 bare2 rows2 fifties heads2 store2 storeFields parts store9 fives enough reads found nothing readings cutRows sharing fiveSets twoSets threeRows cuttings refuses splits refusals short orders having keepsIn keeps splitsAt0 afresh tables splittings
+pub pinned : every (readings ++ cuttings ++ refusals ++ orders ++ tables ++ splittings ++ inOrder) ≡ true
+unfolding definitions.computes compared.computes packed sameℤs samePair storeOf roomy bare1 under1 tens slots1 store1 bare2 rows2 fifties heads2 store2 storeFields parts store9 fives enough reads found nothing readings cutRows sharing fiveSets twoSets threeRows cuttings refuses splits refusals short orders having keepsIn keeps splitsAt0 afresh tables splittings readAs inOrder
 pinned = refl

@@ -90,7 +90,12 @@ settlePair none p = reported 0 p
 unfoldable pub pairCall : Store → ℕ → ℕ → ℕ → PairOutcome
 pairCall s t a b = settlePair (firstCase (readCases s t)) (pairOf s t a b)
 
+-- pair readings of several tables, one after the other: the first with a pair decides
+unfoldable pub readInOrder : Store → List ℕ → ℕ → ℕ → PairOutcome
+readInOrder s [] a b = reported 0 noPair
+readInOrder s (u ∷ us) a b = cond (eqb (pairCall s u a b .found) 1) (pairCall s u a b) (readInOrder s us a b)
+
 -- all of this file's definitions, for checks that compute
 unfoldable pub computes : Unit {0}
-unfolding readCases scratchShort cutCases lastCases splitCases planCases splitCall planCall settlePair pairCall
+unfolding readCases scratchShort cutCases lastCases splitCases planCases splitCall planCall settlePair pairCall readInOrder
 computes = tt

@@ -36,12 +36,12 @@ module _ (read : List Case) (short slots loop : Bool) where
 
 -- ---- "no cut" and 8, behind these
 
-not-empty : (cs : List ℕ) → isEmpty cs ≡ false → 0 < length cs
+pub not-empty : (cs : List ℕ) → isEmpty cs ≡ false → 0 < length cs
 unfolding isEmpty
 not-empty [] h = true-false h
 not-empty (c ∷ cs) h = omega arith
 
-some-cut : (cs : List ℕ) → 0 < length cs → isEmpty cs ≡ false
+pub some-cut : (cs : List ℕ) → 0 < length cs → isEmpty cs ≡ false
 unfolding isEmpty
 some-cut [] h = absurd (omega arith)
 some-cut (c ∷ cs) h = refl
@@ -53,10 +53,7 @@ pub record RoomFor (s : Store) (list : List ℕ) (n : Needs) : Type 0 where
   pub bytes : s .byteCount + n .bytes ≤ byteRoom (length (s .bytes))
   pub entries : n .entries ≤ length list
 
-module _ (cut : List Case) (cs : List ℕ) (s : Store) (list : List ℕ) (n : Needs) where
-  abbrev last : List Case
-  last = case Done (isEmpty cs) ∷ case NoRoom (roomShort s list n) ∷ []
-
+module _ (s : Store) (list : List ℕ) (n : Needs) where
   -- what is lent of each
   abbrev objectsLent : ℕ
   objectsLent = objectRoom (length (s .objects))
@@ -67,34 +64,42 @@ module _ (cut : List Case) (cs : List ℕ) (s : Store) (list : List ℕ) (n : Ne
   abbrev bytesLent : ℕ
   bytesLent = byteRoom (length (s .bytes))
 
-  pub no-case-room : firstCase (cut ++ last) ≡ none → (firstCase cut ≡ none) × (0 < length cs) × RoomFor s list n
+  pub not-short : roomShort s list n ≡ false → RoomFor s list n
   unfolding shortBy
-  no-case-room h =
-      let (none-cut, rest) = first-append cut last h in
-      let (cuts, eight) = first-head _ _ rest in
-      let (three, entries) = or-none _ (ltb (length list) (n .entries)) (first-head _ _ eight .0) in
+  not-short h =
+      let (three, entries) = or-none _ (ltb (length list) (n .entries)) h in
       let (two, bytes) = or-none _ (ltb bytesLent (s .byteCount + n .bytes)) three in
       let (objects, links) = or-none _ (ltb linksLent (s .linkCount + n .links)) two in
-      let room : RoomFor s list n
-      = record {
+      record {
         objects = ltb-false objectsLent (s .objectCount + n .objects) objects;
         links = ltb-false linksLent (s .linkCount + n .links) links;
         bytes = ltb-false bytesLent (s .byteCount + n .bytes) bytes;
         entries = ltb-false (length list) (n .entries) entries;
-      } in
-      (none-cut, not-empty cs cuts, room)
+      }
 
-  pub room-no-case : firstCase cut ≡ none → 0 < length cs → RoomFor s list n → firstCase (cut ++ last) ≡ none
-  unfolding shortBy firstCase
-  room-no-case none-cut cuts r =
-      first-skip cut last none-cut
-      ∙ rw (
-        some-cut cs cuts,
+  pub room-enough : RoomFor s list n → roomShort s list n ≡ false
+  unfolding shortBy
+  room-enough r =
+      rw (
         le-ltb objectsLent (s .objectCount + n .objects) (r .objects),
         le-ltb linksLent (s .linkCount + n .links) (r .links),
         le-ltb bytesLent (s .byteCount + n .bytes) (r .bytes),
         le-ltb (length list) (n .entries) (r .entries),
       )
+
+module _ (cut : List Case) (cs : List ℕ) (s : Store) (list : List ℕ) (n : Needs) where
+  abbrev last : List Case
+  last = case Done (isEmpty cs) ∷ case NoRoom (roomShort s list n) ∷ []
+
+  pub no-case-room : firstCase (cut ++ last) ≡ none → (firstCase cut ≡ none) × (0 < length cs) × RoomFor s list n
+  no-case-room h =
+      let (none-cut, rest) = first-append cut last h in
+      let (cuts, eight) = first-head _ _ rest in
+      (none-cut, not-empty cs cuts, not-short s list n (first-head _ _ eight .0))
+
+  pub room-no-case : firstCase cut ≡ none → 0 < length cs → RoomFor s list n → firstCase (cut ++ last) ≡ none
+  unfolding firstCase
+  room-no-case none-cut cuts r = first-skip cut last none-cut ∙ rw (some-cut cs cuts, room-enough s list n r)
 
   -- with no cut there is nothing more to ask
   pub no-cut-case : firstCase cut ≡ none → cs ≡ [] → firstCase (cut ++ last) ≡ some 0

@@ -50,7 +50,7 @@ use Rattle.promise_pairs.proofs.WrittenAfresh.{kept-reads}
 use Rattle.promise_pairs.proofs.SameReach.{size-same, at-slots, still-acyclic}
 
 -- ---- a call that finds nothing to split
-nothing-to-split : (s : Store) (t : ℕ) (w : Scratch) (list : List ℕ) → Checked s t w → cutPlaces s t ≡ []
+pub nothing-to-split : (s : Store) (t : ℕ) (w : Scratch) (list : List ℕ) → Checked s t w → cutPlaces s t ≡ []
     → splitCall s t w list ≡ outcome 0 0 s list (cleared w)
 unfolding splitCall settle splitCases lastCases
 nothing-to-split s t w list checked none-cut =
@@ -170,7 +170,7 @@ module _ (s : Store) (t : ℕ) (cs : List ℕ) (g : Ready s t cs) where
         = ap₂ (λ (n : ℕ) (x : List Entry). besideRows n (estimate x)) (class2-size e) (ap (within 0 (i + 1)) es ∙ within-within (i + 1) p0 (entriesOf s t) (omega arith)) in omega arith)
         count-then
 
-    no-cut : cutPlaces s′ t ≡ []
+    pub no-cut : cutPlaces s′ t ≡ []
     unfolding cutPlaces
     no-cut = by-test (eqb (shape s t .format) 1) no-cut1 no-cut2
 

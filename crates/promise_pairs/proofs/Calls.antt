@@ -18,11 +18,11 @@ use Rattle.pair_rules.specs.Written.{newTables, perTable}
 use Rattle.pair_rules.specs.Pairs.{Pair, noPair, pairOf, pairAmong}
 use Rattle.call_rules.specs.Scratch.{Scratch}
 use Rattle.call_rules.specs.Outcomes.{Outcome, done}
-use Rattle.pair_rules.specs.Calls.{PairOutcome, settlePair, readCases, splitCases, planCases, splitCall, planCall, pairCall, reported}
+use Rattle.pair_rules.specs.Calls.{PairOutcome, settlePair, readCases, splitCases, planCases, splitCall, planCall, pairCall, reported, readInOrder}
 use Rattle.call_rules.specs.Answers.{firstCase}
 use Rattle.promise_calls.specs.Unchanged.{Octets}
 use Rattle.promise_pairs.specs.Demands.{Splits, resulting}
-use Rattle.promise_pairs.specs.Calls.{keptThenNew, readInOrder, SplitLeaves, SplitKeeps, PlanLeaves, PlanKeeps, PairKeeps}
+use Rattle.promise_pairs.specs.Calls.{keptThenNew, SplitLeaves, SplitKeeps, PlanLeaves, PlanKeeps, PairKeeps}
 use Rattle.promise_pairs.proofs.Refusals.{as-many-as-cuts}
 use Rattle.promise_calls.proofs.Keeps.{call-keeps}
 use Rattle.promise_pairs.specs.Exactly.{MaySplit, MayPlan}
@@ -43,7 +43,7 @@ use Rattle.promise_pairs.proofs.StaysOctets.{stays-octets}
 -- ---- readings in order
 
 -- where each table is read, the readings give what the tables have
-read-among : (s : Store) (a b : ℕ) (us : List ℕ) → ((i : ℕ) → i < length us → pairCall s (getD us i 0) a b ≡ reported 0 (pairOf s (getD us i 0) a b))
+pub read-among : (s : Store) (a b : ℕ) (us : List ℕ) → ((i : ℕ) → i < length us → pairCall s (getD us i 0) a b ≡ reported 0 (pairOf s (getD us i 0) a b))
     → readInOrder s us a b ≡ reported 0 (pairAmong s us a b)
 unfolding readInOrder pairAmong
 read-among s a b [] h = refl

@@ -20,7 +20,7 @@ use Rattle.promise_pairs.specs.Exactly.{Checked, MaySplit, MayPlan}
 module _ (s : Store) (t : ℕ) (w : Scratch) where
   -- ---- 1 to 7
 
-  no-case-checked : firstCase (cutCases s t w) ≡ none → Checked s t w
+  pub no-case-checked : firstCase (cutCases s t w) ≡ none → Checked s t w
   unfolding cutCases
   no-case-checked h =
       let (read, scratch, slots, loop) = no-case-checks (readCases s t) (scratchShort s t w) (allAtSlots s t) (onCycle s t) h in

@@ -10,11 +10,13 @@ pub mod KeptAndNew
 pub mod ViewPairs
 pub mod PairsKept
 pub mod LinksCounted
+pub mod Taken
 pub mod StaysSound
 pub mod WrittenAfresh
 pub mod ReadingsKept
 pub mod SameReach
 pub mod AgainNothing
+pub mod SplitLinks
 pub mod StaysOctets
 pub mod Calls
 pub mod Unique

@@ -60,13 +60,13 @@ module _ (s : Store) (t : ℕ) (cs : List ℕ) (g : Ready s t cs) where
   pub count-inside : headOf s t + sh .countAt + 2 ≤ tailOf s t
   count-inside = omega (arith, count-kept, kept-less)
 
-  row-inside : 2 * t + 1 < length (s .objects)
+  pub row-inside : 2 * t + 1 < length (s .objects)
   row-inside = omega (arith, g .reads .used, g .fit .objectsIn)
 
   tail-inside : tailOf s t ≤ length (s .bytes)
   tail-inside = omega (arith, g .fit .object t (g .reads .used) .inside, g .fit .bytesIn)
 
-  counted-length : length (counted .bytes) ≡ length (s .bytes)
+  pub counted-length : length (counted .bytes) ≡ length (s .bytes)
   unfolding be16
   counted-length = other-length s (g .fit) t (sh .countAt) (be16 (from cs 0)) (g .reads .used) count-inside
 

@@ -2,20 +2,19 @@
 -- Assumes nothing.
 use Prim.Native.Nat.{ℕ, _<_}
 use mathlib.Core.Path.{_≡_}
-use mathlib.Core.Bool.{true, false, cond}
-use mathlib.Core.List.{List, [], _∷_}
+use mathlib.Core.Bool.{true, false}
+use mathlib.Core.List.{List, _∷_}
 use lib.ListN.{length, replicate}
 use lib.IntN.{pos}
-use lib.Dec.{eqb}
 use Rattle.folds.specs.Lists.{put, part}
 use Rattle.store_rules.specs.Store.{Store, sound, bytesOf, childAt, headOf, tailOf}
 use Rattle.pair_rules.specs.Table.{cutPlaces}
 use Rattle.pair_rules.specs.Written.{newTables, splitStore}
 use Rattle.pair_rules.specs.Reads.{Reads}
-use Rattle.pair_rules.specs.Pairs.{noPair, pairOf}
+use Rattle.pair_rules.specs.Pairs.{pairOf}
 use Rattle.call_rules.specs.Scratch.{Scratch}
 use Rattle.call_rules.specs.Outcomes.{Outcome}
-use Rattle.pair_rules.specs.Calls.{PairOutcome, splitCall, pairCall, splitCases, planCases, readCases, reported, scratchShort}
+use Rattle.pair_rules.specs.Calls.{PairOutcome, splitCall, pairCall, splitCases, planCases, readCases, reported, readInOrder, scratchShort}
 use Rattle.promise_calls.specs.Unchanged.{Unchanged, Octets}
 use Rattle.promise_calls.specs.Given.{Gives}
 use Rattle.promise_calls.specs.Keeps.{CallKeeps}
@@ -25,11 +24,6 @@ use Rattle.promise_pairs.specs.Demands.{AllAfresh}
 -- the tables to read then: "the kept table and then the new ones in order", as the list has them
 abbrev pub keptThenNew : ℕ → Outcome → List ℕ
 keptThenNew t o = t ∷ part (o .list) 0 (o .count)
-
--- pair readings of several tables, one after the other: the first with a pair decides
-unfoldable pub readInOrder : Store → List ℕ → ℕ → ℕ → PairOutcome
-readInOrder s [] a b = reported 0 noPair
-readInOrder s (u ∷ us) a b = cond (eqb (pairCall s u a b .found) 1) (pairCall s u a b) (readInOrder s us a b)
 
 -- after a split
 pub record SplitLeaves (s : Store) (t : ℕ) (list : List ℕ) (o : Outcome) : Type 0 where

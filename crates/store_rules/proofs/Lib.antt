@@ -2,6 +2,7 @@ pub mod Sound
 pub mod Reached
 pub mod Reaching
 pub mod Lookups
+pub mod Ways
 pub mod LinkRows
 pub mod LinksAscend
 pub mod Header

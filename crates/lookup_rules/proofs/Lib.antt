@@ -1,0 +1,5 @@
+pub mod Pinned
+pub mod Slots
+pub mod Redirection
+pub mod NewLookup
+pub mod Counts

@@ -1,0 +1,5 @@
+pub mod Listed
+pub mod Written
+pub mod Applied
+pub mod Calls
+pub mod Computing

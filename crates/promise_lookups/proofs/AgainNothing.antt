@@ -1,0 +1,144 @@
+-- Splitting the kept table again, scratch being enough, adds and changes nothing, also where new tables were entered. Assumes nothing.
+use Prim.Native.Nat.{ℕ, _+_, _-_, _<_, _≤_}
+use mathlib.Core.Path.{_≡_, refl, sym, ap, subst, _∙_}
+use mathlib.Core.List.{List, _++_}
+use mathlib.Core.Logic.{_⊎_, inl, inr, ⊎-elim}
+use native.Mathlib.Omega.{arith}
+use lib.ListN.{length, getD, length-append, List·getD-append, List·getD-map}
+use lib.Seq.{getD-append-add}
+use borrow.Author.Tests.{eqb-true}
+use Rattle.folds.proofs.Each.{Each, each-flat, each-at}
+use Rattle.folds.proofs.Moved.{length-map}
+use Rattle.ot_layouts.specs.Lookup.{lookupHeader}
+use Rattle.store_rules.specs.Store.{Store, Link, linksOf, linkAt, parentOf, childOf}
+use Rattle.store_rules.specs.Reach.{Reach}
+use Rattle.store_rules.proofs.LinkRows.{noLink, row-is}
+use Rattle.store_rules.proofs.LinksFit.{rows-many}
+use Rattle.store_rules.proofs.SlotLinks.{slots-each}
+use Rattle.store_rules.proofs.Ways.{Way}
+use Rattle.pair_rules.specs.Table.{cutPlaces}
+use Rattle.pair_rules.specs.Written.{newTables, splitStore}
+use Rattle.pair_rules.specs.Reads.{Reads}
+use Rattle.pair_rules.proofs.Checks.{no-case-reads, reads-no-case}
+use Rattle.pair_rules.proofs.SameReading.{refusal-same}
+use Rattle.pair_rules.proofs.SameCuts.{Extends, acyclic-same, slots-same, cuts-same}
+use Rattle.lookup_rules.specs.Listed.{rewritten}
+use Rattle.lookup_rules.specs.Written.{newSlots, subtableLinks, newLookupLinks, redirected, lookupStore}
+use Rattle.lookup_rules.proofs.Redirection.{redirect-other}
+use Rattle.promise_calls.specs.Unchanged.{Octets}
+use Rattle.promise_pairs.specs.Exactly.{Checked}
+use Rattle.promise_pairs.proofs.WrittenAfresh.{kept-reads}
+use Rattle.promise_pairs.proofs.SameReach.{at-slots, still-acyclic}
+use Rattle.promise_pairs.proofs.SplitLinks.{NewOrOwn, row-leads}
+use Rattle.promise_pairs.proofs.AgainNothing.{nothing-to-split, no-cut}
+use Rattle.promise_lookups.specs.Demands.{AgainNoEntry}
+use Rattle.promise_lookups.proofs.Answered.{store-entered}
+use Rattle.promise_lookups.proofs.Entering.{Entering, entering}
+use Rattle.promise_lookups.proofs.NewLookups.{more, unled, links, links-are, fit′, used-then, split-head, split-tail, split-bytes}
+use Rattle.promise_lookups.proofs.StaysSound.{fits-entered}
+use Rattle.promise_lookups.proofs.Kept.{not-rewritten, table-child, around-table, kept-table}
+
+module _ (s : Store) (l t : ℕ) (cs : List ℕ) (e : Entering s l t cs) where
+  abbrev s′ : Store
+  s′ = splitStore s t cs
+
+  abbrev s″ : Store
+  s″ = lookupStore s l t cs
+
+  abbrev ps : List ℕ
+  ps = rewritten s l t
+
+  abbrev n : ℕ
+  n = splitStore s t cs .objectCount
+
+  -- a link, redirected
+  abbrev led : Link → Link
+  led k = redirected (splitStore s t cs .objectCount) (rewritten s l t) k
+
+  -- ---- the rows at exit: the split's at their places, then those of the new lookups
+
+  many-then : s″ .linkCount ≡ s′ .linkCount + length (more s l t cs e)
+  many-then =
+      sym (rows-many s″) ∙ ap length (links-are s l t cs e) ∙ length-map led (unled s l t cs e) ∙ length-append (linksOf s′) (more s l t cs e)
+      ∙ ap (λ (k : ℕ). k + length (more s l t cs e)) (rows-many s′)
+
+  row-then : (k : ℕ) → k < s″ .linkCount → linkAt s″ k ≡ led (getD (unled s l t cs e) k noLink)
+  row-then k h = row-is s″ (links s l t cs e) (links-are s l t cs e) k h (led noLink) ∙ List·getD-map led (unled s l t cs e) k noLink
+
+  old-row : (k : ℕ) → k < s′ .linkCount → linkAt s″ k ≡ led (linkAt s′ k)
+  old-row k h =
+      row-then k (omega (arith, many-then))
+      ∙ ap led (List·getD-append (linksOf s′) (more s l t cs e) noLink k (omega (arith, rows-many s′)) ∙ sym (row-is s′ (linksOf s′) refl k h noLink))
+
+  more-above : Each (λ k. n ≤ k .parent) (more s l t cs e)
+  unfolding newLookupLinks
+  more-above =
+      each-flat (λ k. n ≤ k .parent) (λ m. subtableLinks (n + m) (newSlots s t (newTables s t cs) (getD ps m 0))) (length ps)
+      (λ m h. slots-each (n + m) lookupHeader 2 _ (λ k. n ≤ k .parent) _ (λ i c a b. omega arith))
+
+  new-row : (k : ℕ) → s′ .linkCount ≤ k → k < s″ .linkCount → n ≤ parentOf s″ k
+  unfolding redirected
+  new-row k ge h =
+      let j = k - s′ .linkCount in
+      let z : k ≡ length (linksOf s′) + j = omega (arith, rows-many s′) in
+      let row : linkAt s″ k ≡ led (getD (more s l t cs e) j noLink)
+      = row-then k h ∙ ap led (ap (λ (m : ℕ). getD (unled s l t cs e) m noLink) z ∙ getD-append-add (linksOf s′) (more s l t cs e) j noLink) in
+      let p : parentOf s″ k ≡ getD (more s l t cs e) j noLink .parent = ap (λ (x : Link). x .parent) row in
+      omega (arith, p, each-at (λ k. n ≤ k .parent) (more s l t cs e) more-above j (omega (arith, many-then)) noLink)
+
+  -- ---- the store at exit extends the split's, from the kept table
+
+  -- what the kept table reaches is new, or the old one reached it
+  own-way : {i : ℕ} → Way s′ t i → NewOrOwn s t i
+  own-way (Reach.seed k h a f) = subst (NewOrOwn s t) f (row-leads s t cs (e .ready) k h (inl (eqb-true (parentOf s′ k) t a)))
+  own-way (Reach.step r k h p f) = subst (NewOrOwn s t) f (row-leads s t cs (e .ready) k h (inr (subst (NewOrOwn s t) (sym p) (own-way r))))
+
+  child-same : (k : ℕ) → k < s′ .linkCount → (parentOf s′ k ≡ t) ⊎ Way s′ t (parentOf s′ k) → childOf s″ k ≡ childOf s′ k
+  unfolding redirected
+  child-same k h d =
+      let own = row-leads s t cs (e .ready) k h (⊎-elim (λ z. inl z) (λ w. inr (own-way w)) d) in
+      ap (λ (x : Link). x .child) (old-row k h) ∙ redirect-other n ps (childOf s′ k) (not-rewritten s l t cs e (childOf s′ k) own)
+
+  extends : Extends s′ s″ t
+  unfolding redirected
+  extends =
+      let (used, own) = kept-table s l t cs e in
+      record {
+        fits = fit′ s l t cs e;
+        fitsThen = fits-entered s l t cs e;
+        used = used;
+        objects = omega (arith, used-then s l t cs e);
+        rows = omega (arith, many-then);
+        bytes = split-bytes s l t cs e;
+        sizes = λ i h. omega (arith, split-head s l t cs e i h, split-tail s l t cs e i h);
+        links = λ q. table-child s l t cs e t q used own;
+        parents = λ k h. ap (λ (x : Link). x .parent) (old-row k h);
+        positions = λ k h. ap (λ (x : Link). x .position) (old-row k h);
+        children = child-same;
+        behind = new-row;
+      }
+
+  -- the kept table can be read
+  reads-then : Octets s → Reads s″ t
+  reads-then octets =
+      let (used, own) = kept-table s l t cs e in
+      no-case-reads s″ t (refusal-same (around-table s l t cs e t used own) ∙ reads-no-case s′ t (kept-reads s t cs (e .ready) octets))
+
+-- "splitting the kept table again adds and changes nothing", "scratch being enough"
+pub again-no-entry : AgainNoEntry
+again-no-entry s l t w list octets p v list′ =
+    let cs = cutPlaces s t in
+    let e = entering s l t w list p in
+    let g = e .ready in
+    let x = extends s l t cs e in
+    rw (store-entered s l t w list p)
+    (λ h.
+    let checked : Checked (lookupStore s l t cs) t v
+    = record {
+      reads = reads-then s l t cs e octets;
+      scratch = h;
+      atSlots = slots-same x (at-slots s t cs g);
+      acyclic = acyclic-same x (still-acyclic s t cs g);
+    } in
+    let o = nothing-to-split (lookupStore s l t cs) t v list′ checked (cuts-same x ∙ no-cut s t cs g refl) in
+    rw o (refl, record { noneNew = refl; sameStore = refl; sameList = refl; zeroScratch = refl }))

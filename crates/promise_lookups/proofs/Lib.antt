@@ -1,0 +1,12 @@
+pub mod Exactly
+pub mod Answered
+pub mod Entering
+pub mod Apart
+pub mod NewLookups
+pub mod StaysSound
+pub mod Kept
+pub mod WrittenAfresh
+pub mod LookupsKept
+pub mod AgainNothing
+pub mod Calls
+pub mod Needed

@@ -1,0 +1,215 @@
+-- The store stays sound, and its data bytes, when new tables are entered; and it takes what its room was asked for. Assumes nothing.
+use Prim.Native.Nat.{ℕ, suc, _+_, _*_, _<_, _≤_}
+use mathlib.Core.Path.{_≡_, refl, sym, ap, subst, _∙_}
+use mathlib.Core.Bool.{true}
+use mathlib.Core.List.{List, [], _++_}
+use mathlib.Core.Option.{Option, some, none}
+use native.Mathlib.Omega.{arith}
+use lib.ListN.{length, getD}
+use Rattle.folds.specs.Lists.{join, Bytes}
+use Rattle.folds.proofs.FromTheFront.{upto-getD}
+use Rattle.folds.proofs.Each.{Each, each-upto, each-append, each-flat, each-map, each-then, each-among}
+use Rattle.ot_layouts.specs.Lookup.{subtableCount, lookupHeader}
+use Rattle.store_rules.specs.Store.{Store, Link, sound, sizeOf, bytesOf, childAt, linksOf, perLink}
+use Rattle.store_rules.specs.Appended.{newNumber}
+use Rattle.store_rules.proofs.Sound.{Fits, fits-sound}
+use Rattle.store_rules.proofs.Bytes.{object-bytes}
+use Rattle.store_rules.proofs.Lookups.{child-used}
+use Rattle.store_rules.proofs.LinksAscend.{Climb, climb-append, climb-flat}
+use Rattle.store_rules.proofs.LinksFit.{Fitting, links-fit, rows-climb}
+use Rattle.store_rules.proofs.SlotLinks.{slots-each, slots-climb}
+use Rattle.store_rules.proofs.Appended as behind
+use Rattle.store_rules.proofs.AppendedFits.{appended-fits, appended-bytes}
+use Rattle.pair_rules.specs.Table.{shape, cutPlaces}
+use Rattle.pair_rules.specs.Written.{newTables, splitStore, perTable, needed, needsOf, needObjects}
+use Rattle.pair_rules.proofs.NewCounts.{per-two}
+use Rattle.lookup_rules.specs.Listed.{slotsAt, linkedIn, subtableSlots, rewritten}
+use Rattle.lookup_rules.specs.Written.{newSlots, newLookup, subtableLinks, newLookupLinks, redirected, lookupStore, lookupsNeed, neededInAll}
+use Rattle.lookup_rules.proofs.Slots.{each-linked, among-linked, each-entered}
+use Rattle.lookup_rules.proofs.Redirection.{redirect-below, climb-redirected}
+use Rattle.lookup_rules.proofs.NewLookup.{new-long, new-octets}
+use Rattle.promise_calls.specs.Unchanged.{Octets}
+use Rattle.promise_pairs.proofs.Ready.{objects-then, many-new, new-used, store-written}
+use Rattle.promise_pairs.proofs.StaysOctets.{stays-octets}
+use Rattle.promise_pairs.proofs.Taken.{bytes-then, links-length}
+use Rattle.promise_lookups.specs.Demands.{StaysSoundEntered, StaysOctetsEntered, EntersAsNeeded}
+use Rattle.promise_lookups.proofs.Answered.{store-entered}
+use Rattle.promise_lookups.proofs.Entering.{Entering, entering, splits}
+use Rattle.promise_lookups.proofs.NewLookups.{
+  new,
+  more,
+  unled,
+  links,
+  s″-is,
+  fit′,
+  room,
+  many-lookups,
+  many-links,
+  used-then,
+  lookup-is,
+  lookup-long,
+  split-head,
+  split-tail,
+}
+
+module _ (s : Store) (l t : ℕ) (cs : List ℕ) (e : Entering s l t cs) where
+  abbrev s′ : Store
+  s′ = splitStore s t cs
+
+  abbrev us : List ℕ
+  us = newTables s t cs
+
+  abbrev ps : List ℕ
+  ps = rewritten s l t
+
+  abbrev n : ℕ
+  n = splitStore s t cs .objectCount
+
+  abbrev slots : ℕ → List (Option ℕ)
+  slots m = newSlots s t (newTables s t cs) (getD (rewritten s l t) m 0)
+
+  abbrev s″ : Store
+  s″ = lookupStore s l t cs
+
+  pub old-used : s .objectCount ≤ n
+  old-used = omega (arith, objects-then s t cs (e .ready))
+
+  -- what a slot of a new lookup leads to is in use after the split
+  pub tables-used : Each (λ c. c < n) us
+  unfolding newTables
+  tables-used =
+      each-upto (λ c. c < n) (newNumber s (perTable (shape s t))) (length cs)
+      (λ j k. omega (arith, new-used s t cs (e .ready) j 0 k (omega (arith, per-two (bytesOf s t)))))
+
+  slot-used : (m i c : ℕ) → i < length (slots m) → getD (slots m) i none ≡ some c → c < n
+  unfolding newSlots subtableSlots slotsAt
+  slot-used m i c h f =
+      let p = getD ps m 0 in
+      each-among (λ c. c < n) (linkedIn (slots m)) c
+      (each-entered (λ c. c < n) t us (subtableSlots s p) tables-used
+      (each-linked (λ c. c < n) (λ i. childAt s p (lookupHeader + 2 * i)) (subtableCount (bytesOf s p))
+      (λ i c k x. omega (arith, child-used s p (e .ready .fit) (lookupHeader + 2 * i) c x, old-used))))
+      (among-linked (slots m) i c h f)
+
+  -- ---- links
+
+  -- a link before redirection
+  record Before (k : Link) : Type 0 where
+    parentUsed : k .parent < s″ .objectCount
+    childUsed : k .child < n
+    wide : k .width ≡ 2
+    inside : k .position + 2 ≤ sizeOf s″ (k .parent)
+
+  old-before : Each Before (linksOf s′)
+  old-before =
+      each-then (Fitting s′) Before
+      (λ k f.
+      let a = f .parentUsed in
+      record {
+        parentUsed = omega (arith, used-then s l t cs e);
+        childUsed = f .childUsed;
+        wide = f .wide;
+        inside = omega (arith, f .inside, split-head s l t cs e (k .parent) a, split-tail s l t cs e (k .parent) a);
+      })
+      (linksOf s′) (links-fit s′ (fit′ s l t cs e))
+
+  lookup-size : (m : ℕ) → m < length ps → lookupHeader + 2 * length (slots m) ≤ sizeOf s″ (n + m)
+  lookup-size m h =
+      let z : sizeOf s″ (n + m) ≡ length (getD (new s l t cs e) m [])
+      = ap (λ (x : Store). sizeOf x (n + m)) (s″-is s l t cs e)
+      ∙ behind.new-size s′ (new s l t cs e) (links s l t cs e) (room s l t cs e) m (omega (arith, many-lookups s l t cs e)) in
+      omega (arith, z, ap length (lookup-is s l t cs e m h), new-long (bytesOf s (getD ps m 0)) (length (slots m)) (lookup-long s l t cs e m h))
+
+  new-before : Each Before (more s l t cs e)
+  unfolding newLookupLinks
+  new-before =
+      each-flat Before (λ m. subtableLinks (n + m) (slots m)) (length ps)
+      (λ m h. slots-each (n + m) lookupHeader 2 (λ i. getD (slots m) i none) Before (length (slots m))
+      (λ i c k x. record {
+        parentUsed = omega (arith, used-then s l t cs e);
+        childUsed = slot-used m i c k x;
+        wide = refl;
+        inside = omega (arith, lookup-size m h);
+      }))
+
+  all-fit : Each (Fitting s″) (links s l t cs e)
+  unfolding redirected
+  all-fit =
+      each-map Before (Fitting s″) (redirected n ps)
+      (λ k b. record {
+        parentUsed = b .parentUsed;
+        childUsed = omega (arith, redirect-below n ps (k .child) (b .childUsed), used-then s l t cs e);
+        wide = b .wide;
+        inside = b .inside;
+      })
+      (unled s l t cs e)
+      (each-append Before (linksOf s′) (more s l t cs e) old-before new-before)
+
+  all-climb : Climb 0 0 (n + length ps) (links s l t cs e)
+  unfolding newLookupLinks
+  all-climb =
+      let z : n ≡ n + 0 = omega arith in
+      climb-redirected n ps (unled s l t cs e) 0 0 (n + length ps)
+      (climb-append (linksOf s′) (more s l t cs e) 0 0 (n + 0) (n + length ps)
+      (subst (λ (k : ℕ). Climb 0 0 k (linksOf s′)) z (rows-climb s′ (fit′ s l t cs e)))
+      (climb-flat (λ m. subtableLinks (n + m) (slots m)) (λ m. n + m) (length ps)
+      (λ m h.
+      let next : suc (n + m) ≡ n + suc m = omega arith in
+      subst (λ (k : ℕ). Climb (n + m) 0 k (subtableLinks (n + m) (slots m))) next
+      (slots-climb (n + m) lookupHeader 2 (λ i. getD (slots m) i none) (length (slots m)) (omega arith)))))
+
+  -- ---- the store
+
+  pub fits-entered : Fits s″
+  fits-entered =
+      let many = many-links s l t cs e in
+      subst Fits (sym (s″-is s l t cs e))
+      (appended-fits s′ (new s l t cs e) (links s l t cs e) (room s l t cs e)
+      (subst (λ (x : Store). Each (Fitting x) (links s l t cs e)) (s″-is s l t cs e) all-fit) (n + length ps) all-climb
+      (omega (arith, e .linksRoom, links-length s t cs (e .ready))) (omega (arith, e .linksMost)))
+
+  pub sound-entered : sound s″ ≡ true
+  sound-entered = fits-sound s″ fits-entered
+
+  -- ---- bytes
+
+  octets-entered : Octets s → Octets s′ → Octets s″
+  octets-entered h h′ =
+      let xs = new s l t cs e in
+      subst Octets (sym (s″-is s l t cs e))
+      (appended-bytes s′ xs (links s l t cs e) (room s l t cs e) h′
+      (subst (Each Bytes) (upto-getD xs [])
+      (each-upto Bytes (λ m. getD xs m []) (length xs)
+      (λ m k. let f : m < length ps = omega (arith, many-lookups s l t cs e) in subst Bytes (sym (lookup-is s l t cs e m f)) (one m f)))))
+    where
+      one : (m : ℕ) → m < length ps → Bytes (newLookup (bytesOf s (getD ps m 0)) (length (slots m)))
+      one m f =
+          new-octets (bytesOf s (getD ps m 0)) (length (slots m)) (lookup-long s l t cs e m f) (object-bytes s h (getD ps m 0)) (omega (arith, e .counts m f))
+
+-- the store at exit is one that may be lent again
+pub stays-sound-entered : StaysSoundEntered
+stays-sound-entered s l t w list p = rw (store-entered s l t w list p) (sound-entered s l t (cutPlaces s t) (entering s l t w list p))
+
+-- and its data stay bytes
+pub stays-octets-entered : StaysOctetsEntered
+stays-octets-entered s l t w list h p =
+    let split = splits s l t w list p in
+    rw (store-entered s l t w list p)
+    (octets-entered s l t (cutPlaces s t) (entering s l t w list p) h (rw (store-written s t w list split) at (stays-octets s t w list h split)))
+
+-- what it takes is what 8 asked for
+pub enters-as-needed : EntersAsNeeded
+unfolding neededInAll needed needsOf needObjects lookupsNeed
+enters-as-needed s l t w list p =
+    let cs = cutPlaces s t in
+    let e = entering s l t w list p in
+    let objects = used-then s l t cs e in
+    let rows : lookupStore s l t cs .linkCount ≡ length (links s l t cs e)
+    = ap (λ (x : Store). x .linkCount) (s″-is s l t cs e) ∙ behind.links-count (splitStore s t cs) (new s l t cs e) (links s l t cs e) in
+    let bytes : lookupStore s l t cs .byteCount ≡ splitStore s t cs .byteCount + length (join (new s l t cs e))
+    = ap (λ (x : Store). x .byteCount) (s″-is s l t cs e) ∙ behind.bytes-then (splitStore s t cs) (new s l t cs e) (links s l t cs e) in
+    rw (store-entered s l t w list p) (
+      omega (arith, objects, objects-then s t cs (e .ready), many-new s t cs (e .ready)),
+      omega (arith, rows, many-links s l t cs e),
+      omega (arith, bytes, bytes-then s t cs (e .ready)),
+    )
