@@ -2,7 +2,7 @@
 use Prim.Native.Nat.{ℕ, suc, _+_, _*_, _<_, _≤_}
 use mathlib.Core.Path.{_≡_, refl, sym, ap, subst, _∙_}
 use mathlib.Core.Bool.{true}
-use mathlib.Core.List.{List, [], _++_}
+use mathlib.Core.List.{List, []}
 use mathlib.Core.Option.{Option, some, none}
 use native.Mathlib.Omega.{arith}
 use lib.ListN.{length, getD}
@@ -10,7 +10,7 @@ use Rattle.folds.specs.Lists.{join, Bytes}
 use Rattle.folds.proofs.FromTheFront.{upto-getD}
 use Rattle.folds.proofs.Each.{Each, each-upto, each-append, each-flat, each-map, each-then, each-among}
 use Rattle.ot_layouts.specs.Lookup.{subtableCount, lookupHeader}
-use Rattle.store_rules.specs.Store.{Store, Link, sound, sizeOf, bytesOf, childAt, linksOf, perLink}
+use Rattle.store_rules.specs.Store.{Store, Link, sound, sizeOf, bytesOf, childAt, linksOf}
 use Rattle.store_rules.specs.Appended.{newNumber}
 use Rattle.store_rules.proofs.Sound.{Fits, fits-sound}
 use Rattle.store_rules.proofs.Bytes.{object-bytes}
