@@ -34,7 +34,7 @@ many-behind : (us : List ℕ) (os : List (Option ℕ)) → linkedMany (map some 
 many-behind [] os = omega arith
 many-behind (u ∷ us) os = omega (arith, many-cons (some u) (map some us ++ os), many-behind us os)
 
--- "a rewritten lookup's new count, empty slots counted"
+-- a new lookup has as many slots as the old one, and at each listing one for each new table
 pub entered-count : (t : ℕ) (us : List ℕ) (os : List (Option ℕ)) → length (entered t us os) ≡ length os + length us * listings t os
 unfolding entered sift listings
 entered-count t us [] = omega arith
@@ -74,8 +74,8 @@ module _ (s : Store) (f : Fits s) where
       ∙ sum-same (λ i. there (getD (subtableSlots s p) i none)) (λ i. there (child i)) n (λ i l. ap there (upto-at child n i none l))
       ∙ slots-all s f p lookupHeader 2 n (omega arith) (λ k l e. which-slot lookupHeader n (positionOf s k) (one-stands s p (isSubtableSlot b) stand k l e))
 
-  -- "each lookup needs its old links plus K for each listing"
-  pub links-needed : (t : ℕ) (us : List ℕ) (u p : ℕ) → goodLookup s p ≡ true → length (subtableLinks u (newSlots s t us p)) ≡ linksNeeded s t us p
+  -- what it needs is what is written
+  links-needed : (t : ℕ) (us : List ℕ) (u p : ℕ) → goodLookup s p ≡ true → length (subtableLinks u (newSlots s t us p)) ≡ linksNeeded s t us p
   unfolding linksNeeded newSlots
   links-needed t us u p good =
       let os = entered t us (subtableSlots s p) in

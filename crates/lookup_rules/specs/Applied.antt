@@ -7,7 +7,7 @@ use Rattle.store_rules.specs.Reach.{marked, reached}
 use Rattle.pair_rules.specs.Calls.{PairOutcome, readInOrder}
 use Rattle.lookup_rules.specs.Listed.{linkedIn, subtableSlots}
 
--- the subtables of lookup p: "its subtables in order, those with a link"
+-- the subtables of lookup p, in order: those with a link
 abbrev pub subtables : Store → ℕ → List ℕ
 subtables s p = linkedIn (subtableSlots s p)
 

@@ -23,7 +23,7 @@ use Rattle.store_rules.specs.Store.{Store, bytesOf, childAt, allAt}
 
 -- ---- slots
 
--- what n slots of object p lead to, the first at a: "A slot without a link is no fault."
+-- what n slots of object p lead to, the first at a; one without a link leads nowhere, and is no fault
 unfoldable pub slotsAt : Store → ℕ → ℕ → ℕ → List (Option ℕ)
 slotsAt s p a n = upto (λ i. childAt s p (a + 2 * i)) n
 
@@ -66,7 +66,7 @@ lookupsOf s l = eachOnce (linkedIn (listSlots s l))
 abbrev pub ofPairs : Store → ℕ → Bool
 ofPairs s p = eqb (lookupType (bytesOf s p)) pairType
 
--- "'Names' is a link at a slot"
+-- lookup p "names" subtable t: a link at one of its slots leads there
 abbrev pub names : Store → ℕ → ℕ → Bool
 names s t p = anyLeads t (subtableSlots s p)
 
@@ -84,7 +84,7 @@ goodList s l = listExact (bytesOf s l) && allAt s l (isListSlot (bytesOf s l))
 unfoldable pub goodLookup : Store → ℕ → Bool
 goodLookup s p = lookupExact (bytesOf s p) && allAt s p (isSubtableSlot (bytesOf s p))
 
--- "Every lookup that the list leads to is looked at, whatever its type."
+-- of each that the list leads to, whatever its type
 unfoldable pub goodLookups : Store → List ℕ → Bool
 goodLookups s ps = all (λ m. goodLookup s (getD ps m 0)) (length ps)
 

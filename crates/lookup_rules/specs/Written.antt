@@ -59,7 +59,7 @@ redirected n ps l = record { parent = l .parent; position = l .position; width =
 
 -- ---- the store after it
 
--- "all of the split's, then the new lookups": s′ is the store s after the split of t into itself and us
+-- the new lookups stand behind all objects of the split: s′ is the store s after the split of t into itself and us
 unfoldable pub enteredStore : Store → ℕ → List ℕ → List ℕ → Store → Store
 enteredStore s t us ps s′ =
     appended s′ (newLookups s t us ps) (map (redirected (s′ .objectCount) ps) (linksOf s′ ++ newLookupLinks s t us ps (s′ .objectCount)))
@@ -70,7 +70,7 @@ lookupStore s l t cs = enteredStore s t (newTables s t cs) (rewritten s l t) (sp
 
 -- ---- 10, and what 8 counts
 
--- not "more than 65,535 subtables in one", "empty slots counted"
+-- not "more than 65,535 subtables in one", empty slots counted too
 abbrev pub countFits : List (Option ℕ) → Bool
 countFits os = leb (length os) 65535
 
@@ -82,7 +82,7 @@ countsFit s t us ps = all (λ m. countFits (newSlots s t us (getD ps m 0))) (len
 unfoldable pub listings : ℕ → List (Option ℕ) → ℕ
 listings t os = length (sift (leadsTo t) os)
 
--- "each lookup needs its old links plus K for each listing"
+-- the links of the new lookup for p: as many as p has, and at each listing one for each new table
 unfoldable pub linksNeeded : Store → ℕ → List ℕ → ℕ → ℕ
 linksNeeded s t us p = linksFrom s p + length us * listings t (subtableSlots s p)
 

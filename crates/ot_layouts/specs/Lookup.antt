@@ -10,7 +10,7 @@ use Rattle.ot_layouts.specs.Numbers.{u16At}
 unfoldable pub isOneOf : ℕ → ℕ → ℕ → Bool
 isOneOf a n q = leb a q && ltb q (a + 2 * n) && eqb ((q - a) % 2) 0
 
--- ---- "Lookup list: count, then offsets (links at 2 + 2i)"
+-- ---- a lookup list: a count, then the offset of each lookup, linked at 2 + 2i
 
 -- how many lookups it lists
 abbrev pub lookupCount : List ℕ → ℕ
@@ -20,7 +20,7 @@ lookupCount b = u16At b 0
 abbrev pub listHeader : ℕ
 listHeader = 2
 
--- "exact length 2 + 2·count"
+-- "OT's exact length"
 unfoldable pub listExact : List ℕ → Bool
 listExact b = eqb (length b) (listHeader + 2 * lookupCount b)
 
@@ -28,7 +28,7 @@ listExact b = eqb (length b) (listHeader + 2 * lookupCount b)
 unfoldable pub isListSlot : List ℕ → ℕ → Bool
 isListSlot b q = isOneOf listHeader (lookupCount b) q
 
--- ---- "Lookup: type, flag, count, offsets (links at 6 + 2i), and 2 bytes more where the flag has bit 0010 hex"
+-- ---- a lookup: type, flag, count, then the offset of each subtable, linked at 6 + 2i; and two bytes more where the flag has bit 0010 hex
 
 -- its type
 abbrev pub lookupType : List ℕ → ℕ
@@ -46,15 +46,15 @@ subtableCount b = u16At b 4
 abbrev pub lookupHeader : ℕ
 lookupHeader = 6
 
--- 1 where "the flag has bit 0010 hex", else 0: a mark filtering set stands behind the offsets
+-- 1 where the flag has bit 0010 hex, else 0: a mark filtering set stands behind the offsets
 unfoldable pub filters : List ℕ → ℕ
 filters b = u16At b 2 / 0x10 % 2
 
--- "exact length 6 + 2·count, or 8 + 2·count"
+-- "OT's exact length"
 unfoldable pub lookupExact : List ℕ → Bool
 lookupExact b = eqb (length b) (lookupHeader + 2 * subtableCount b + 2 * filters b)
 
--- a link of the lookup may stand at q: "the mark filtering set's place is no slot"
+-- a link of the lookup may stand at q; where a mark filtering set stands is no slot
 unfoldable pub isSubtableSlot : List ℕ → ℕ → Bool
 isSubtableSlot b q = isOneOf lookupHeader (subtableCount b) q
 

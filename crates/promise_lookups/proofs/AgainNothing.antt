@@ -1,7 +1,7 @@
 -- Splitting the kept table again, scratch being enough, adds and changes nothing, also where new tables were entered. Assumes nothing.
 use Prim.Native.Nat.{ℕ, _+_, _-_, _<_, _≤_}
 use mathlib.Core.Path.{_≡_, refl, sym, ap, subst, _∙_}
-use mathlib.Core.List.{List, _++_}
+use mathlib.Core.List.{List}
 use mathlib.Core.Logic.{_⊎_, inl, inr, ⊎-elim}
 use native.Mathlib.Omega.{arith}
 use lib.ListN.{length, getD, length-append, List·getD-append, List·getD-map}
@@ -124,7 +124,7 @@ module _ (s : Store) (l t : ℕ) (cs : List ℕ) (e : Entering s l t cs) where
       let (used, own) = kept-table s l t cs e in
       no-case-reads s″ t (refusal-same (around-table s l t cs e t used own) ∙ reads-no-case s′ t (kept-reads s t cs (e .ready) octets))
 
--- "splitting the kept table again adds and changes nothing", "scratch being enough"
+-- "Splitting the kept table again adds and changes nothing", scratch being enough
 pub again-no-entry : AgainNoEntry
 again-no-entry s l t w list octets p v list′ =
     let cs = cutPlaces s t in

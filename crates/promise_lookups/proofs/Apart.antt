@@ -2,14 +2,12 @@
 use Prim.Native.Nat.{ℕ, _+_, _*_, _<_, _≤_}
 use mathlib.Core.Path.{_≡_, sym, ap, subst, _∙_}
 use mathlib.Core.Bool.{Bool, true, false, not, _&&_}
-use mathlib.Core.List.{List}
 use mathlib.Core.Logic.{⊎-elim}
 use mathlib.Core.Option.{Option, some, none}
 use native.Mathlib.Omega.{arith}
 use lib.ListN.{length, getD}
 use lib.Dec.{eqb}
 use borrow.Author.Tests.{eqb-true, eq-eqb, not-false}
-use Rattle.folds.specs.Folds.{upto}
 use Rattle.folds.specs.Lists.{among, isEmpty}
 use Rattle.folds.proofs.Tests.{true-false, and-both, and-intro, or-none}
 use Rattle.folds.proofs.Folds.{all-at, length-upto}

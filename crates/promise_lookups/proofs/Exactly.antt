@@ -1,9 +1,9 @@
 -- When a call enters new tables: exactly if what documents 01 and 02 ask for holds. Assumes nothing.
 use Prim.Native.Nat.{ℕ, _<_, _≤_}
-use mathlib.Core.Path.{_≡_, ap, _∙_}
+use mathlib.Core.Path.{_≡_, _∙_}
 use mathlib.Core.Bool.{true}
 use mathlib.Core.List.{List, _++_}
-use mathlib.Core.Option.{Option, none}
+use mathlib.Core.Option.{none}
 use native.Mathlib.Omega.{arith}
 use lib.ListN.{length, getD}
 use lib.Dec.{leb}
@@ -85,5 +85,6 @@ module _ (s : Store) (l t : ℕ) (w : Scratch) (list : List ℕ) where
   pub enters-no-case : MayEnter s l t w list → firstCase (lookupCases s l t w list) ≡ none
   unfolding lookupCases
   enters-no-case m =
-      let cut : firstCase (listCases s l t ++ cutCases s t w) ≡ none = first-skip (listCases s l t) (cutCases s t w) (asked m) ∙ checked-no-case s t w (m .checked) in
+      let cut : firstCase (listCases s l t ++ cutCases s t w) ≡ none
+      = first-skip (listCases s l t) (cutCases s t w) (asked m) ∙ checked-no-case s t w (m .checked) in
       first-skip (listCases s l t ++ cutCases s t w) (enterCases s l t list) cut ∙ last m

@@ -19,7 +19,7 @@ use Rattle.pair_rules.specs.Table.{shape, cutPlaces}
 use Rattle.pair_rules.specs.Written.{newTables, perTable, splitStore}
 use Rattle.pair_rules.proofs.NewCounts.{per-two}
 use Rattle.pair_rules.proofs.SameReading.{SameAround}
-use Rattle.lookup_rules.specs.Listed.{subtableSlots, rewritten}
+use Rattle.lookup_rules.specs.Listed.{rewritten}
 use Rattle.lookup_rules.specs.Written.{newSlots, redirect, lookupStore}
 use Rattle.lookup_rules.specs.Applied.{reaches}
 use Rattle.lookup_rules.proofs.Redirection.{child-stays}

@@ -1,12 +1,11 @@
 -- The store after new tables are entered: the split's objects, where links lead, and the new lookups. Assumes nothing.
 use Prim.Native.Nat.{ℕ, _+_, _*_, _<_, _≤_}
 use mathlib.Core.Path.{_≡_, refl, sym, ap, _∙_}
-use mathlib.Core.Bool.{true}
 use mathlib.Core.List.{List, [], _++_, map}
 use mathlib.Core.Option.{Option, some, none}
 use native.Mathlib.Omega.{arith}
 use lib.ListN.{length, getD, length-append}
-use Rattle.folds.specs.Folds.{sum, flat, orElse}
+use Rattle.folds.specs.Folds.{sum, orElse}
 use Rattle.folds.proofs.Folds.{length-upto, upto-same}
 use Rattle.folds.proofs.FromTheFront.{upto-getD, upto-at}
 use Rattle.folds.proofs.Moved.{length-map, map-upto}
@@ -20,7 +19,7 @@ use Rattle.store_rules.proofs.SlotLinks.{slot-at, slot-none}
 use Rattle.store_rules.proofs.Appended as behind
 use Rattle.pair_rules.specs.Table.{shape}
 use Rattle.pair_rules.specs.Written.{newTables, splitStore, needLinks}
-use Rattle.lookup_rules.specs.Listed.{slotsAt, subtableSlots, rewritten, goodLookup}
+use Rattle.lookup_rules.specs.Listed.{slotsAt, subtableSlots, rewritten}
 use Rattle.lookup_rules.specs.Written.{
   newSlots,
   newLookup,

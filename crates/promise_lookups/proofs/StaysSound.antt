@@ -2,7 +2,7 @@
 use Prim.Native.Nat.{ℕ, suc, _+_, _*_, _<_, _≤_}
 use mathlib.Core.Path.{_≡_, refl, sym, ap, subst, _∙_}
 use mathlib.Core.Bool.{true}
-use mathlib.Core.List.{List, [], _++_}
+use mathlib.Core.List.{List, []}
 use mathlib.Core.Option.{Option, some, none}
 use native.Mathlib.Omega.{arith}
 use lib.ListN.{length, getD}
@@ -10,7 +10,7 @@ use Rattle.folds.specs.Lists.{join, Bytes}
 use Rattle.folds.proofs.FromTheFront.{upto-getD}
 use Rattle.folds.proofs.Each.{Each, each-upto, each-append, each-flat, each-map, each-then, each-among}
 use Rattle.ot_layouts.specs.Lookup.{subtableCount, lookupHeader}
-use Rattle.store_rules.specs.Store.{Store, Link, sound, sizeOf, bytesOf, childAt, linksOf, perLink}
+use Rattle.store_rules.specs.Store.{Store, Link, sound, sizeOf, bytesOf, childAt, linksOf}
 use Rattle.store_rules.specs.Appended.{newNumber}
 use Rattle.store_rules.proofs.Sound.{Fits, fits-sound}
 use Rattle.store_rules.proofs.Bytes.{object-bytes}
@@ -75,7 +75,7 @@ module _ (s : Store) (l t : ℕ) (cs : List ℕ) (e : Entering s l t cs) where
   old-used = omega (arith, objects-then s t cs (e .ready))
 
   -- what a slot of a new lookup leads to is in use after the split
-  pub tables-used : Each (λ c. c < n) us
+  tables-used : Each (λ c. c < n) us
   unfolding newTables
   tables-used =
       each-upto (λ c. c < n) (newNumber s (perTable (shape s t))) (length cs)

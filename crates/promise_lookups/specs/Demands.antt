@@ -55,7 +55,7 @@ storeSplit s t = splitStore s t (cutPlaces s t)
 abbrev pub tablesNew : Store → ℕ → List ℕ
 tablesNew s t = newTables s t (cutPlaces s t)
 
--- the number of the first new lookup: "all of the split's, then the new lookups"
+-- the number of the first new lookup: they stand behind all objects of the split
 abbrev pub firstLookup : Store → ℕ → ℕ
 firstLookup s t = storeSplit s t .objectCount
 

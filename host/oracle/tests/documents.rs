@@ -10,7 +10,7 @@ use std::{
 };
 
 /// The crates whose every definition has to be believed.
-const BELIEVED: [&str; 10] = [
+const BELIEVED: [&str; 12] = [
     "folds",
     "ot_layouts",
     "store_rules",
@@ -19,8 +19,10 @@ const BELIEVED: [&str; 10] = [
     "call_rules",
     "pair_rules",
     "mark_rules",
+    "lookup_rules",
     "promise_pairs",
     "promise_marks",
+    "promise_lookups",
 ];
 
 fn root() -> PathBuf {
