@@ -75,7 +75,7 @@ module _ (s : Store) (f : Fits s) where
       ∙ slots-all s f p lookupHeader 2 n (omega arith) (λ k l e. which-slot lookupHeader n (positionOf s k) (one-stands s p (isSubtableSlot b) stand k l e))
 
   -- what it needs is what is written
-  pub links-needed : (t : ℕ) (us : List ℕ) (u p : ℕ) → goodLookup s p ≡ true → length (subtableLinks u (newSlots s t us p)) ≡ linksNeeded s t us p
+  links-needed : (t : ℕ) (us : List ℕ) (u p : ℕ) → goodLookup s p ≡ true → length (subtableLinks u (newSlots s t us p)) ≡ linksNeeded s t us p
   unfolding linksNeeded newSlots
   links-needed t us u p good =
       let os = entered t us (subtableSlots s p) in

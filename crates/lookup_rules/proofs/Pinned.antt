@@ -21,7 +21,7 @@ use Rattle.pair_rules.specs.Pairs.{pairOf}
 use Rattle.pair_rules.specs.Calls.{PairOutcome}
 use Rattle.pair_rules.proofs.Pinned.{sameℤs}
 use Rattle.lookup_rules.specs.Listed.{listSlots, subtableSlots, lookupsOf, rewritten}
-use Rattle.lookup_rules.specs.Written.{entered, lookupStore, countFits, lookupsNeed, neededInAll}
+use Rattle.lookup_rules.specs.Written.{lookupStore, countsFit, lookupsNeed, neededInAll}
 use Rattle.lookup_rules.specs.Applied.{applied, reaches}
 use Rattle.lookup_rules.specs.Calls.{lookupCases, lookupCall}
 use Rattle.lookup_rules.specs.Computing as definitions
@@ -201,12 +201,16 @@ answering =
 
 -- ---- 10
 
-unfoldable pub slotsFor : ℕ → List (Option ℕ)
-slotsFor n = some 0 ∷ replicate n none
+-- so many new tables
+unfoldable pub fits : ℕ → List ℕ → Bool
+fits k ps = countsFit many 0 (replicate k 1) ps
 
--- `countFits`: a lookup of 65,534 slots that lists the table once has 65,535 with one new table, and one of 65,535 too many
+-- `countFits`, `countsFit`: lookup 6 has three slots and lists the table twice, so 65,535 with 32,766 new tables and too many with one more; lookup 8 has two, and
+-- lists it once
 unfoldable pub counting : List Bool
-counting = countFits (entered 0 (1 ∷ []) (slotsFor 65533)) ∷ not (countFits (entered 0 (1 ∷ []) (slotsFor 65534))) ∷ []
+counting =
+    fits 32766 (6 ∷ []) ∷ not (fits 32767 (6 ∷ [])) ∷ not (fits 32767 (6 ∷ 8 ∷ [])) ∷ not (fits 32767 (8 ∷ 6 ∷ [])) ∷ fits 65533 (8 ∷ []) ∷ not (fits 65534 (8 ∷ []))
+    ∷ []
 
 -- ---- a call that goes ahead, with room for it and nothing more: W9's table and set, a list and a lookup
 
@@ -236,5 +240,5 @@ calling =
     ∷ []
 
 pub pinned : every (writing ++ giving ++ answering ++ counting ++ calling) ≡ true
-unfolding definitions.computes compared.computes packed storeOf roomy fives sameℤs bareLookups lookupsIn many manyThen knot knotThen oneIn plain shown rowsIn needs writing sameReading gives others othersThen giving scratch answers looked numbers answering slotsFor counting tight ends called calling
+unfolding definitions.computes compared.computes packed storeOf roomy fives sameℤs bareLookups lookupsIn many manyThen knot knotThen oneIn plain shown rowsIn needs writing sameReading gives others othersThen giving scratch answers looked numbers answering fits counting tight ends called calling
 pinned = refl

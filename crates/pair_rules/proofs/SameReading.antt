@@ -56,12 +56,14 @@ partsBy one o2 o8 o10 b =
     && cond one true (isSome o8 && classReadable (b (Option·getD o8 0)) && isSome o10 && classReadable (b (Option·getD o10 0)))
 
 -- where bytes are the same of what is linked, 4 is
-parts-by : (one : Bool) (o2 o8 o10 : Option ℕ) (b b′ : ℕ → List ℕ) → ((c : ℕ) → o2 ≡ some c → b′ c ≡ b c) → ((c : ℕ) → o8 ≡ some c → b′ c ≡ b c) → ((c : ℕ) → o10 ≡ some c → b′ c ≡ b c)
+parts-by : (one : Bool) (o2 o8 o10 : Option ℕ) (b b′ : ℕ → List ℕ)
+    → ((c : ℕ) → o2 ≡ some c → b′ c ≡ b c) → ((c : ℕ) → o8 ≡ some c → b′ c ≡ b c) → ((c : ℕ) → o10 ≡ some c → b′ c ≡ b c)
     → partsBy one o2 o8 o10 b′ ≡ partsBy one o2 o8 o10 b
 parts-by one none o8 o10 b b′ e2 e8 e10 = refl
 parts-by true (some c) o8 o10 b b′ e2 e8 e10 = rw (e2 c refl)
 parts-by false (some c) none o10 b b′ e2 e8 e10 = rw (e2 c refl)
-parts-by false (some c) (some d) none b b′ e2 e8 e10 = rw (e2 c refl, e8 d refl) (ap (λ (x : Bool). coverReadable (b c) && x) (shut (classReadable (b d)) (classReadable (b′ 0)) (classReadable (b 0))))
+parts-by false (some c) (some d) none b b′ e2 e8 e10 =
+    rw (e2 c refl, e8 d refl) (ap (λ (x : Bool). coverReadable (b c) && x) (shut (classReadable (b d)) (classReadable (b′ 0)) (classReadable (b 0))))
   where
     shut : (x y z : Bool) → (x && false && y) ≡ (x && false && z)
     shut true y z = refl
@@ -77,7 +79,8 @@ module _ {s s′ : Store} {u : ℕ} (same : SameAround s s′ u) where
   parts-same =
       ap (λ (b : List ℕ). partsBy (eqb (shapeOf b .format) 1) (childAt s′ u 2) (childAt s′ u 8) (childAt s′ u 10) (bytesOf s′)) (same .bytes)
       ∙ (λ d. partsBy (eqb (shape s u .format) 1) (same .links 2 d) (same .links 8 d) (same .links 10 d) (bytesOf s′))
-      ∙ parts-by (eqb (shape s u .format) 1) (childAt s u 2) (childAt s u 8) (childAt s u 10) (bytesOf s) (bytesOf s′) (same .childBytes 2) (same .childBytes 8) (same .childBytes 10)
+      ∙ parts-by (eqb (shape s u .format) 1) (childAt s u 2) (childAt s u 8) (childAt s u 10) (bytesOf s) (bytesOf s′)
+      (same .childBytes 2) (same .childBytes 8) (same .childBytes 10)
 
   missing : childAt s u 2 ≡ none → partsReadable s u ≡ false
   unfolding partsReadable
@@ -93,7 +96,9 @@ module _ {s s′ : Store} {u : ℕ} (same : SameAround s s′ u) where
       go : (o : Option ℕ) → childAt s u 2 ≡ o
           → firstCase (casesBy (sound s) (leb (s .objectCount) u) (bytesOf s u) (partsReadable s u) (length (glyphsOf s′ u)))
           ≡ firstCase (casesBy (sound s) (leb (s .objectCount) u) (bytesOf s u) (partsReadable s u) (length (glyphsOf s u)))
-      go (some c) e = ap (λ (b : List ℕ). firstCase (casesBy (sound s) (leb (s .objectCount) u) (bytesOf s u) (partsReadable s u) (length (coverGlyphs b)))) (linked-same 2 c e)
+      go (some c) e =
+          ap (λ (b : List ℕ). firstCase (casesBy (sound s) (leb (s .objectCount) u) (bytesOf s u) (partsReadable s u) (length (coverGlyphs b))))
+          (linked-same 2 c e)
       go none e = rw (missing e)
 
   -- ---- the sixteen numbers
@@ -101,15 +106,18 @@ module _ {s s′ : Store} {u : ℕ} (same : SameAround s s′ u) where
   number-same : (o q vf j : ℕ) → bytesOf s′ o ≡ bytesOf s o → ((r : ℕ) → childAt s′ o r ≡ childAt s o r) → numberOf s′ o q vf j ≡ numberOf s o q vf j
   unfolding numberOf
   number-same o q vf j b l =
-      ap₂ (λ (x : Option ℕ) (y : List ℕ). cond (eqb (bit vf j) 0) (pos 0) (cond (fieldAt j .device) (deviceNumber x) (signed16 (u16At y (q + 2 * position vf j))))) (l (q + 2 * position vf j)) b
+      let at = q + 2 * position vf j in
+      ap₂ (λ (x : Option ℕ) (y : List ℕ). cond (eqb (bit vf j) 0) (pos 0) (cond (fieldAt j .device) (deviceNumber x) (signed16 (u16At y at)))) (l at) b
 
-  spot-same : (o q : ℕ) → bytesOf s′ o ≡ bytesOf s o → ((r : ℕ) → childAt s′ o r ≡ childAt s o r) → pairAt s′ u (some (record { object = o; at = q })) ≡ pairAt s u (some (record { object = o; at = q }))
+  spot-same : (o q : ℕ) → bytesOf s′ o ≡ bytesOf s o → ((r : ℕ) → childAt s′ o r ≡ childAt s o r)
+      → pairAt s′ u (some (record { object = o; at = q })) ≡ pairAt s u (some (record { object = o; at = q }))
   unfolding pairAt
   spot-same o q b l =
       let x = value1 (bytesOf s u) in
       let y = value2 (bytesOf s u) in
       let f : upto (numberOf s′ o q (value1 (bytesOf s′ u))) 8 ≡ upto (numberOf s o q x) 8
-      = ap (λ (b : List ℕ). upto (numberOf s′ o q (value1 b)) 8) (same .bytes) ∙ upto-same (numberOf s′ o q x) (numberOf s o q x) 8 (λ j h. number-same o q x j b l) in
+      = ap (λ (b : List ℕ). upto (numberOf s′ o q (value1 b)) 8) (same .bytes)
+      ∙ upto-same (numberOf s′ o q x) (numberOf s o q x) 8 (λ j h. number-same o q x j b l) in
       let r = q + 2 * fieldCount x in
       let g : upto (numberOf s′ o (q + 2 * fieldCount (value1 (bytesOf s′ u))) (value2 (bytesOf s′ u))) 8 ≡ upto (numberOf s o r y) 8
       = ap (λ (b : List ℕ). upto (numberOf s′ o (q + 2 * fieldCount (value1 b)) (value2 b)) 8) (same .bytes)
@@ -137,7 +145,8 @@ module _ {s s′ : Store} {u : ℕ} (same : SameAround s s′ u) where
       ∙ go x y (firstRecord (bytesOf s c) size b)
     where
       go : bytesOf s′ c ≡ bytesOf s c → ((r : ℕ) → childAt s′ c r ≡ childAt s c r) → (o : Option ℕ)
-          → pairAt s′ u (andThen o λ k. some (record { object = c; at = valuesAt (recordSize (bytesOf s u)) k })) ≡ pairAt s u (andThen o λ k. some (record { object = c; at = valuesAt (recordSize (bytesOf s u)) k }))
+          → pairAt s′ u (andThen o λ k. some (record { object = c; at = valuesAt (recordSize (bytesOf s u)) k }))
+          ≡ pairAt s u (andThen o λ k. some (record { object = c; at = valuesAt (recordSize (bytesOf s u)) k }))
       go x y none = refl
       go x y (some k) = spot-same c (valuesAt (recordSize (bytesOf s u)) k) x y
 
@@ -187,10 +196,13 @@ module _ {s s′ : Store} {u : ℕ} (same : SameAround s s′ u) where
       row false = refl
       row true = spot-same u at (same .bytes) (same .links)
 
-      place : (o : Option ℕ) → pairAt s′ u (andThen o λ k. given (ltb (classOf (linkedBytes s u 8) a) (shape s u .count) && ltb (classOf (linkedBytes s u 10) b) (columns (bytesOf s u))) (record { object = u; at = at }))
-          ≡ pairAt s u (andThen o λ k. given (ltb (classOf (linkedBytes s u 8) a) (shape s u .count) && ltb (classOf (linkedBytes s u 10) b) (columns (bytesOf s u))) (record { object = u; at = at }))
+      within : Bool
+      within = ltb (classOf (linkedBytes s u 8) a) (shape s u .count) && ltb (classOf (linkedBytes s u 10) b) (columns (bytesOf s u))
+
+      place : (o : Option ℕ)
+          → pairAt s′ u (andThen o λ k. given within (record { object = u; at = at })) ≡ pairAt s u (andThen o λ k. given within (record { object = u; at = at }))
       place none = refl
-      place (some k) = row (ltb (classOf (linkedBytes s u 8) a) (shape s u .count) && ltb (classOf (linkedBytes s u 10) b) (columns (bytesOf s u)))
+      place (some k) = row within
 
   -- ---- the reading
 

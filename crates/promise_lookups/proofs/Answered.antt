@@ -44,7 +44,7 @@ lookup-scratch-zero s l t w list = zeroed s w list (enterAhead s l t w list) (fi
 -- ---- new tables are entered
 
 module _ (s : Store) (l t : ℕ) (w : Scratch) (list : List ℕ) where
-  pub may-ahead : MayEnter s l t w list → lookupCall s l t w list ≡ enterAhead s l t w list
+  may-ahead : MayEnter s l t w list → lookupCall s l t w list ≡ enterAhead s l t w list
   unfolding lookupCall settle
   may-ahead m = ap (λ (c : Option ℕ). settle c s list w (enterAhead s l t w list)) (enters-no-case s l t w list m)
 

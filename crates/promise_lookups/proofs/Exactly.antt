@@ -85,5 +85,6 @@ module _ (s : Store) (l t : ℕ) (w : Scratch) (list : List ℕ) where
   pub enters-no-case : MayEnter s l t w list → firstCase (lookupCases s l t w list) ≡ none
   unfolding lookupCases
   enters-no-case m =
-      let cut : firstCase (listCases s l t ++ cutCases s t w) ≡ none = first-skip (listCases s l t) (cutCases s t w) (asked m) ∙ checked-no-case s t w (m .checked) in
+      let cut : firstCase (listCases s l t ++ cutCases s t w) ≡ none
+      = first-skip (listCases s l t) (cutCases s t w) (asked m) ∙ checked-no-case s t w (m .checked) in
       first-skip (listCases s l t ++ cutCases s t w) (enterCases s l t list) cut ∙ last m

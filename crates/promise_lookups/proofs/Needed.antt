@@ -58,7 +58,9 @@ unfolding turned front words be16
 turned-octets = bytes-append front (replicate 65618 0) (below front refl) (bytes-zeros 65618)
   where
     below : (xs : List ℕ) → every (λ i x. ltb x 256) 0 xs ≡ true → Bytes xs
-    below xs e i = ⊎-elim (λ lt. ltb-true (getD xs i 0) 256 (rule-at (λ i x. ltb x 256) 0 xs e i lt)) (λ ge. omega (arith, List·getD-eq-default xs 0 ge)) (either i (length xs))
+    below xs e i =
+        ⊎-elim (λ lt. ltb-true (getD xs i 0) 256 (rule-at (λ i x. ltb x 256) 0 xs e i lt)) (λ ge. omega (arith, List·getD-eq-default xs 0 ge))
+        (either i (length xs))
 
 -- answer, count, where the list leads, and the device of the pair of 10 and 5 by lookup p: in one list, so that the call is computed once
 unfoldable pub seen : ℕ → Outcome → List (Option ℕ) × List ℤ
@@ -71,12 +73,14 @@ turned-seen :
 unfolding turned front scratch computes seen
 turned-seen = refl
 
-turned-before : (applied turned 3 10 5 .values ≡ pos 0 ∷ pos 0 ∷ pos 0 ∷ pos 0 ∷ pos 4 ∷ replicate 11 (pos 0)) × (childAt turned 2 2 ≡ some 3) × (lookupType (bytesOf turned 3) ≡ pairType) × (subtables turned 3 ≡ 0 ∷ 4 ∷ [])
+turned-before :
+    (applied turned 3 10 5 .values ≡ pos 0 ∷ pos 0 ∷ pos 0 ∷ pos 0 ∷ pos 4 ∷ replicate 11 (pos 0))
+    × (childAt turned 2 2 ≡ some 3) × (lookupType (bytesOf turned 3) ≡ pairType) × (subtables turned 3 ≡ 0 ∷ 4 ∷ [])
 unfolding turned front computes
 turned-before = (refl, refl, refl, refl)
 
 -- the call enters a table
-pub turned-enters : Enters turned 2 0 scratch (0 ∷ [])
+turned-enters : Enters turned 2 0 scratch (0 ∷ [])
 unfolding seen
 turned-enters =
     let e = ap (λ (x : List (Option ℕ) × List ℤ). x .0) turned-seen in
@@ -96,7 +100,9 @@ read-zero s u e a b = ap (λ (o : Option ℕ). settlePair o (pairOf s u a b) .an
 turned-all : AllRead turned 3
 turned-all u h =
     let (a, b, c, d) = turned-before in
-    each-among (λ u. (a b : ℕ) → pairCall turned u a b .answer ≡ 0) (0 ∷ 4 ∷ []) u (read-zero turned 0 (turned-read .0), (read-zero turned 4 (turned-read .1), tt)) (sym (ap (among u) d) ∙ h)
+    each-among (λ u. (a b : ℕ) → pairCall turned u a b .answer ≡ 0) (0 ∷ 4 ∷ []) u
+    (read-zero turned 0 (turned-read .0), (read-zero turned 4 (turned-read .1), tt))
+    (sym (ap (among u) d) ∙ h)
 
 -- and the other one reaches the split one, through its device
 pub turned-reaches : reaches turned 4 0 ≡ true
@@ -115,7 +121,8 @@ not-without-reach h =
     let e = ap (λ (x : List (Option ℕ) × List ℤ). x .0) turned-seen in
     let at : childAt (storeEntered turned 2 0 scratch (0 ∷ [])) 2 2 ≡ some 10 = cc in
     let z : p′ ≡ 10 = cc in
-    let new : applied (storeEntered turned 2 0 scratch (0 ∷ [])) 10 10 5 .values ≡ pos 0 ∷ pos 0 ∷ pos 0 ∷ pos 0 ∷ pos 11 ∷ replicate 11 (pos 0) = ap (λ (x : List (Option ℕ) × List ℤ). x .1) turned-seen in
+    let new : applied (storeEntered turned 2 0 scratch (0 ∷ [])) 10 10 5 .values ≡ pos 0 ∷ pos 0 ∷ pos 0 ∷ pos 0 ∷ pos 11 ∷ replicate 11 (pos 0)
+    = ap (λ (x : List (Option ℕ) × List ℤ). x .1) turned-seen in
     let old : applied (storeEntered turned 2 0 scratch (0 ∷ [])) 10 10 5 .values ≡ applied turned 3 10 5 .values
     = ap (λ (n : ℕ). applied (storeEntered turned 2 0 scratch (0 ∷ [])) n 10 5 .values) (sym z) ∙ ap (λ (o : PairOutcome). o .values) (gives 10 5) in
     let y : _≡_ {A = ℕ} 4 11 = cc in

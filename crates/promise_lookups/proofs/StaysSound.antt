@@ -75,7 +75,7 @@ module _ (s : Store) (l t : ℕ) (cs : List ℕ) (e : Entering s l t cs) where
   old-used = omega (arith, objects-then s t cs (e .ready))
 
   -- what a slot of a new lookup leads to is in use after the split
-  pub tables-used : Each (λ c. c < n) us
+  tables-used : Each (λ c. c < n) us
   unfolding newTables
   tables-used =
       each-upto (λ c. c < n) (newNumber s (perTable (shape s t))) (length cs)
