@@ -16,7 +16,7 @@ pub enum Shape {
     FullMarks,
     /// MarkBasePos, with an anchor in one slot of three.
     SparseMarks,
-    /// PairPos, format 2, of three objects and many glyphs.
+    /// PairPos, format 2, of four objects and many glyphs.
     Glyphs(Spread),
 }
 
@@ -173,7 +173,7 @@ pub fn all() -> Vec<Input> {
     inputs
 }
 
-/// Many glyphs in three objects, dense, sparse, and one in a class.
+/// Many glyphs in four objects, dense, sparse, and one in a class.
 fn many_glyphs(sizes: &[(usize, (u64, usize))]) -> Vec<Input> {
     let of = |spread| {
         let input =

@@ -39,7 +39,7 @@ Mark-to-base tables have 1,000 and 10,000 anchors of 205 to 235 bytes, and five 
 eight, and marks in no order of classes. A full base array has 150 bases and an anchor in each slot; a sparse one has 450 bases and an
 anchor in one slot of three, so that both have about as many links.
 
-Class tables of three objects cover 1,000, 10,000 and 65,536 glyphs, in sixteen classes in short runs or with one glyph a class. Dense glyphs
+Class tables of four objects cover 1,000, 10,000 and 65,536 glyphs, in sixteen classes in short runs or with one glyph a class. Dense glyphs
 stand one beside the other, sparse ones as far apart as there is room (half of all glyphs at most). They show what it takes to read, sort and
 count glyphs.
 ";

@@ -1,9 +1,9 @@
 //! Large stores are what they are said to be.
 
 use differential::{
-    check::{marks_as_the_oracle, Outcome, Split},
+    check::{self, marks_as_the_oracle, Outcome, Split},
     generate::{
-        large::{self, Fill, Order},
+        large::{self, Fill, Order, Spread},
         Case,
     },
     lend::{self, Need},
@@ -59,6 +59,27 @@ fn few_objects_have_many_links() {
     let [objects, links, cuts] = figures(&large::few_objects(0));
     assert_eq!([objects, links], [300, 33_003]);
     assert!(cuts >= 2);
+}
+
+/// Dense, sparse or each in a class of its own, in four objects. What is written is the oracle's.
+#[test]
+fn many_glyphs_are_cut_in_several_places() {
+    for spread in [Spread::Dense, Spread::Sparse, Spread::Alone] {
+        for count in [1_000, 10_000, 65_536] {
+            let case = large::many_glyphs(count, spread, 0);
+            let [objects, links, cuts] = figures(&case);
+            assert_eq!([objects, links], [4, 3]);
+            assert!(cuts >= 3);
+            let covered = match spread {
+                Spread::Sparse => count.min(32_768),
+                Spread::Dense | Spread::Alone => count,
+            };
+            assert_eq!(Need::of(&case.store, case.table).glyphs, covered);
+            let call = lend::exactly(&case.store, case.table, &mut Random::new(0));
+            let split = Split::by(&Archive, &call);
+            assert_eq!(check::as_the_oracle(&split, &mut Tally::default()), Ok(()));
+        }
+    }
 }
 
 /// A thousand anchors and ten thousand, beside five other objects. Both fills have about as many links.

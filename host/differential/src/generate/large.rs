@@ -125,7 +125,8 @@ pub fn few_objects(seed: u64) -> Case {
     )
 }
 
-/// A format 2 table of three objects that covers so many glyphs, or half of all where they are apart and there are no more.
+/// A format 2 table of four objects that covers so many glyphs. Where they lie apart there are at most
+/// 32,768.
 pub fn many_glyphs(count: usize, spread: Spread, seed: u64) -> Case {
     let mut random = Random::new(seed);
     let apart = match spread {
