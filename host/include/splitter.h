@@ -19,6 +19,12 @@
  *   length 0 may be a null pointer. The contents may be anything: no input is an error of the caller,
  *   and each has its answer.
  *
+ * What is left to the host
+ *   The lookup must list the new tables directly behind the old one, in order. Tables that each fit may
+ *   together want extension lookups, and copies of what they share. In PairPos format 2 the largest of
+ *   the coverage and the two class definitions is packed last. Nothing may lead to the old coverage,
+ *   class definition 1 or arrays any more.
+ *
  * Answers
  *   Each function returns one of the numbers below, the first that applies. Where it is not
  *   SPLITTER_DONE nothing has changed but the scratch and the outputs that the function names. */

@@ -21,6 +21,11 @@
 //! | keep a store in a file, for the command `splitter` | [`store_file`] |
 //! | take tables out of a font | [`font`] |
 //!
+//! A split leaves it to the host to list the new tables in the lookup, directly behind the old one and in
+//! order, and to pack them: tables that each fit may together want extension lookups, and copies of
+//! what they share. In format 2 of pairs the largest of the coverage and the two class definitions is
+//! packed last. Nothing may lead to the old coverage, class definition 1 or arrays any more.
+//!
 //! ```
 //! use splitter::{cut_plan, read_pair, split, Refusal, Scratch, Store};
 //!
