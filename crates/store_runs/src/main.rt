@@ -54,14 +54,14 @@ fn lay_links(links: &mut [u32; 1048576], back: u32) {
     let mut k: usize = 0;
     while k < 262144 {
         let parent = k / 4;
-        links[4 * k] = parent as u32;
-        links[4 * k + 1] = (2 * (k % 4)) as u32;
-        links[4 * k + 2] = 2;
+        links[store_reader::PER_LINK * k + store_reader::PARENT] = parent as u32;
+        links[store_reader::PER_LINK * k + store_reader::POSITION] = (2 * (k % 4)) as u32;
+        links[store_reader::PER_LINK * k + store_reader::WIDTH] = 2;
         if parent == 65535 {
-            links[4 * k + 3] = back;
+            links[store_reader::PER_LINK * k + store_reader::CHILD] = back;
             k += 1;
         } else {
-            links[4 * k + 3] = (parent + 1) as u32;
+            links[store_reader::PER_LINK * k + store_reader::CHILD] = (parent + 1) as u32;
             k += 1;
         }
     }

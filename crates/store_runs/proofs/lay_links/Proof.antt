@@ -46,6 +46,7 @@ lay-links-spec =
     (λ c. search needs)
     (λ c. search needs)
     (λ c. search needs)
+    (λ c. search needs)
     loop-again
     (λ c. search needs)
     (λ c. search needs)
