@@ -11,14 +11,19 @@ attachment-of-requires c κs = c .before .before .before .check-table .ensures .
 
 returns : tie.Need-returns
 returns c =
-    let a = c .before .before .before .before .before .before .before .before .before .before .before .args in
-    refused (lent (a .«data» .now) (a .objects .now) (a .links .now) (a .counts)) (a .table) (a .mark) (a .base) (c .before .before .before .before .before .before .before .check-table .result) (c .before .before .before .before .before .before .before .check-table .ensures) (c .before .before .before .before .before .checked .given .1) (c .before .before .before .number-of .ensures) (c .report .ensures)
+    let checks = c .before .before .before .before .before .before .before in
+    let a = checks .before .before .before .before .args in
+    refused (lent (a .«data» .now) (a .objects .now) (a .links .now) (a .counts)) (a .table) (a .mark) (a .base)
+    (checks .check-table .result) (checks .check-table .ensures) (c .before .before .before .before .before .checked .given .1) (c .before .before .before .number-of .ensures) (c .report .ensures)
 
 returns-2 : tie.Need-returns-2
 returns-2 c =
-    let a = c .before .before .before .before .before .before .before .before .before .before .before .args in
-    told (lent (a .«data» .now) (a .objects .now) (a .links .now) (a .counts)) (a .table) (a .mark) (a .base) (c .before .before .before .before .before .before .before .check-table .result) (c .before .before .before .before .before .before .before .check-table .ensures) (c .before .before .before .before .before .checked2 .given .1)
-    (c .before .before .before .attachment-of .result) (c .before .before .before .attachment-of .ensures .0) (c .report2 .ensures)
+    let checks = c .before .before .before .before .before .before .before in
+    let a = checks .before .before .before .before .args in
+    let found = c .before .before .before in
+    told (lent (a .«data» .now) (a .objects .now) (a .links .now) (a .counts)) (a .table) (a .mark) (a .base)
+    (checks .check-table .result) (checks .check-table .ensures) (c .before .before .before .before .before .checked2 .given .1)
+    (found .attachment-of .result) (found .attachment-of .ensures .0) (c .report2 .ensures)
 
 pub read-mark-spec : {M : Type 1} → statement M
 read-mark-spec =

@@ -29,7 +29,8 @@ relink-requires c κs =
 
 shared-slice-read-keep-classes : tie.Need-shared-slice-read-keep-classes
 shared-slice-read-keep-classes c =
-    let start = c .before .before .before .before .before .before .before .before .before .before .before .before .before .before .before .before .before .before .before .before .before .before .before .before .before .before .before .before .before .before .before .before .before .before .before .before .before .before .before in
+    let wrote = c .before .before .before .before .before .before .before .before .before .before .before .before .before .before .before .before .before .before .before .before .before .before .before in
+    let start = wrote .before .before .before .before .before .before .before .before .before .before .before .before .before .before .before .before in
     start .pre .some
 
 keep-classes-requires : tie.Need-keep-classes-requires
@@ -40,7 +41,8 @@ keep-classes-requires c κs =
 
 number-tables-requires : tie.Need-number-tables-requires
 number-tables-requires c κs =
-    let start = c .before .before .before .before .before .before .before .before .before .before .before .before .before .before .before .before .before .before .before .before .before .before .before .before .before .before .before .before .before .before .before .before .before .before .before .before .before .before .before .before .before .before .before .before in
+    let wrote = c .before .before .before .before .before .before .before .before .before .before .before .before .before .before .before .before .before .before .before .before .before .before .before .before .before .before .before .before in
+    let start = wrote .before .before .before .before .before .before .before .before .before .before .before .before .before .before .before .before in
     list-asked (start .pre)
 
 cast-byte-count : tie.Need-cast-byte-count
@@ -51,12 +53,14 @@ cast-byte-count c =
 
 cast-object-count : tie.Need-cast-object-count
 cast-object-count c =
-    let start = c .before .before .before .before .before .before .before .before .before .before .before .before .before .before .before .before .before .before .before .before .before .before .before .before .before .before .before .before .before .before .before .before .before .before .before .before .before .before .before .before .before .before .before .before .before .before .before .before .before in
+    let wrote = c .before .before .before .before .before .before .before .before .before .before .before .before .before .before .before .before .before .before .before .before .before .before .before .before .before .before .before .before .before .before .before .before .before in
+    let start = wrote .before .before .before .before .before .before .before .before .before .before .before .before .before .before .before .before in
     omega (arith, objects-fit (start .pre))
 
 add-object-count : tie.Need-add-object-count
 add-object-count c =
-    let start = c .before .before .before .before .before .before .before .before .before .before .before .before .before .before .before .before .before .before .before .before .before .before .before .before .before .before .before .before .before .before .before .before .before .before .before .before .before .before .before .before .before .before .before .before .before .before .before .before .before in
+    let wrote = c .before .before .before .before .before .before .before .before .before .before .before .before .before .before .before .before .before .before .before .before .before .before .before .before .before .before .before .before .before .before .before .before .before in
+    let start = wrote .before .before .before .before .before .before .before .before .before .before .before .before .before .before .before .before in
     omega (arith, objects-fit (start .pre))
 
 cast-link-count : tie.Need-cast-link-count
