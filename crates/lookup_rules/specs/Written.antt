@@ -9,7 +9,7 @@ use Rattle.folds.specs.Folds.{all, sum, flat, upto}
 use Rattle.folds.specs.Lists.{join, part, sift}
 use Rattle.ot_layouts.specs.Numbers.{be16}
 use Rattle.ot_layouts.specs.Lookup.{subtableCount, lookupHeader}
-use Rattle.store_rules.specs.Store.{Store, Link, linksOf, bytesOf}
+use Rattle.store_rules.specs.Store.{Store, Link, leadingTo, linksOf, bytesOf}
 use Rattle.store_rules.specs.Appended.{appended}
 use Rattle.store_rules.specs.SlotLinks.{linksFrom, slotLinks}
 use Rattle.call_rules.specs.declared.Needs.{Needs}
@@ -55,7 +55,7 @@ redirect n (p ∷ ps) c = cond (eqb c p) n (redirect (n + 1) ps c)
 
 -- a link, redirected
 unfoldable pub redirected : ℕ → List ℕ → Link → Link
-redirected n ps l = record { parent = l .parent; position = l .position; width = l .width; child = redirect n ps (l .child) }
+redirected n ps l = leadingTo (redirect n ps (l .child)) l
 
 -- ---- the store after it
 

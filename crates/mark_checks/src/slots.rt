@@ -12,7 +12,7 @@ ghost use Prim.Native.Nat.{ℕ, _+_, _-_, _*_, _≤_, _<_};
 ghost use lib.ListN.{length, getD};
 ghost use Rattle.folds.specs.Folds.{all};
 ghost use Rattle.folds.specs.Moments.{came};
-ghost use Rattle.store_rules.specs.Store.{lent, perLink, allAt};
+ghost use Rattle.store_rules.specs.Store.{lent, perLink, rowPosition, allAt};
 ghost use Rattle.store_reader.specs.Rows.{InOrder};
 ghost use Rattle.ot_markbasepos.specs.Kinds.{slotOf};
 ghost use Rattle.mark_rules.specs.Table.{allAtSlots};
@@ -48,7 +48,7 @@ fn all_at(links: &[u32], counts: [u32; 3], parent: u32, holder: Holder) -> bool
 // Whether these rows stand at slots.
 fn rows_at_slots(links: &[u32], rows: LinkRows, holder: Holder) -> bool
     requires { ⌜ (rows .first ≤ rows .after) × (perLink * rows .after ≤ length (now links)) ⌝ }
-    ensures { λ r. ⌜ r ≡ all (λ i. slotOf holder (getD (came links) (perLink * (rows .first + i) + 1) 0)) (rows .after - rows .first) ⌝ }
+    ensures { λ r. ⌜ r ≡ all (λ i. slotOf holder (getD (came links) (perLink * (rows .first + i) + rowPosition) 0)) (rows .after - rows .first) ⌝ }
 {
     let first = rows.first;
     let count = rows.after - first;

@@ -8,12 +8,13 @@ use Rattle.folds.specs.Folds.{flat}
 use Rattle.folds.specs.Lists.{put}
 use Rattle.folds.proofs.Folds.{flat-none, flat-more, flat-split, upto-same}
 use Rattle.folds.proofs.Put.{put-nil, put-put, put-below, length-put}
-use Rattle.store_rules.specs.Store.{Link, lent, perLink, rowParent, rowPosition, rowWidth, rowChild, linkAt, linksOf}
+use Rattle.store_rules.specs.Store.{Link, lent, perLink, rowParent, rowPosition, linkAt, linksOf}
 use Rattle.store_rules.specs.Appended.{rowNumbers}
 use Rattle.store_rules.proofs.LinkRows.{rows-numbers}
 use Rattle.store_reader.specs.declared.LinkRows.{LinkRows}
 use Rattle.store_reader.specs.Rows.{rowKey, keyOf, FirstRow}
 use Rattle.store_link_rows.proofs.Links.{numbers-append}
+use Rattle.store_link_rows.proofs.RowLaws.{row-same, same-link}
 use Rattle.mark_links.specs.Copies.{inUse, Source, RowsRoom, Copied}
 
 -- ---- rows that agree below the count are the same links
@@ -26,12 +27,7 @@ module _ (ls out counts : List ℕ) (same : (i : ℕ) → i < perLink * getD cou
   unfolding linksOf
   in-use-same =
       upto-same (linkAt (lent [] [] out counts)) (linkAt (lent [] [] ls counts)) count
-      (λ k l i. record {
-        parent = same (perLink * k + rowParent) (omega arith) i;
-        position = same (perLink * k + rowPosition) (omega arith) i;
-        width = same (perLink * k + rowWidth) (omega arith) i;
-        child = same (perLink * k + rowChild) (omega arith) i;
-      })
+      (λ k l. same-link out ls k k (row-same out ls k (λ i from h. same i (omega arith))))
 
   key-same : (k : ℕ) → k < count → rowKey out k ≡ rowKey ls k
   key-same k l = ap₂ (λ (p q : ℕ). keyOf p q) (same (perLink * k + rowParent) (omega arith)) (same (perLink * k + rowPosition) (omega arith))

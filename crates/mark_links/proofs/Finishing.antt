@@ -10,7 +10,7 @@ use Rattle.folds.proofs.Folds.{length-upto}
 use Rattle.folds.proofs.Put.{put-before}
 use Rattle.ot_layouts.specs.Coverage.{Entry}
 use Rattle.ot_layouts.specs.MarkBasePos.{markArrayAt, baseArrayAt, own, markClass}
-use Rattle.store_rules.specs.Store.{Store, Link, lent, linksOf, childAt, linkedAt, linkedBytes}
+use Rattle.store_rules.specs.Store.{Store, Link, lent, perLink, linksOf, childAt, linkedAt, linkedBytes}
 use Rattle.store_rules.specs.Appended.{rowNumbers}
 use Rattle.store_rules.specs.Header.{kept}
 use Rattle.store_rules.proofs.Sound.{Fits, sound-fits, size-bytes}
@@ -101,7 +101,7 @@ module _ (b o ls counts : List ℕ) (t : ℕ) (a : Arrays) (ps ks cs : List ℕ)
         span-ext (keptRow mid own t v) (keptRow ls own t v) 0 (getD counts 2 0)
         (λ k l h.
         kept-is ls mid own t v k k
-        (ap (λ (x : List ℕ). row x k) (copied .rows-are) ∙ row-below ls (4 * getD counts 2 0) (rowNumbers new) (omega (arith, fits .linksIn)) k (omega arith)))
+        (ap (λ (x : List ℕ). row x k) (copied .rows-are) ∙ row-below ls (perLink * getD counts 2 0) (rowNumbers new) (omega (arith, fits .linksIn)) k (omega arith)))
 
     pub split-done : {out : List ℕ} → out ≡ put mid 0 (segment (keptRow mid own t v) 0 (getD counts 2 0)) → LinksSplit s t cs out r
     split-done h =
@@ -112,6 +112,6 @@ module _ (b o ls counts : List ℕ) (t : ℕ) (a : Arrays) (ps ks cs : List ℕ)
           rows-are =
               h
               ∙ ap₂ (λ (d x : List ℕ). put d 0 x) (copied .rows-are) stay
-              ∙ put-before ls 0 stays (4 * getD counts 2 0) (rowNumbers new) (omega arith) (omega (arith, rows-numbers new, many, g .linkRoom))
+              ∙ put-before ls 0 stays (perLink * getD counts 2 0) (rowNumbers new) (omega arith) (omega (arith, rows-numbers new, many, g .linkRoom))
               ∙ ap (put ls 0) (sym link-numbers);
         }

@@ -12,7 +12,7 @@ use cut_parts::cut_after;
 use cut_parts::part_end;
 use store_link_rows::keep_rows;
 use store_link_rows::put_header;
-use store_link_rows::put_row;
+use store_link_rows::put_link;
 use store_reader::Child;
 use store_reader::LinkRows;
 use store_reader::child_near;
@@ -53,7 +53,7 @@ fn copy_slot(
     let Child::Of(child) = child_near(links, counts, rows, near, array, position) else {
         return at;
     };
-    put_row(links, at, parent, slot, 2, child);
+    put_link(links, at, parent, slot, child);
     at + 1
 }
 

@@ -13,7 +13,7 @@ ghost use Rattle.folds.specs.Folds.{all};
 ghost use Rattle.store_reader.specs.Rows.{InOrder};
 ghost use Rattle.ot_layouts.specs.PairPos.{shapeOf, isSlot};
 ghost use Rattle.ot_pairpos.specs.Layout.{layoutOf};
-ghost use Rattle.store_rules.specs.Store.{lent, perLink, bytesOf};
+ghost use Rattle.store_rules.specs.Store.{lent, perLink, rowPosition, bytesOf};
 ghost use Rattle.pair_rules.specs.Table.{allAtSlots};
 ghost use Rattle.folds.specs.Moments.{came};
 
@@ -37,7 +37,7 @@ pub fn links_at_slots(links: &[u32], counts: [u32; 3], table: u32, layout: Layou
 fn rows_at_slots(links: &[u32], rows: LinkRows, layout: Layout) -> bool
     requires { ⌜ (rows .first ≤ rows .after) × (perLink * rows .after ≤ length (now links)) ⌝ }
     ensures { λ r. ⌜
-        ((b : List ℕ) → layout ≡ layoutOf b → r ≡ all (λ i. isSlot (shapeOf b) (getD (came links) (perLink * (rows .first + i) + 1) 0))
+        ((b : List ℕ) → layout ≡ layoutOf b → r ≡ all (λ i. isSlot (shapeOf b) (getD (came links) (perLink * (rows .first + i) + rowPosition) 0))
         (rows .after - rows .first))
         ⌝ }
 {

@@ -1,29 +1,23 @@
 -- Rows that were moved behind others are the same rows, and what is made of them is the same. Assumes nothing.
 use mathlib.Core.Path.{_≡_, sym, ap, ap₂, _∙_}
-use mathlib.Core.List.{List, _++_}
+use mathlib.Core.Bool.{cond}
+use mathlib.Core.List.{List, [], _++_}
 use Prim.Native.Nat.{ℕ, _+_, _-_, _*_, _≤_, _<_}
 use native.Mathlib.Omega.{arith}
-use lib.ListN.{length, getD, length-append}
+use lib.ListN.{length, length-append}
 use Rattle.folds.specs.Lists.{put}
 use Rattle.folds.proofs.Put.{put-put, length-put, put-over}
-use Rattle.store_link_rows.specs.Rows.{seg, positionIn, widthIn, childIn, row, rows, PositionsRise}
+use Rattle.store_link_rows.specs.Rows.{seg, positionIn, row, rows, PositionsRise}
 use Rattle.store_rules.specs.Store.{perLink}
-use Rattle.pair_links.specs.Blocks.{Plan, tables, tableId, movedRow, share, headRows, tableRows, newRows, grown, Spread, PartedRows}
+use Rattle.pair_links.specs.Blocks.{Plan, tables, shift, inside, tableId, share, headRows, tableRows, newRows, grown, Spread, PartedRows}
 use Rattle.store_link_rows.proofs.Spans.{seg-ext, span-ext}
 use Rattle.store_link_rows.proofs.RowLaws.{rows-long, row-of-rows}
+use Rattle.pair_links.proofs.Moving.{position-same, moved-same}
 
-module _ (ls out : List ℕ) (i k : ℕ) (e : row out k ≡ row ls i) where
-  pub position-is : positionIn out k ≡ positionIn ls i
-  unfolding row
-  position-is = ap (λ (l : List ℕ). getD l 1 0) e
-
-  share-is : (p : Plan) (j : ℕ) → share out p j k ≡ share ls p j i
-  unfolding row share movedRow
-  share-is p j =
-      let x : positionIn out k ≡ positionIn ls i = ap (λ (l : List ℕ). getD l 1 0) e in
-      let w : widthIn out k ≡ widthIn ls i = ap (λ (l : List ℕ). getD l 2 0) e in
-      let c : childIn out k ≡ childIn ls i = ap (λ (l : List ℕ). getD l 3 0) e in
-      rw (x, w, c)
+share-is : (ls out : List ℕ) (i k : ℕ) → row out k ≡ row ls i → (p : Plan) (j : ℕ) → share out p j k ≡ share ls p j i
+unfolding share
+share-is ls out i k e p j =
+    ap₂ (λ (q : ℕ) (r : List ℕ). cond (inside p j q) r []) (position-same ls out i k e) (moved-same ls out i k e (tableId p j) (shift p j))
 
 module _ (ls : List ℕ) (a b m : ℕ) (ab : a ≤ b) (bm : b ≤ m) (room : perLink * m ≤ length ls) (out : List ℕ) (is : out ≡ put ls (perLink * a) (rows ls b m ++ rows ls a b)) where
   ahead : perLink * b + length (rows ls b m) ≡ perLink * m
@@ -49,7 +43,7 @@ module _ (ls : List ℕ) (a b m : ℕ) (ab : a ≤ b) (bm : b ≤ m) (room : per
       ap (row out) (sym e) ∙ there (k - (a + (m - b))) (omega arith) ∙ ap (row ls) f
 
   position-there : (k : ℕ) → a + (m - b) ≤ k → k < m → positionIn out k ≡ positionIn ls (k - (m - b))
-  position-there k l h = position-is ls out (k - (m - b)) k (there-at k l h)
+  position-there k l h = position-same ls out (k - (m - b)) k (there-at k l h)
 
   pub ordered-there : PositionsRise ls a b → PositionsRise out (a + (m - b)) m
   ordered-there o i j l h u =

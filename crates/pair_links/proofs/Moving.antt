@@ -8,15 +8,26 @@ use lib.ListN.{length, getD}
 use Rattle.folds.specs.Lists.{put}
 use Rattle.folds.proofs.Tests.{either}
 use Rattle.folds.proofs.Put.{put-nil, put-below, put-before}
-use Rattle.store_link_rows.specs.Rows.{segment, positionIn}
-use Rattle.store_rules.specs.Store.{perLink, rowPosition, rowWidth, rowChild}
+use Rattle.store_link_rows.specs.Rows.{segment, positionIn, row, placedRow}
+use Rattle.store_rules.specs.Store.{Link, perLink}
 use Rattle.pair_links.specs.Blocks.{movedRow, MovedUp}
 use Rattle.store_link_rows.proofs.Spans.{span-empty, span-front}
-use Rattle.store_link_rows.proofs.RowLaws.{length-span}
+use Rattle.store_link_rows.proofs.RowLaws.{row-same, same-link, placed-same, length-span}
 
-length-moved : (ls : List ℕ) (parent down k : ℕ) → length (movedRow ls parent down k) ≡ 4
-unfolding movedRow
+length-moved : (ls : List ℕ) (parent down k : ℕ) → length (movedRow ls parent down k) ≡ perLink
+unfolding movedRow placedRow
 length-moved ls parent down k = refl
+
+-- the same rows move alike
+module _ (ls out : List ℕ) (i k : ℕ) (e : row out k ≡ row ls i) where
+  pub position-same : positionIn out k ≡ positionIn ls i
+  position-same = ap (λ (l : Link). l .position) (same-link out ls i k e)
+
+  pub moved-same : (parent down : ℕ) → movedRow out parent down k ≡ movedRow ls parent down i
+  unfolding movedRow
+  moved-same parent down =
+      ap (λ (q : ℕ). placedRow out parent (q - down) k) position-same
+      ∙ placed-same out ls parent (positionIn ls i - down) i k e
 
 -- the moved rows are as many as they were
 pub moved-long : (ls : List ℕ) (parent down lo hi : ℕ) → lo ≤ hi → perLink * lo + length (segment (movedRow ls parent down) lo hi) ≡ perLink * hi
@@ -51,16 +62,14 @@ module _ (ls : List ℕ) (q count to bound down parent : ℕ) (out : List ℕ) (
   up-read i l = ap (λ (o : List ℕ). getD o i 0) (u .is) ∙ put-below ls (perLink * at) (segment (movedRow ls parent down) (q + left) (q + count)) (omega (arith, u .place, u .few, u .room)) i l
 
   -- the last row that is not moved yet
+  last-row : 0 < left → row out (q + left - 1) ≡ row ls (q + left - 1)
+  last-row l = row-same out ls (q + left - 1) (λ i from h. up-read i (omega (arith, u .place, u .free)))
+
   last : 0 < left → movedRow out parent down (q + left - 1) ≡ movedRow ls parent down (q + left - 1)
-  unfolding movedRow
-  last l =
-      let p = up-read (perLink * (q + left - 1) + rowPosition) (omega (arith, u .place, u .free)) in
-      let w = up-read (perLink * (q + left - 1) + rowWidth) (omega (arith, u .place, u .free)) in
-      let c = up-read (perLink * (q + left - 1) + rowChild) (omega (arith, u .place, u .free)) in
-      cc
+  last l = moved-same ls out (q + left - 1) (q + left - 1) (last-row l) parent down
 
   last-position : 0 < left → positionIn out (q + left - 1) ≡ positionIn ls (q + left - 1)
-  last-position l = up-read (perLink * (q + left - 1) + rowPosition) (omega (arith, u .place, u .free))
+  last-position l = position-same ls out (q + left - 1) (q + left - 1) (last-row l)
 
   pub up-turn : (out′ : List ℕ) → 0 < left → bound ≤ positionIn out (q + left - 1) → length out′ ≡ length out
       → out′ ≡ put out (perLink * (at - 1)) (movedRow out parent down (q + left - 1)) → Up ls q count to bound down parent out′ (left - 1) (at - 1)

@@ -11,15 +11,16 @@ use borrow.Author.Tests.{lt-ltb, le-ltb, le-leb, lt-leb}
 use Rattle.folds.specs.Lists.{put, part}
 use Rattle.folds.proofs.Tests.{by-test, either, and-second}
 use Rattle.folds.proofs.Put.{put-nil, put-below, put-before}
-use Rattle.store_link_rows.specs.Rows.{segment, positionIn, PositionsRise}
+use Rattle.store_link_rows.specs.Rows.{segment, positionIn, row, PositionsRise}
 use Rattle.pair_links.specs.Blocks.{Plan, tables, shift, edge, inside, tableId, movedRow, share, per, headRows, headCount, tableRows, grown, Fit, MovedUp, Spread}
 use Rattle.store_link_rows.proofs.Spans.{span-empty, span-join, span-front, span-none, span-ext}
-use Rattle.pair_links.proofs.Moving.{moved-long}
+use Rattle.store_link_rows.proofs.RowLaws.{row-same}
+use Rattle.pair_links.proofs.Moving.{position-same, moved-same, moved-long}
 use Rattle.ot_layouts.specs.PairPos.{coverAt, class1At, class2At, ownIn, sharedIn}
 use Rattle.ot_pairpos.specs.declared.Layout.{Layout}
 use Rattle.ot_pairpos.specs.Layout.{Numbered}
 use Rattle.ot_pairpos.proofs.Layouts.{few-heads}
-use Rattle.store_rules.specs.Store.{perLink, rowPosition, rowWidth, rowChild}
+use Rattle.store_rules.specs.Store.{perLink, rowPosition}
 use Rattle.store_rules.specs.Header.{headerLinks}
 use Rattle.store_rules.proofs.LinkRows.{rows-numbers}
 use Rattle.store_rules.proofs.Header.{header-many}
@@ -170,14 +171,11 @@ module _ (ls : List ℕ) (q m : ℕ) (p : Plan) (out : List ℕ) (j left at tabl
   room-left = omega (arith, s .place, counted)
 
   -- a row that has not moved yet
-  moved-same : (k : ℕ) → k < q + left → table - per p ≡ tableId p i → movedRow out (table - per p) (shift p i) k ≡ movedRow ls (tableId p i) (shift p i) k
-  unfolding movedRow
-  moved-same k u t =
-      let rl = room-left in
-      let a = at-read ls q m p out j left at table s (perLink * k + rowPosition) (omega arith) in
-      let b = at-read ls q m p out j left at table s (perLink * k + rowWidth) (omega arith) in
-      let c = at-read ls q m p out j left at table s (perLink * k + rowChild) (omega arith) in
-      cc
+  unmoved : (k : ℕ) → k < q + left → row out k ≡ row ls k
+  unmoved k u = row-same out ls k (λ n from h. at-read ls q m p out j left at table s n (omega (arith, room-left)))
+
+  unmoved-moves : (k : ℕ) → k < q + left → table - per p ≡ tableId p i → movedRow out (table - per p) (shift p i) k ≡ movedRow ls (tableId p i) (shift p i) k
+  unmoved-moves k u t = ap (λ (n : ℕ). movedRow out n (shift p i) k) t ∙ moved-same ls out k k (unmoved k u) (tableId p i) (shift p i)
 
   -- the heads, the rows that moved, and the tables after them
   joined : (rest : ℕ) → i < tables p → segment (share ls p i) q m ≡ segment (movedRow ls (tableId p i) (shift p i)) (q + rest) (q + left)
@@ -203,7 +201,7 @@ module _ (ls : List ℕ) (q m : ℕ) (p : Plan) (out : List ℕ) (j left at tabl
       let ej : edge p j ≡ edge p (i + 1) = ap (edge p) e in
       let fw : rest ≤ left = mv .few in
       let rl = room-left in
-      let pos : (k : ℕ) → k < q + left → positionIn out k ≡ positionIn ls k = λ k l. at-read ls q m p out j left at table s (perLink * k + rowPosition) (omega arith) in
+      let pos : (k : ℕ) → k < q + left → positionIn out k ≡ positionIn ls k = λ k l. position-same ls out k k (unmoved k l) in
       let own : (k : ℕ) → q + rest ≤ k → k < q + left → edge p i ≤ positionIn ls k = λ k l u. omega (arith, mv .above k l u, pos k u) in
       let low : (k : ℕ) → q ≤ k → k < q + rest → positionIn ls k < edge p i =
       λ k l u. omega (arith, mv .below (omega arith), pos (q + rest - 1) (omega arith), s .given .ordered k (q + rest - 1) l (omega arith) (omega (arith, s .few))) in
@@ -215,7 +213,7 @@ module _ (ls : List ℕ) (q m : ℕ) (p : Plan) (out : List ℕ) (j left at tabl
       let H = headRows (p .layout .format) (p .class2) (tableId p i) in
       let part : segment (share ls p i) q m ≡ S = share-part ls p q (q + rest) (q + left) m i (omega arith) (omega arith) (s .few) low own under over in
       let moved : segment (movedRow out (table - per p) (shift p i)) (q + rest) (q + left) ≡ S =
-      span-ext (movedRow out (table - per p) (shift p i)) f (q + rest) (q + left) (λ k l u. moved-same k u t) in
+      span-ext (movedRow out (table - per p) (shift p i)) f (q + rest) (q + left) (λ k l u. unmoved-moves k u t) in
       let ns : perLink * (q + rest) + length S ≡ perLink * (q + left) = moved-long ls (tableId p i) (shift p i) (q + rest) (q + left) (omega arith) in
       let nh : length H ≡ perLink * headCount p = length-heads p (tableId p i) (s .given .fit) in
       let nt = s .long in

@@ -25,13 +25,13 @@ use Rattle.store_rules.specs.Header.{kept}
 use Rattle.store_rules.proofs.Header.{header-same}
 use Rattle.ot_pairpos.specs.declared.Layout.{Layout}
 use Rattle.ot_pairpos.specs.Layout.{shapeWith}
-use Rattle.store_rules.specs.Appended.{rowNumbers, newNumber}
-use Rattle.store_link_rows.specs.Rows.{segment, positionIn, keptRow}
+use Rattle.store_rules.specs.Appended.{numbersOf, rowNumbers, newNumber}
+use Rattle.store_link_rows.specs.Rows.{segment, positionIn, placedRow, keptRow}
 use Rattle.pair_links.specs.Blocks.{Plan, edge, inside, tableId, movedRow, share, headRows, tableRows, newRows}
 use Rattle.pair_links.specs.Parting.{Between}
 use Rattle.store_link_rows.proofs.Keeping.{numbers-kept}
 use Rattle.store_link_rows.proofs.Spans.{flat-span, span-join, span-none, span-ext}
-use Rattle.store_link_rows.proofs.Links.{numbers, numbers-append, numbers-flat, numbers-sifted}
+use Rattle.store_link_rows.proofs.Links.{numbers-append, numbers-flat, numbers-sifted}
 use Rattle.pair_links.proofs.Spreading.{edge-at, edge-end}
 use Rattle.pair_links.proofs.Parting.{planOf, moves, stays-before, stays-after}
 
@@ -55,8 +55,8 @@ module _ (f g : ℕ → List ℕ) (a b m : ℕ) (ab : a ≤ b) (bm : b ≤ m) wh
 
 -- ---- one row
 
-numbers-moved : (s : Store) (sh : Shape) (u lo k : ℕ) → numbers (moved sh u lo (linkAt s k)) ≡ movedRow (s .links) u (sh .item * lo) k
-unfolding moved movedRow
+numbers-moved : (s : Store) (sh : Shape) (u lo k : ℕ) → numbersOf (moved sh u lo (linkAt s k)) ≡ movedRow (s .links) u (sh .item * lo) k
+unfolding moved movedRow placedRow
 numbers-moved s sh u lo k = refl
 
 numbers-heads : (l : Layout) (u class2 : ℕ) (old : ℕ → ℕ) → ((q : ℕ) → among q (sharedIn (l .format)) ≡ true → class2 ≡ old q)
@@ -86,7 +86,7 @@ module _ (s : Store) (t : ℕ) (layout : Layout) (cs : List ℕ) (a b class2 : �
   unfolding linksOf
   stayed v =
       numbers-sifted (kept (sh .own) t v) (λ l. not (ofItems t sh (from cs 0) (sh .count) l)) (linkAt s) (s .linkCount)
-      ∙ all-but-between (λ k. cond (not (ofItems t sh (from cs 0) (sh .count) (linkAt s k))) (numbers (kept (sh .own) t v (linkAt s k))) []) (keptRow (s .links) (sh .own) t v) a b (s .linkCount) (g .ordered) (g .used)
+      ∙ all-but-between (λ k. cond (not (ofItems t sh (from cs 0) (sh .count) (linkAt s k))) (numbersOf (kept (sh .own) t v (linkAt s k))) []) (keptRow (s .links) (sh .own) t v) a b (s .linkCount) (g .ordered) (g .used)
       (λ k l. rw (stays-before s t layout cs a b class2 g k l) (numbers-kept s (sh .own) t v k))
       (λ k l h. rw (goes k l h))
       (λ k l h. rw (stays-after s t layout cs a b class2 g k l h) (numbers-kept s (sh .own) t v k))
@@ -142,7 +142,7 @@ module _ (s : Store) (t : ℕ) (layout : Layout) (cs : List ℕ) (a b class2 : �
     cut-off =
         let u = tableId planned j in
         numbers-sifted (moved sh u (from cs j)) (ofItems t sh (from cs j) (to (sh .count) cs j)) (linkAt s) (s .linkCount)
-        ∙ only-between (λ k. cond (ofItems t sh (from cs j) (to (sh .count) cs j) (linkAt s k)) (numbers (moved sh u (from cs j) (linkAt s k))) []) (share (s .links) planned j) a b (s .linkCount) (g .ordered) (g .used)
+        ∙ only-between (λ k. cond (ofItems t sh (from cs j) (to (sh .count) cs j) (linkAt s k)) (numbersOf (moved sh u (from cs j) (linkAt s k))) []) (share (s .links) planned j) a b (s .linkCount) (g .ordered) (g .used)
         (λ k l. rw (part-of-all (linkAt s k) (stays-before s t layout cs a b class2 g k l)))
         (λ k l h. ap₂ (λ (z : Bool) (r : List ℕ). cond z r []) (own k l h) (numbers-moved s sh u (from cs j) k))
         (λ k l h. rw (part-of-all (linkAt s k) (stays-after s t layout cs a b class2 g k l h)))

@@ -12,7 +12,7 @@ use Rattle.ot_pairpos.specs.declared.Layout.{Layout}
 use Rattle.ot_pairpos.specs.Layout.{Numbered}
 use Rattle.store_rules.specs.Appended.{rowNumbers}
 use Rattle.store_rules.specs.Header.{headerLinks}
-use Rattle.store_link_rows.specs.Rows.{segment, positionIn, widthIn, childIn, four, rows}
+use Rattle.store_link_rows.specs.Rows.{segment, positionIn, rows, placedRow}
 
 -- The items of a table of this layout are parted: new table j gets those from cuts[j] on. `first` is the number of the first new table, class2 the object
 -- that new tables share.
@@ -52,7 +52,7 @@ tableId p j = p .first + per p * j
 
 -- row k as a row of another parent, with its position moved down
 unfoldable pub movedRow : List ℕ → ℕ → ℕ → ℕ → List ℕ
-movedRow ls parent down k = four parent (positionIn ls k - down) (widthIn ls k) (childIn ls k)
+movedRow ls parent down k = placedRow ls parent (positionIn ls k - down) k
 
 -- row k where it moves to new table j
 unfoldable pub share : List ℕ → Plan → ℕ → ℕ → List ℕ

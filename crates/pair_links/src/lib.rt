@@ -1,4 +1,4 @@
-// Link rows, four numbers each, rewritten in place when a table is split: the rows of the items that are cut off become rows of the new tables.
+// Link rows, rewritten in place when a table is split: the rows of the items that are cut off become rows of the new tables.
 ghost use mathlib.Core.Path.{_≡_};
 ghost use mathlib.Core.List.{List, []};
 ghost use Prim.Native.Nat.{ℕ, _+_, _-_, _*_, _≤_, _<_};
@@ -13,10 +13,11 @@ ghost use Rattle.pair_links.specs.Blocks.{plan, edge, headRows, grown, F
 ghost use Rattle.pair_links.specs.Parting.{Parting, Between, LinksSplit};
 use ot_pairpos::Layout;
 use store_link_rows::keep_rows;
+use store_link_rows::move_row;
 use store_link_rows::put_header;
-use store_link_rows::put_row;
 use store_link_rows::rotate_rows;
 use store_reader::PER_LINK;
+use store_reader::POSITION;
 use store_reader::first_row;
 
 // Of the `count` rows from row q on, moves those at the end whose positions are at `bound` or above up, so that they end before row `to`, as rows of
@@ -36,16 +37,14 @@ fn move_up(
     let mut left = count;
     let mut at = to;
     while 0 < left {
-        let from = PER_LINK * (q + left - 1);
-        let position = links[from + 1] as usize;
+        let last = q + left - 1;
+        let position = links[PER_LINK * last + POSITION] as usize;
         if position < bound {
             return left;
         }
-        let width = links[from + 2];
-        let child = links[from + 3];
         left -= 1;
         at -= 1;
-        put_row(links, at, parent, (position - down) as u32, width, child);
+        move_row(links, last, at, parent, (position - down) as u32);
     }
     left
 }

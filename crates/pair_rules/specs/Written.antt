@@ -11,7 +11,7 @@ use Rattle.ot_layouts.specs.Coverage.{Entry, coverageBytes}
 use Rattle.ot_layouts.specs.ClassDef.{classDefBytes}
 use Rattle.ot_layouts.specs.PairPos.{Shape, coverAt, heads, itemAt}
 use Rattle.glyph_rules.specs.Entries.{within, reduced}
-use Rattle.store_rules.specs.Store.{Store, Link, linksOf, headOf, bytesOf, linkedAt}
+use Rattle.store_rules.specs.Store.{Store, Link, placedAt, linksOf, headOf, bytesOf, linkedAt}
 use Rattle.store_rules.specs.Header.{headerLinks, kept}
 use Rattle.store_rules.specs.Appended.{newNumber, appended, withBytes, withTail}
 use Rattle.cut_rules.specs.Ranges.{from, to}
@@ -56,7 +56,7 @@ headLinks sh = headerLinks (sh .own) (heads sh)
 
 -- a link of an item of the new table u, whose first item is lo: "Links of its items move to it, same children."
 unfoldable pub moved : Shape → ℕ → ℕ → Link → Link
-moved sh u lo l = record { parent = u; position = l .position - sh .item * lo; width = l .width; child = l .child }
+moved sh u lo l = placedAt u (l .position - sh .item * lo) l
 
 -- the links of new table u of the items lo up to hi
 unfoldable pub tableLinks : Store → ℕ → Shape → ℕ → ℕ → ℕ → List Link

@@ -9,7 +9,7 @@ use native.Mathlib.Nat.{mul-le-mul-left, mul-add}
 use lib.ListN.{length}
 use Rattle.folds.specs.Lists.{join}
 use Rattle.ot_layouts.specs.MarkBasePos.{tableSize}
-use Rattle.store_rules.specs.Store.{Store, sizeOf, objectRoom, byteRoom, linkRoom}
+use Rattle.store_rules.specs.Store.{Store, perLink, sizeOf, objectRoom, byteRoom, linkRoom}
 use Rattle.store_rules.specs.Reach.{onCycle}
 use Rattle.store_rules.specs.Appended.{newNumber, withBytes}
 use Rattle.store_rules.proofs.Sound.{Fits, sound-fits, size-bytes}
@@ -48,7 +48,7 @@ pub record Ready (s : Store) (t : ℕ) (cs : List ℕ) : Type 0 where
   pub objectsMost : s .objectCount + length (newOf s t cs) ≤ 65536
   pub bytesRoom : s .byteCount + length (join (newOf s t cs)) ≤ length (s .bytes)
   pub bytesMost : s .byteCount + length (join (newOf s t cs)) ≤ 16777216
-  pub linksRoom : 4 * (s .linkCount + needLinks s t (length cs)) ≤ length (s .links)
+  pub linksRoom : perLink * (s .linkCount + needLinks s t (length cs)) ≤ length (s .links)
   pub linksMost : s .linkCount + needLinks s t (length cs) ≤ 262144
 
 ready : (s : Store) (t : ℕ) (w : Scratch) (list : List ℕ) → MaySplit s t w list → Ready s t (cutPlaces s t)

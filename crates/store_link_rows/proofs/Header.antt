@@ -9,12 +9,11 @@ use lib.Seq.{drop-cons, drop-length, take-suc, take-all, length-take-le}
 use borrow.Author.Tests.{eq-eqb, ne-eqb}
 use Rattle.folds.specs.Lists.{put}
 use Rattle.folds.proofs.Put.{put-nil, put-put}
-use Rattle.store_rules.specs.Store.{Link}
-use Rattle.store_rules.specs.Appended.{link, rowNumbers}
+use Rattle.store_rules.specs.Store.{Link, perLink}
+use Rattle.store_rules.specs.Appended.{link, numbersOf, rowNumbers}
 use Rattle.store_rules.specs.Header.{ownChild, headerLinks}
 use Rattle.store_rules.proofs.LinkRows.{rows-numbers}
 use Rattle.store_rules.proofs.Header.{header-many}
-use Rattle.store_link_rows.specs.Rows.{four}
 use Rattle.store_link_rows.proofs.Links.{numbers-append}
 
 -- ---- where a link leads: none of the first i positions is its own
@@ -52,17 +51,17 @@ module _ (own : List ℕ) (v q c : ℕ) where
 
 pub record Headed (ls : List ℕ) (k : ℕ) (own heads : List ℕ) (u shared : ℕ) (out : List ℕ) (i : ℕ) : Type 0 where
   pub some : i ≤ length heads
-  pub room : 4 * (k + length heads) ≤ length ls
+  pub room : perLink * (k + length heads) ≤ length ls
   pub same : length out ≡ length ls
-  pub is : out ≡ put ls (4 * k) (rowNumbers (headerLinks own (take i heads) u (λ q. shared)))
+  pub is : out ≡ put ls (perLink * k) (rowNumbers (headerLinks own (take i heads) u (λ q. shared)))
 
 module _ (ls : List ℕ) (k : ℕ) (own heads : List ℕ) (u shared : ℕ) where
   abbrev header : ℕ → List Link
   header i = headerLinks own (take i heads) u (λ q. shared)
 
-  pub headed-start : 4 * (k + length heads) ≤ length ls → Headed ls k own heads u shared ls 0
+  pub headed-start : perLink * (k + length heads) ≤ length ls → Headed ls k own heads u shared ls 0
   unfolding headerLinks rowNumbers
-  headed-start r = record { some = omega arith; room = r; same = refl; is = put-nil ls (4 * k) }
+  headed-start r = record { some = omega arith; room = r; same = refl; is = put-nil ls (perLink * k) }
 
   header-next : (i : ℕ) → i < length heads → header (i + 1) ≡ header i ++ (link u (getD heads i 0) (ownChild own (u + 1) (getD heads i 0) shared) ∷ [])
   unfolding headerLinks
@@ -71,12 +70,12 @@ module _ (ls : List ℕ) (k : ℕ) (own heads : List ℕ) (u shared : ℕ) where
       ∙ map-append (λ q. link u q (ownChild own (u + 1) q shared)) (take i heads) (getD heads i 0 ∷ [])
 
   pub headed-turn : (out : List ℕ) (i : ℕ) → Headed ls k own heads u shared out i → i < length heads → (out′ : List ℕ) → length out′ ≡ length out
-      → (child : ℕ) → child ≡ ownChild own (u + 1) (getD heads i 0) shared → out′ ≡ put out (4 * (k + i)) (four u (getD heads i 0) 2 child)
+      → (child : ℕ) → child ≡ ownChild own (u + 1) (getD heads i 0) shared → out′ ≡ put out (perLink * (k + i)) (numbersOf (link u (getD heads i 0) child))
       → Headed ls k own heads u shared out′ (i + 1)
   unfolding rowNumbers
   headed-turn out i s l out′ n child e h =
       let q = getD heads i 0 in
-      let long : length (rowNumbers (header i)) ≡ 4 * i
+      let long : length (rowNumbers (header i)) ≡ perLink * i
       = omega (arith, rows-numbers (header i), header-many own u (λ q. shared) (take i heads), length-take-le i heads (omega arith)) in
       record {
         some = omega arith;
@@ -84,12 +83,12 @@ module _ (ls : List ℕ) (k : ℕ) (own heads : List ℕ) (u shared : ℕ) where
         same = n ∙ s .same;
         is =
             h
-            ∙ ap₂ (λ (o : List ℕ) (x : ℕ). put o (4 * (k + i)) (four u q 2 x)) (s .is) e
-            ∙ put-put ls (4 * k) (rowNumbers (header i)) (4 * (k + i)) (four u q 2 (ownChild own (u + 1) q shared)) (omega (arith, s .room)) (omega arith)
-            ∙ ap (put ls (4 * k)) (sym (ap rowNumbers (header-next i l) ∙ numbers-append (header i) (link u q (ownChild own (u + 1) q shared) ∷ [])));
+            ∙ ap₂ (λ (o : List ℕ) (x : ℕ). put o (perLink * (k + i)) (numbersOf (link u q x))) (s .is) e
+            ∙ put-put ls (perLink * k) (rowNumbers (header i)) (perLink * (k + i)) (numbersOf (link u q (ownChild own (u + 1) q shared))) (omega (arith, s .room)) (omega arith)
+            ∙ ap (put ls (perLink * k)) (sym (ap rowNumbers (header-next i l) ∙ numbers-append (header i) (link u q (ownChild own (u + 1) q shared) ∷ [])));
       }
 
   pub headed-done : (out : List ℕ) (i : ℕ) → Headed ls k own heads u shared out i → length heads ≤ i
-      → out ≡ put ls (4 * k) (rowNumbers (headerLinks own heads u (λ q. shared)))
+      → out ≡ put ls (perLink * k) (rowNumbers (headerLinks own heads u (λ q. shared)))
   headed-done out i s l =
-      s .is ∙ ap (λ (hs : List ℕ). put ls (4 * k) (rowNumbers (headerLinks own hs u (λ q. shared)))) (take-all i heads (omega arith))
+      s .is ∙ ap (λ (hs : List ℕ). put ls (perLink * k) (rowNumbers (headerLinks own hs u (λ q. shared)))) (take-all i heads (omega arith))

@@ -3,23 +3,22 @@ use Prim.Native.Nat.{ℕ, _+_, _*_, _≤_, _<_}
 use mathlib.Core.Path.{_≡_, refl, sym, ap, ap₂, _∙_}
 use mathlib.Core.List.{List, [], _∷_, map}
 use native.Mathlib.Omega.{arith}
-use lib.ListN.{length, getD, set}
+use lib.ListN.{length, set}
 use lib.Seq.{set-getD}
 use borrow.Author.Tests.{eq-eqb, ne-eqb}
 use Rattle.folds.specs.Lists.{put}
 use Rattle.folds.proofs.Moved.{map-upto}
 use Rattle.folds.proofs.FromTheFront.{flat-same}
-use Rattle.folds.proofs.Put.{put-nil, put-put, put-four}
-use Rattle.store_rules.specs.Store.{rowChild, Store, Link, linkAt, linksOf}
-use Rattle.store_rules.specs.Appended.{rowNumbers}
+use Rattle.folds.proofs.Put.{put-nil, put-put}
+use Rattle.store_rules.specs.Store.{Store, Link, perLink, rowChild, leadingTo, linkAt, linksOf}
+use Rattle.store_rules.specs.Appended.{numbersOf, rowNumbers}
 use Rattle.store_rules.specs.Header.{ownChild, kept}
-use Rattle.store_rules.specs.Store.{perLink}
-use Rattle.store_link_rows.specs.Rows.{segment, parentIn, positionIn, widthIn, childIn, row, keptRow}
+use Rattle.store_link_rows.specs.Rows.{segment, linkIn, positionIn, row, keptRow}
 use Rattle.store_link_rows.proofs.Spans.{span-empty, span-back, flat-span}
-use Rattle.store_link_rows.proofs.Links.{numbers, numbers-flat}
-use Rattle.store_link_rows.proofs.RowLaws.{row-above, put-same, length-span}
+use Rattle.store_link_rows.proofs.Links.{numbers-flat}
+use Rattle.store_link_rows.proofs.RowLaws.{row-above, same-link, put-numbers, put-same, length-span}
 
-length-kept : (ls own : List ℕ) (t v k : ℕ) → length (keptRow ls own t v k) ≡ 4
+length-kept : (ls own : List ℕ) (t v k : ℕ) → length (keptRow ls own t v k) ≡ perLink
 unfolding keptRow
 length-kept ls own t v k = refl
 
@@ -27,9 +26,9 @@ pub kept-long : (ls own : List ℕ) (t v lo hi : ℕ) → lo ≤ hi → perLink 
 kept-long ls own t v lo hi l = length-span (keptRow ls own t v) (length-kept ls own t v) lo hi l
 
 -- as links
-pub numbers-kept : (s : Store) (own : List ℕ) (t v k : ℕ) → numbers (kept own t v (linkAt s k)) ≡ keptRow (s .links) own t v k
-unfolding kept keptRow
-numbers-kept s own t v k = let e : 4 * k + 0 ≡ 4 * k = omega arith in rw e
+pub numbers-kept : (s : Store) (own : List ℕ) (t v k : ℕ) → numbersOf (kept own t v (linkAt s k)) ≡ keptRow (s .links) own t v k
+unfolding keptRow
+numbers-kept s own t v k = refl
 
 pub kept-numbers : (s : Store) (own : List ℕ) (t v : ℕ) → rowNumbers (map (kept own t v) (linksOf s)) ≡ segment (keptRow (s .links) own t v) 0 (s .linkCount)
 unfolding linksOf rowNumbers
@@ -37,31 +36,27 @@ kept-numbers s own t v =
     let stays : ℕ → Link = λ k. kept own t v (linkAt s k) in
     ap rowNumbers (map-upto (kept own t v) (linkAt s) (s .linkCount))
     ∙ numbers-flat (λ k. stays k ∷ []) (s .linkCount)
-    ∙ flat-same (λ k. numbers (stays k)) (keptRow (s .links) own t v) (s .linkCount) (λ k l. numbers-kept s own t v k)
+    ∙ flat-same (λ k. numbersOf (stays k)) (keptRow (s .links) own t v) (s .linkCount) (λ k l. numbers-kept s own t v k)
     ∙ flat-span (keptRow (s .links) own t v) (s .linkCount)
 
 -- the same row stays in the same way
 pub kept-is : (ls out own : List ℕ) (t v i k : ℕ) → row out k ≡ row ls i → keptRow out own t v k ≡ keptRow ls own t v i
-unfolding row keptRow
-kept-is ls out own t v i k e =
-    let p : parentIn out k ≡ parentIn ls i = ap (λ (l : List ℕ). getD l 0 0) e in
-    let q : positionIn out k ≡ positionIn ls i = ap (λ (l : List ℕ). getD l 1 0) e in
-    let w : widthIn out k ≡ widthIn ls i = ap (λ (l : List ℕ). getD l 2 0) e in
-    let c : childIn out k ≡ childIn ls i = ap (λ (l : List ℕ). getD l 3 0) e in
-    rw (p, q, w, c)
+unfolding keptRow
+kept-is ls out own t v i k e = ap (λ (l : Link). numbersOf (kept own t v l)) (same-link out ls i k e)
 
 -- a row of another table is as it was
-pub kept-other : (d own : List ℕ) (t v k : ℕ) → perLink * k + rowChild < length d → (parentIn d k ≡ t → ⊥) → d ≡ put d (perLink * k) (keptRow d own t v k)
-unfolding row keptRow
-kept-other d own t v k l n = rw (ne-eqb (parentIn d k) t n) (sym (put-same d k l))
+pub kept-other : (d own : List ℕ) (t v k : ℕ) → perLink * (k + 1) ≤ length d → (linkIn d k .parent ≡ t → ⊥) → d ≡ put d (perLink * k) (keptRow d own t v k)
+unfolding row kept keptRow
+kept-other d own t v k l n = rw (ne-eqb (linkIn d k .parent) t n) (sym (put-same d k l))
 
 -- a row of the kept table has another child
-pub kept-own : (d own : List ℕ) (t v k x : ℕ) → perLink * k + rowChild < length d → parentIn d k ≡ t → x ≡ ownChild own v (positionIn d k) (childIn d k)
-    → set d (perLink * k + rowChild) x ≡ put d (perLink * k) (keptRow d own t v k)
-unfolding keptRow
+pub kept-own : (d own : List ℕ) (t v k x : ℕ) → perLink * (k + 1) ≤ length d → linkIn d k .parent ≡ t
+    → x ≡ ownChild own v (positionIn d k) (linkIn d k .child) → set d (perLink * k + rowChild) x ≡ put d (perLink * k) (keptRow d own t v k)
+unfolding kept keptRow
 kept-own d own t v k x l e h =
-    let s : put d (perLink * k) _ ≡ set d (perLink * k + rowChild) x = sym (put-four d (perLink * k) (parentIn d k) (positionIn d k) (widthIn d k) x l) ∙ simp set-getD in
-    rw (eq-eqb (parentIn d k) t e, ← h) (sym s)
+    let s : put d (perLink * k) (numbersOf (leadingTo x (linkIn d k))) ≡ set d (perLink * k + rowChild) x =
+    sym (put-numbers d k (leadingTo x (linkIn d k)) l) ∙ simp set-getD in
+    rw (eq-eqb (linkIn d k .parent) t e, ← h) (sym s)
 
 -- ---- row by row
 

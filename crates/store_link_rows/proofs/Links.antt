@@ -7,17 +7,12 @@ use Rattle.folds.specs.Folds.{flat, upto}
 use Rattle.folds.specs.Lists.{sift}
 use Rattle.folds.proofs.Picked.{sift-append}
 use Rattle.store_rules.specs.Store.{Link}
-use Rattle.store_rules.specs.Appended.{rowNumbers}
-use Rattle.store_link_rows.specs.Rows.{four}
-
--- the numbers of one link
-abbrev pub numbers : Link → List ℕ
-numbers l = four (l .parent) (l .position) (l .width) (l .child)
+use Rattle.store_rules.specs.Appended.{numbersOf, rowNumbers}
 
 pub numbers-append : (xs ys : List Link) → rowNumbers (xs ++ ys) ≡ rowNumbers xs ++ rowNumbers ys
 unfolding rowNumbers
 numbers-append [] ys = refl
-numbers-append (x ∷ xs) ys = ap (λ (r : List ℕ). numbers x ++ r) (numbers-append xs ys)
+numbers-append (x ∷ xs) ys = ap (λ (r : List ℕ). numbersOf x ++ r) (numbers-append xs ys)
 
 pub numbers-flat : (f : ℕ → List Link) (n : ℕ) → rowNumbers (flat f n) ≡ flat (λ j. rowNumbers (f j)) n
 unfolding rowNumbers flat
@@ -26,7 +21,7 @@ numbers-flat f (suc n) = numbers-append (flat f n) (f n) ∙ ap (λ (r : List �
 
 -- links that come by an index, sifted and changed
 module _ (f : Link → Link) (p : Link → Bool) (g : ℕ → Link) where
-  pub numbers-sifted : (n : ℕ) → rowNumbers (map f (sift p (upto g n))) ≡ flat (λ k. cond (p (g k)) (numbers (f (g k))) []) n
+  pub numbers-sifted : (n : ℕ) → rowNumbers (map f (sift p (upto g n))) ≡ flat (λ k. cond (p (g k)) (numbersOf (f (g k))) []) n
   unfolding rowNumbers flat sift
   numbers-sifted zero = refl
   numbers-sifted (suc n) =
@@ -35,6 +30,6 @@ module _ (f : Link → Link) (p : Link → Bool) (g : ℕ → Link) where
       ∙ numbers-append (map f (sift p (upto g n))) (map f (sift p (g n ∷ [])))
       ∙ ap₂ (λ (x y : List ℕ). x ++ y) (numbers-sifted n) (last (p (g n)))
     where
-      last : (b : Bool) → rowNumbers (map f (cond b (g n ∷ []) [])) ≡ cond b (numbers (f (g n))) []
+      last : (b : Bool) → rowNumbers (map f (cond b (g n ∷ []) [])) ≡ cond b (numbersOf (f (g n))) []
       last true = refl
       last false = refl

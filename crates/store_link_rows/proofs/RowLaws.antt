@@ -1,25 +1,26 @@
 -- What a row is after a write. Assumes nothing.
-use mathlib.Core.Path.{_≡_, refl, sym, ap, _∙_}
+use mathlib.Core.Path.{_≡_, refl, sym, ap, ap₂, _∙_}
 use mathlib.Core.List.{List}
 use Prim.Native.Nat.{ℕ, zero, suc, _+_, _-_, _*_, _≤_, _<_}
 use native.Mathlib.Omega.{arith}
-use lib.ListN.{length, getD}
+use lib.ListN.{length, getD, set}
 use lib.Seq.{set-getD}
 use Rattle.folds.specs.Lists.{put}
-use Rattle.folds.proofs.Put.{put-nil, put-put, put-below, put-inside, put-above, put-four}
-use Rattle.store_rules.specs.Store.{perLink, rowParent, rowPosition, rowWidth, rowChild}
-use Rattle.store_link_rows.specs.Rows.{seg, segment, row, rows}
+use Rattle.folds.proofs.Put.{put-nil, put-put, put-below, put-inside, put-above, put-four, both-puts}
+use Rattle.store_rules.specs.Store.{Link, perLink, rowParent, rowPosition, rowWidth, rowChild, placedAt}
+use Rattle.store_rules.specs.Appended.{numbersOf}
+use Rattle.store_link_rows.specs.Rows.{seg, segment, linkIn, row, rows, placedRow}
 use Rattle.store_link_rows.proofs.Spans.{seg-ext, length-seg, seg-at, span-empty, span-back}
 
-pub length-row : (ls : List ℕ) (k : ℕ) → length (row ls k) ≡ 4
+pub length-row : (ls : List ℕ) (k : ℕ) → length (row ls k) ≡ perLink
 unfolding row
 length-row ls k = refl
 
--- rows that agree at the four places
+-- rows that agree at their places
 pub row-same : (d e : List ℕ) (k : ℕ) → ((i : ℕ) → perLink * k ≤ i → i < perLink * k + perLink → getD d i 0 ≡ getD e i 0) → row d k ≡ row e k
 unfolding row
 row-same d e k h =
-    let p = h (perLink * k) (omega arith) (omega arith) in
+    let p = h (perLink * k + rowParent) (omega arith) (omega arith) in
     let q = h (perLink * k + rowPosition) (omega arith) (omega arith) in
     let w = h (perLink * k + rowWidth) (omega arith) (omega arith) in
     let c = h (perLink * k + rowChild) (omega arith) (omega arith) in
@@ -32,22 +33,60 @@ module _ (d : List ℕ) (b : ℕ) (xs : List ℕ) (fits : b ≤ length d) where
   pub row-above : (k : ℕ) → b + length xs ≤ perLink * k → row (put d b xs) k ≡ row d k
   row-above k l = row-same (put d b xs) d k (λ i p q. put-above d b xs fits i (omega arith))
 
--- the row at its own place
-pub put-same : (d : List ℕ) (k : ℕ) → perLink * k + rowChild < length d → put d (perLink * k) (row d k) ≡ d
+-- the same rows are the same links
+pub same-link : (d e : List ℕ) (i k : ℕ) → row d k ≡ row e i → linkIn d k ≡ linkIn e i
 unfolding row
-put-same d k l = sym (put-four d (perLink * k) (getD d (perLink * k) 0) (getD d (perLink * k + rowPosition) 0) (getD d (perLink * k + rowWidth) 0) (getD d (perLink * k + rowChild) 0) l) ∙ simp set-getD
+same-link d e i k h j =
+    record {
+      parent = ap (λ (l : List ℕ). getD l rowParent 0) h j;
+      position = ap (λ (l : List ℕ). getD l rowPosition 0) h j;
+      width = ap (λ (l : List ℕ). getD l rowWidth 0) h j;
+      child = ap (λ (l : List ℕ). getD l rowChild 0) h j;
+    }
 
-module _ (f : ℕ → List ℕ) (four : (k : ℕ) → length (f k) ≡ 4) where
+-- and stay the same in another place
+pub placed-same : (d e : List ℕ) (p q i k : ℕ) → row d k ≡ row e i → placedRow d p q k ≡ placedRow e p q i
+unfolding placedRow
+placed-same d e p q i k h = ap (λ (l : Link). numbersOf (placedAt p q l)) (same-link d e i k h)
+
+-- a link is written number by number
+pub put-numbers : (d : List ℕ) (k : ℕ) (l : Link) → perLink * (k + 1) ≤ length d
+    → set (set (set (set d (perLink * k + rowParent) (l .parent)) (perLink * k + rowPosition) (l .position)) (perLink * k + rowWidth) (l .width)) (perLink * k + rowChild) (l .child)
+    ≡ put d (perLink * k) (numbersOf l)
+put-numbers d k l room =
+    let z : perLink * k + rowParent ≡ perLink * k = omega arith in
+    rw z (put-four d (perLink * k) (l .parent) (l .position) (l .width) (l .child) (omega arith))
+
+-- a row that was read, written in another place
+pub row-moved : (d : List ℕ) (p q i k : ℕ) {l : Link} {o : List ℕ} → l ≡ linkIn d i → o ≡ put d (perLink * k) (numbersOf (placedAt p q l))
+    → o ≡ put d (perLink * k) (placedRow d p q i)
+unfolding placedRow
+row-moved d p q i k e h = h ∙ ap (λ (l : Link). put d (perLink * k) (numbersOf (placedAt p q l))) e
+
+-- two rows that were read, each written where the other was
+pub rows-swapped : (d : List ℕ) (i j : ℕ) {l m : Link} {o o′ : List ℕ} → l ≡ linkIn d i → m ≡ linkIn d j
+    → o ≡ put d (perLink * i) (numbersOf m) → o′ ≡ put o (perLink * j) (numbersOf l) → o′ ≡ put (put d (perLink * i) (row d j)) (perLink * j) (row d i)
+unfolding row
+rows-swapped d i j e f h h′ =
+    both-puts d (perLink * i) _ (perLink * j) _ h h′
+    ∙ ap₂ (λ (l m : Link). put (put d (perLink * i) (numbersOf m)) (perLink * j) (numbersOf l)) e f
+
+-- the row at its own place
+pub put-same : (d : List ℕ) (k : ℕ) → perLink * (k + 1) ≤ length d → put d (perLink * k) (row d k) ≡ d
+unfolding row
+put-same d k room = sym (put-numbers d k (linkIn d k) room) ∙ simp set-getD
+
+module _ (f : ℕ → List ℕ) (long : (k : ℕ) → length (f k) ≡ perLink) where
   pub length-span : (lo hi : ℕ) → lo ≤ hi → perLink * lo + length (segment f lo hi) ≡ perLink * hi
-  length-span lo hi l = omega (arith, length-seg f four lo (hi - lo))
+  length-span lo hi l = omega (arith, length-seg f long lo (hi - lo))
 
-  pub span-at : (d : List ℕ) (lo hi k c : ℕ) → perLink * hi ≤ length d → lo ≤ k → k < hi → c < 4 → getD (put d (perLink * lo) (segment f lo hi)) (perLink * k + c) 0 ≡ getD (f k) c 0
+  pub span-at : (d : List ℕ) (lo hi k c : ℕ) → perLink * hi ≤ length d → lo ≤ k → k < hi → c < perLink → getD (put d (perLink * lo) (segment f lo hi)) (perLink * k + c) 0 ≡ getD (f k) c 0
   span-at d lo hi k c room l h m =
       let e : perLink * k + c - perLink * lo ≡ perLink * (k - lo) + c = omega arith in
       let q : lo + (k - lo) ≡ k = omega arith in
       put-inside d (perLink * lo) (segment f lo hi) (omega arith) (perLink * k + c) (omega arith) (omega (arith, length-span lo hi (omega arith)))
       ∙ ap (λ (i : ℕ). getD (segment f lo hi) i 0) e
-      ∙ seg-at f four lo (hi - lo) (k - lo) c (omega arith) m
+      ∙ seg-at f long lo (hi - lo) (k - lo) c (omega arith) m
       ∙ ap (λ (i : ℕ). getD (f i) c 0) q
 
 pub rows-long : (ls : List ℕ) (lo hi : ℕ) → lo ≤ hi → perLink * lo + length (rows ls lo hi) ≡ perLink * hi
@@ -59,12 +98,12 @@ module _ (ls : List ℕ) (g : ℕ → ℕ) where
   unfolding row
   row-inside d lo hi k room l h =
       let f : ℕ → List ℕ = λ k. row ls (g k) in
-      let n : (k : ℕ) → length (f k) ≡ 4 = λ k. length-row ls (g k) in
-      let z : perLink * k + rowParent ≡ perLink * k = omega arith in
-      let p : getD (put d (perLink * lo) (segment f lo hi)) (perLink * k) 0 ≡ getD ls (perLink * g k) 0 = ap (λ (i : ℕ). getD (put d (perLink * lo) (segment f lo hi)) i 0) (sym z) ∙ span-at f n d lo hi k 0 room l h (omega arith) in
-      let q : getD (put d (perLink * lo) (segment f lo hi)) (perLink * k + rowPosition) 0 ≡ getD ls (perLink * g k + rowPosition) 0 = span-at f n d lo hi k 1 room l h (omega arith) in
-      let w : getD (put d (perLink * lo) (segment f lo hi)) (perLink * k + rowWidth) 0 ≡ getD ls (perLink * g k + rowWidth) 0 = span-at f n d lo hi k 2 room l h (omega arith) in
-      let c : getD (put d (perLink * lo) (segment f lo hi)) (perLink * k + rowChild) 0 ≡ getD ls (perLink * g k + rowChild) 0 = span-at f n d lo hi k 3 room l h (omega arith) in
+      let n : (k : ℕ) → length (f k) ≡ perLink = λ k. length-row ls (g k) in
+      let o = put d (perLink * lo) (segment f lo hi) in
+      let p : getD o (perLink * k + rowParent) 0 ≡ getD ls (perLink * g k + rowParent) 0 = span-at f n d lo hi k rowParent room l h (omega arith) in
+      let q : getD o (perLink * k + rowPosition) 0 ≡ getD ls (perLink * g k + rowPosition) 0 = span-at f n d lo hi k rowPosition room l h (omega arith) in
+      let w : getD o (perLink * k + rowWidth) 0 ≡ getD ls (perLink * g k + rowWidth) 0 = span-at f n d lo hi k rowWidth room l h (omega arith) in
+      let c : getD o (perLink * k + rowChild) 0 ≡ getD ls (perLink * g k + rowChild) 0 = span-at f n d lo hi k rowChild room l h (omega arith) in
       cc
 
 -- a row of rows that were written, at other numbers than their own

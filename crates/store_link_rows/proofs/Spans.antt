@@ -30,16 +30,16 @@ seg-add f a n (suc k) =
     ∙ append-assoc (seg f a n) (seg f (a + n) k) (f (a + n + k))
 
 -- of rows
-module _ (f : ℕ → List ℕ) (four : (k : ℕ) → length (f k) ≡ perLink) where
+module _ (f : ℕ → List ℕ) (long : (k : ℕ) → length (f k) ≡ perLink) where
   pub length-seg : (a n : ℕ) → length (seg f a n) ≡ perLink * n
   unfolding seg
-  length-seg a n = length-even (λ i. f (a + i)) perLink (λ i. four (a + i)) n
+  length-seg a n = length-even (λ i. f (a + i)) perLink (λ i. long (a + i)) n
 
   pub seg-at : (a n i c : ℕ) → i < n → c < perLink → getD (seg f a n) (perLink * i + c) 0 ≡ getD (f (a + i)) c 0
   unfolding seg
   seg-at a n i c l h =
       ap (λ (x : List ℕ). getD x (perLink * i + c) 0) (sym (append-nil (seg f a n)))
-      ∙ even-at (λ i. f (a + i)) perLink (λ i. four (a + i)) [] 0 n i c l h
+      ∙ even-at (λ i. f (a + i)) perLink (λ i. long (a + i)) [] 0 n i c l h
 
 -- from the first on
 pub flat-span : (f : ℕ → List ℕ) (n : ℕ) → flat f n ≡ segment f 0 n

@@ -1,12 +1,11 @@
--- Link rows as numbers, four a row: "parent, position, width, child". Assumes nothing.
-use Prim.Native.Nat.{ℕ, _+_, _-_, _*_, _≤_, _<_}
-use mathlib.Core.Bool.{cond}
-use mathlib.Core.List.{List, [], _∷_}
-use lib.ListN.{getD}
-use lib.Dec.{eqb}
+-- Link rows as numbers: "parent, position, width, child". Assumes nothing.
+use Prim.Native.Nat.{ℕ, _+_, _-_, _≤_, _<_}
+use mathlib.Core.List.{List, []}
 use Rattle.folds.specs.Folds.{flat}
-use Rattle.store_rules.specs.Store.{perLink, rowPosition, rowWidth, rowChild}
-use Rattle.store_rules.specs.Header.{ownChild}
+use Rattle.store_rules.specs.Store.{Link, lent, linkAt, placedAt}
+use Rattle.store_rules.specs.Appended.{numbersOf}
+use Rattle.store_rules.specs.Header.{kept}
+use Rattle.store_link_rows.specs.declared.Row.{Row}
 
 -- what f gives at the n indices from a on, in a row
 unfoldable pub seg : (ℕ → List ℕ) → ℕ → ℕ → List ℕ
@@ -16,29 +15,21 @@ seg f a n = flat (λ i. f (a + i)) n
 abbrev pub segment : (ℕ → List ℕ) → ℕ → ℕ → List ℕ
 segment f lo hi = seg f lo (hi - lo)
 
--- row k: its parent
-abbrev pub parentIn : List ℕ → ℕ → ℕ
-parentIn ls k = getD ls (perLink * k) 0
+-- a row that the code holds, as a link
+abbrev pub linkOf : Row → Link
+linkOf r = record { parent = r .parent; position = r .position; width = r .width; child = r .child }
+
+-- row k as a link
+abbrev pub linkIn : List ℕ → ℕ → Link
+linkIn ls k = linkAt (lent [] [] ls []) k
 
 -- its position in the parent
 abbrev pub positionIn : List ℕ → ℕ → ℕ
-positionIn ls k = getD ls (perLink * k + rowPosition) 0
-
--- its width
-abbrev pub widthIn : List ℕ → ℕ → ℕ
-widthIn ls k = getD ls (perLink * k + rowWidth) 0
-
--- its child
-abbrev pub childIn : List ℕ → ℕ → ℕ
-childIn ls k = getD ls (perLink * k + rowChild) 0
-
--- the four numbers of a row
-abbrev pub four : ℕ → ℕ → ℕ → ℕ → List ℕ
-four parent position width child = parent ∷ position ∷ width ∷ child ∷ []
+positionIn ls k = linkIn ls k .position
 
 -- the numbers of row k
 unfoldable pub row : List ℕ → ℕ → List ℕ
-row ls k = four (parentIn ls k) (positionIn ls k) (widthIn ls k) (childIn ls k)
+row ls k = numbersOf (linkIn ls k)
 
 -- the numbers of the rows from lo up to hi, hi left out
 abbrev pub rows : List ℕ → ℕ → ℕ → List ℕ
@@ -52,8 +43,10 @@ reversed ls lo hi = segment (λ k. row ls (lo + hi - 1 - k)) lo hi
 abbrev pub PositionsRise : List ℕ → ℕ → ℕ → Type 0
 PositionsRise ls lo hi = (i j : ℕ) → lo ≤ i → i ≤ j → j < hi → positionIn ls i ≤ positionIn ls j
 
+-- row k as a row of parent p at position q
+unfoldable pub placedRow : List ℕ → ℕ → ℕ → ℕ → List ℕ
+placedRow ls p q k = numbersOf (placedAt p q (linkIn ls k))
+
 -- row k where it stays: the kept table t's own parts are new objects, of which v is the first
 unfoldable pub keptRow : List ℕ → List ℕ → ℕ → ℕ → ℕ → List ℕ
-keptRow ls own t v k =
-    four (parentIn ls k) (positionIn ls k) (widthIn ls k)
-    (cond (eqb (parentIn ls k) t) (ownChild own v (positionIn ls k) (childIn ls k)) (childIn ls k))
+keptRow ls own t v k = numbersOf (kept own t v (linkIn ls k))

@@ -1,45 +1,98 @@
-// Link rows, four numbers each, written, exchanged, reversed and rotated in place; those of a header, and those that stay where a table is split.
+// Link rows read, written, moved, exchanged, reversed and rotated in place; those of a header, and those that stay where a table is split.
+use store_reader::CHILD;
+use store_reader::PARENT;
 use store_reader::PER_LINK;
+use store_reader::POSITION;
+use store_reader::WIDTH;
 ghost use mathlib.Core.Path.{_≡_};
 ghost use mathlib.Core.List.{_++_};
 ghost use Prim.Native.Nat.{_+_, _*_, _≤_, _<_};
 ghost use lib.ListN.{length};
 ghost use Rattle.folds.specs.Lists.{put};
-ghost use Rattle.store_rules.specs.Store.{perLink, rowChild};
-ghost use Rattle.store_rules.specs.Appended.{rowNumbers};
+ghost use Rattle.store_rules.specs.Store.{perLink};
+ghost use Rattle.store_rules.specs.Appended.{link, numbersOf, rowNumbers};
 ghost use Rattle.store_rules.specs.Header.{ownChild, headerLinks};
 ghost use Rattle.folds.specs.Moments.{came, left};
-ghost use Rattle.store_link_rows.specs.Rows.{segment, four, row, rows, reversed, keptRow};
+ghost use Rattle.store_link_rows.specs.Rows.{segment, linkOf, linkIn, row, rows, reversed, placedRow, keptRow};
 
-// Writes row k.
-pub fn put_row(links: &mut [u32], k: usize, parent: u32, position: u32, width: u32, child: u32)
-    requires { ⌜ perLink * k + rowChild < length (now links) ⌝ }
-    ensures { λ _. ⌜ left links ≡ put (came links) (perLink * k) (four parent position width child) ⌝ }
+// The numbers of a link row.
+struct Row {
+    parent: u32,
+    position: u32,
+    width: u32,
+    child: u32,
+}
+
+// Row k.
+fn row_at(links: &[u32], k: usize) -> Row
+    requires { ⌜ perLink * (k + 1) ≤ length (now links) ⌝ }
+    ensures { λ r. ⌜ linkOf r ≡ linkIn (came links) k ⌝ }
 {
     let at = PER_LINK * k;
-    links[at] = parent;
-    links[at + 1] = position;
-    links[at + 2] = width;
-    links[at + 3] = child;
+    Row {
+        parent: links[at + PARENT],
+        position: links[at + POSITION],
+        width: links[at + WIDTH],
+        child: links[at + CHILD],
+    }
+}
+
+// Writes row k.
+fn put_row(links: &mut [u32], k: usize, row: Row)
+    requires { ⌜ perLink * (k + 1) ≤ length (now links) ⌝ }
+    ensures { λ _. ⌜ left links ≡ put (came links) (perLink * k) (numbersOf (linkOf row)) ⌝ }
+{
+    let at = PER_LINK * k;
+    links[at + PARENT] = row.parent;
+    links[at + POSITION] = row.position;
+    links[at + WIDTH] = row.width;
+    links[at + CHILD] = row.child;
+}
+
+// Writes a new link as row k.
+pub fn put_link(links: &mut [u32], k: usize, parent: u32, position: u32, child: u32)
+    requires { ⌜ perLink * (k + 1) ≤ length (now links) ⌝ }
+    ensures { λ _. ⌜ left links ≡ put (came links) (perLink * k) (numbersOf (link parent position child)) ⌝ }
+{
+    put_row(
+        links,
+        k,
+        Row {
+            parent,
+            position,
+            width: 2,
+            child,
+        },
+    );
+}
+
+// Writes row i as row k, as a row of `parent` at `position`.
+pub fn move_row(links: &mut [u32], i: usize, k: usize, parent: u32, position: u32)
+    requires { ⌜ (perLink * (i + 1) ≤ length (now links)) × (perLink * (k + 1) ≤ length (now links)) ⌝ }
+    ensures { λ _. ⌜ left links ≡ put (came links) (perLink * k) (placedRow (came links) parent position i) ⌝ }
+{
+    let row = row_at(links, i);
+    put_row(
+        links,
+        k,
+        Row {
+            parent,
+            position,
+            width: row.width,
+            child: row.child,
+        },
+    );
 }
 
 // Exchanges rows i and j.
-pub fn swap_rows(links: &mut [u32], i: usize, j: usize)
-    requires { ⌜ (i < j) × (perLink * j + rowChild < length (now links)) ⌝ }
+fn swap_rows(links: &mut [u32], i: usize, j: usize)
+    requires { ⌜ (i < j) × (perLink * (j + 1) ≤ length (now links)) ⌝ }
     ensures { λ _. ⌜ left links ≡ put (put (came links) (perLink * i) (row (came links) j)) (perLink * j) (row (came links) i) ⌝ }
 {
-    let a = PER_LINK * i;
-    let b = PER_LINK * j;
-    let parent = links[a];
-    let position = links[a + 1];
-    let width = links[a + 2];
-    let child = links[a + 3];
-    let parent2 = links[b];
-    let position2 = links[b + 1];
-    let width2 = links[b + 2];
-    let child2 = links[b + 3];
-    put_row(links, i, parent2, position2, width2, child2);
-    put_row(links, j, parent, position, width, child);
+    let one = row_at(links, i);
+    let other = row_at(links, j);
+    put_row(links, i, other);
+    put_row(links, j, one);
 }
 
 // Reverses the rows lo up to hi.
@@ -100,19 +153,19 @@ pub fn put_header(links: &mut [u32], k: usize, own: &[u32], heads: &[u32], table
     while i < heads.len() {
         let position = heads[i];
         let child = own_child(own, position, shared, table + 1);
-        put_row(links, k + i, table, position, 2, child);
+        put_link(links, k + i, table, position, child);
         i += 1;
     }
 }
 
 // Row k, where it is the kept table's, leads to the kept table's own new objects, of which `first` is the first.
 fn keep_row(links: &mut [u32], k: usize, own: &[u32], table: u32, first: u32)
-    requires { ⌜ (perLink * k + rowChild < length (now links)) × (first + length (now own) ≤ 4294967296) ⌝ }
+    requires { ⌜ (perLink * (k + 1) ≤ length (now links)) × (first + length (now own) ≤ 4294967296) ⌝ }
     ensures { λ _. ⌜ left links ≡ put (came links) (perLink * k) (keptRow (came links) (came own) table first k) ⌝ }
 {
     let at = PER_LINK * k;
-    if links[at] == table {
-        links[at + 3] = own_child(own, links[at + 1], links[at + 3], first);
+    if links[at + PARENT] == table {
+        links[at + CHILD] = own_child(own, links[at + POSITION], links[at + CHILD], first);
     }
 }
 

@@ -15,9 +15,9 @@ use Rattle.store_rules.specs.Appended.{rowNumbers}
 pub noLink : Link
 noLink = record { parent = 0; position = 0; width = 0; child = 0 }
 
--- four numbers further on
-four-on : (k : ℕ) (j : ℕ) → perLink * suc k + j ≡ suc (suc (suc (suc (perLink * k + j))))
-four-on k j = omega arith
+-- a row further on
+row-on : (k : ℕ) (j : ℕ) → perLink * suc k + j ≡ suc (suc (suc (suc (perLink * k + j))))
+row-on k j = omega arith
 
 -- number j of a link
 abbrev numberAt : Link → ℕ → ℕ
@@ -26,7 +26,7 @@ numberAt l (suc zero) = l .position
 numberAt l (suc (suc zero)) = l .width
 numberAt l (suc (suc (suc j))) = l .child
 
-rows-at : (ls : List Link) (rest : List ℕ) (k j : ℕ) → k < length ls → j < 4 → getD (rowNumbers ls ++ rest) (perLink * k + j) 0 ≡ numberAt (getD ls k noLink) j
+rows-at : (ls : List Link) (rest : List ℕ) (k j : ℕ) → k < length ls → j < perLink → getD (rowNumbers ls ++ rest) (perLink * k + j) 0 ≡ numberAt (getD ls k noLink) j
 unfolding rowNumbers
 rows-at [] rest k j h b = absurd (not-suc-le-zero h)
 rows-at (l ∷ ls) rest zero zero h b = refl
@@ -34,7 +34,7 @@ rows-at (l ∷ ls) rest zero (suc zero) h b = refl
 rows-at (l ∷ ls) rest zero (suc (suc zero)) h b = refl
 rows-at (l ∷ ls) rest zero (suc (suc (suc zero))) h b = refl
 rows-at (l ∷ ls) rest zero (suc (suc (suc (suc j)))) h b = absurd (omega arith)
-rows-at (l ∷ ls) rest (suc k) j h b = ap (λ (n : ℕ). getD (rowNumbers (l ∷ ls) ++ rest) n 0) (four-on k j) ∙ rows-at ls rest k j (omega arith) b
+rows-at (l ∷ ls) rest (suc k) j h b = ap (λ (n : ℕ). getD (rowNumbers (l ∷ ls) ++ rest) n 0) (row-on k j) ∙ rows-at ls rest k j (omega arith) b
 
 pub links-back : (s : Store) (ls : List Link) (rest : List ℕ) → s .links ≡ rowNumbers ls ++ rest → s .linkCount ≡ length ls → linksOf s ≡ ls
 unfolding linksOf
@@ -43,7 +43,7 @@ links-back s ls rest e n =
     ∙ upto-same (linkAt s) (λ k. getD ls k noLink) (length ls) same
     ∙ upto-getD ls noLink
   where
-    number : (k j : ℕ) → k < length ls → j < 4 → linkNumber s k j ≡ numberAt (getD ls k noLink) j
+    number : (k j : ℕ) → k < length ls → j < perLink → linkNumber s k j ≡ numberAt (getD ls k noLink) j
     number k j h b = ap (λ (r : List ℕ). getD r (perLink * k + j) 0) e ∙ rows-at ls rest k j h b
 
     same : (k : ℕ) → k < length ls → linkAt s k ≡ getD ls k noLink

@@ -16,7 +16,7 @@ use Rattle.store_rules.specs.Store.{lent, perLink, headOf, tailOf, paren
 use Rattle.store_rules.specs.Reach as Reach
 use Rattle.store_rules.specs.Reach.{onCycle, reachOf, itemSize}
 use Rattle.store_rules.specs.Appended as Appended
-use Rattle.store_rules.specs.Appended.{link, rowNumbers, appended, withBytes, withTail, newNumber}
+use Rattle.store_rules.specs.Appended.{link, numbersOf, rowNumbers, appended, withBytes, withTail, newNumber}
 use Rattle.store_rules.specs.SlotLinks as SlotLinks
 use Rattle.store_rules.specs.SlotLinks.{linksFrom, slotLinks}
 use Rattle.store_rules.specs.Header as Header
@@ -26,7 +26,7 @@ use Rattle.store_rules.specs.Header.{ownChild, headerLinks, kept}
 
 -- the row of one link
 abbrev pub linkRow : ℕ → ℕ → ℕ → List ℕ
-linkRow p q c = p ∷ q ∷ 2 ∷ c ∷ []
+linkRow p q c = numbersOf (link p q c)
 
 -- object rows for objects of these sizes, packed from a byte on
 unfoldable pub packed : ℕ → List ℕ → List ℕ

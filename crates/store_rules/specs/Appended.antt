@@ -1,6 +1,6 @@
 -- A store with objects and links added: "New objects are packed from the old data count on." Assumes nothing.
 use Prim.Native.Nat.{ℕ, _+_, _*_}
-use mathlib.Core.List.{List, [], _∷_}
+use mathlib.Core.List.{List, [], _∷_, _++_}
 use lib.ListN.{length, set}
 use Rattle.folds.specs.Lists.{put, join}
 use Rattle.store_rules.specs.Store.{Store, Link}
@@ -14,10 +14,14 @@ rowsFrom at (x ∷ xs) = at ∷ (at + length x) ∷ rowsFrom (at + length x) xs
 abbrev pub link : ℕ → ℕ → ℕ → Link
 link p q c = record { parent = p; position = q; width = 2; child = c }
 
+-- the numbers of a link's row
+abbrev pub numbersOf : Link → List ℕ
+numbersOf l = l .parent ∷ l .position ∷ l .width ∷ l .child ∷ []
+
 -- links as the numbers of their rows
 unfoldable pub rowNumbers : List Link → List ℕ
 rowNumbers [] = []
-rowNumbers (l ∷ ls) = l .parent ∷ l .position ∷ l .width ∷ l .child ∷ rowNumbers ls
+rowNumbers (l ∷ ls) = numbersOf l ++ rowNumbers ls
 
 -- ---- the store with them
 

@@ -114,12 +114,20 @@ sound s =
 unfoldable pub handedOut : Store → ℕ → List ℕ
 handedOut s i = cond (sound s && ltb i (s .objectCount)) (bytesOf s i) []
 
--- a link row's four numbers
+-- the numbers of a link row
 pub record Link : Type 0 where
   pub parent : ℕ
   pub position : ℕ
   pub width : ℕ
   pub child : ℕ
+
+-- the same link, of parent p at position q
+abbrev pub placedAt : ℕ → ℕ → Link → Link
+placedAt p q l = record { parent = p; position = q; width = l .width; child = l .child }
+
+-- the same link, to child c
+abbrev pub leadingTo : ℕ → Link → Link
+leadingTo c l = record { parent = l .parent; position = l .position; width = l .width; child = c }
 
 -- row k as a link
 abbrev pub linkAt : Store → ℕ → Link

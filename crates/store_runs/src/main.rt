@@ -1,5 +1,6 @@
 // Stores at their maxima, looked at whole: 65,536 objects in one chain, 262,144 links, and a way back to the first object or none.
 use libc::STDOUT_FILENO;
+use store_link_rows::put_link;
 use store_reader::first_row;
 use store_reader::is_sound;
 use store_reader::object_bytes;
@@ -54,14 +55,18 @@ fn lay_links(links: &mut [u32; 1048576], back: u32) {
     let mut k: usize = 0;
     while k < 262144 {
         let parent = k / 4;
-        links[store_reader::PER_LINK * k + store_reader::PARENT] = parent as u32;
-        links[store_reader::PER_LINK * k + store_reader::POSITION] = (2 * (k % 4)) as u32;
-        links[store_reader::PER_LINK * k + store_reader::WIDTH] = 2;
+        let position = 2 * (k % 4);
         if parent == 65535 {
-            links[store_reader::PER_LINK * k + store_reader::CHILD] = back;
+            put_link(links, k, parent as u32, position as u32, back);
             k += 1;
         } else {
-            links[store_reader::PER_LINK * k + store_reader::CHILD] = (parent + 1) as u32;
+            put_link(
+                links,
+                k,
+                parent as u32,
+                position as u32,
+                (parent + 1) as u32,
+            );
             k += 1;
         }
     }

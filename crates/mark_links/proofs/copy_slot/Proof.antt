@@ -10,8 +10,8 @@ returns c =
     let a = c .before .before .before .before .before .args in
     nowhere-copied _ (a .counts) _ _ _ _ _ (c .before .before .child-near .ensures [] []) (c .enum-told .given .1)
 
-put-row-requires : tie.Need-put-row-requires
-put-row-requires c κs =
+put-link-requires : tie.Need-put-link-requires
+put-link-requires c κs =
     let after-near = c .before .before .before .before in
     let start = after-near .before .before .before in
     room-for-one _ (start .args .counts) _ _ _ _ _ (after-near .child-near .ensures [] []) (c .before .before .child .given .1) (start .pre .1)
@@ -21,7 +21,7 @@ returns-2 c =
     let after-near = c .before .before .before .before .before .before .before in
     let a = after-near .before .before .before .args in
     one-copied _ (a .counts) _ _ _ _ _ (after-near .child-near .ensures [] []) (c .before .before .before .before .before .child .given .1) _
-    (c .before .before .put-row .ensures)
+    (c .before .before .put-link .ensures)
 
 pub copy-slot-spec : {M : Type 1} → statement M
 copy-slot-spec =
@@ -32,7 +32,7 @@ copy-slot-spec =
     (λ c. search needs)
     (λ c. search needs)
     returns
-    put-row-requires
+    put-link-requires
     (λ c. search needs)
     (λ c. search needs)
     returns-2)

@@ -23,17 +23,18 @@ cast-position c = omega (arith, c .slice-known2 .given (perLink * (c .before .be
 returns : tie.Need-returns Inv-loop μ-loop
 returns c = up-stop _ _ _ _ _ _ _ _ _ _ (c .before .before .before .loop .inv) (c .before .before .loop-test .taken) (c .if1 .taken)
 
-cast-put-row : tie.Need-cast-put-row Inv-loop μ-loop
-cast-put-row c =
-    let start = c .before .before .before .before .before .before .before .before in
-    omega (arith, c .before .before .before .before .slice-known2 .given (perLink * (start .args .q + c .before .before .before .before .before .before .loop .left - 1) + rowPosition))
+cast-move-row : tie.Need-cast-move-row Inv-loop μ-loop
+cast-move-row c =
+    let read = c .before .before in
+    let at-loop = read .before .before in
+    omega (arith, read .slice-known2 .given (perLink * (at-loop .before .before .args .q + at-loop .loop .left - 1) + rowPosition))
 
 loop-again : tie.Need-loop-again Inv-loop μ-loop
 unfolding movedRow
 loop-again c =
-    let in-loop = c .before .before .before .before .before .before .before .before in
+    let in-loop = c .before .before .before .before .before .before in
     let at-loop = in-loop .before in
-    up-turn _ _ _ _ _ _ _ _ _ _ (at-loop .loop .inv) _ (in-loop .loop-test .taken) (c .before .before .before .before .before .before .if1 .left) (c .before .before .put-row .kept .0) (c .before .before .put-row .ensures)
+    up-turn _ _ _ _ _ _ _ _ _ _ (at-loop .loop .inv) _ (in-loop .loop-test .taken) (c .before .before .before .before .if1 .left) (c .before .before .move-row .kept .0) (c .before .before .move-row .ensures)
 
 returns-2 : tie.Need-returns-2 Inv-loop μ-loop
 returns-2 c = up-all _ _ _ _ _ _ _ _ _ _ (c .before .loop .inv) (c .loop-test .left)
@@ -57,13 +58,7 @@ move-up-spec =
     (λ c. search needs)
     (λ c. search needs)
     (λ c. search needs)
-    (λ c. search needs)
-    (λ c. search needs)
-    (λ c. search needs)
-    (λ c. search needs)
-    (λ c. search needs)
-    (λ c. search needs)
-    cast-put-row
+    cast-move-row
     (λ c κs. search needs)
     (λ c. search needs)
     loop-again

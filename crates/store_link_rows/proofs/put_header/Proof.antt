@@ -18,7 +18,7 @@ loop-holds c = headed-start _ _ _ _ _ _ (c .before .before .before .pre .0)
 loop-again : tie.Need-loop-again Inv-loop μ-loop
 loop-again c =
     let in-loop = c .before .before .before .before .before .before in
-    let written = c .before .before .put-row in
+    let written = c .before .before .put-link in
     headed-turn _ _ _ _ _ _ _ _ (in-loop .before .loop .inv) (in-loop .loop-test .taken) _ (written .kept .0) _ (c .before .before .before .before .own-child .ensures)
     (written .ensures)
 

@@ -5,7 +5,7 @@ use native.Mathlib.Omega.{arith}
 use lib.ListN.{length, getD}
 use denote.Ref.{now}
 use borrow.Author.Needs.{needs}
-use Rattle.store_rules.specs.Store.{lent, byteRoom, objectRoom, linkRoom}
+use Rattle.store_rules.specs.Store.{lent, perLink, byteRoom, objectRoom, linkRoom}
 use Rattle.store_reader.proofs.Checks.{count-in, bytes-over, objects-over, links-over, objects-unfit, links-decide}
 use Rattle.store_reader.proofs.is_sound.Statement.{statement}
 use Rattle.store_reader.proofs.is_sound.Tie as tie
@@ -50,7 +50,7 @@ links-fit-requires c κs =
     omega (
       arith,
       count-in (getD (a .t4) 1 0) (min (length (now (a .objects)) / 2) 65536) (d .before .count-fits2 .ensures) (d .if2 .left),
-      count-in (getD (a .t4) 2 0) (min (length (now (a .links)) / 4) 262144) (e .before .count-fits3 .ensures) (e .if3 .left),
+      count-in (getD (a .t4) 2 0) (min (length (now (a .links)) / perLink) 262144) (e .before .count-fits3 .ensures) (e .if3 .left),
     )
 
 returns-5 : tie.Need-returns-5
