@@ -2,6 +2,7 @@ pub mod Spans
 pub mod RowLaws
 pub mod Reversing
 pub mod Links
+pub mod OwnLinks
 pub mod Header
 pub mod Changing
 pub mod Keeping
