@@ -3,6 +3,7 @@ pub mod Slots
 pub mod Rows
 pub mod Once
 pub mod Listed
+pub mod Filled
 pub mod Redirection
 pub mod Marks
 pub mod NewLookup
