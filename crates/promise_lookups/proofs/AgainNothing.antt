@@ -28,13 +28,14 @@ use Rattle.lookup_rules.proofs.Redirection.{redirect-other}
 use Rattle.promise_calls.specs.Unchanged.{Octets}
 use Rattle.promise_pairs.specs.Exactly.{Checked}
 use Rattle.promise_pairs.proofs.WrittenAfresh.{kept-reads}
-use Rattle.promise_pairs.proofs.SameReach.{at-slots, still-acyclic}
-use Rattle.promise_pairs.proofs.SplitLinks.{NewOrOwn, row-leads}
+use Rattle.pair_after.proofs.SameReach.{at-slots, still-acyclic}
+use Rattle.pair_after.proofs.SplitLinks.{NewOrOwn, row-leads}
 use Rattle.promise_pairs.proofs.AgainNothing.{nothing-to-split, no-cut}
 use Rattle.promise_lookups.specs.Demands.{AgainNoEntry}
 use Rattle.promise_lookups.proofs.Answered.{store-entered}
-use Rattle.promise_lookups.proofs.Entering.{Entering, entering}
-use Rattle.promise_lookups.proofs.NewLookups.{more, unled, links, links-are, fit′, used-then, split-head, split-tail, split-bytes}
+use Rattle.lookup_after.proofs.Entering.{Entering}
+use Rattle.promise_lookups.proofs.GoesAhead.{entering}
+use Rattle.lookup_after.proofs.NewLookups.{more, unled, links, links-are, fit′, used-then, split-head, split-tail, split-bytes}
 use Rattle.promise_lookups.proofs.StaysSound.{fits-entered}
 use Rattle.promise_lookups.proofs.Kept.{not-rewritten, table-child, around-table, kept-table}
 

@@ -16,12 +16,13 @@ use Rattle.pair_rules.specs.Written.{splitStore, perTable}
 use Rattle.pair_rules.proofs.SameReading.{refusal-same}
 use Rattle.lookup_rules.specs.Written.{lookupStore}
 use Rattle.promise_pairs.specs.Demands.{Afresh, AllAfresh}
-use Rattle.promise_pairs.proofs.Ready.{store-written}
+use Rattle.promise_pairs.proofs.GoesAhead.{store-written}
 use Rattle.promise_pairs.proofs.WrittenAfresh.{written-afresh}
 use Rattle.promise_lookups.specs.Demands.{EnteredAfresh}
 use Rattle.promise_lookups.proofs.Answered.{store-entered}
-use Rattle.promise_lookups.proofs.Entering.{Entering, entering, splits}
-use Rattle.promise_lookups.proofs.NewLookups.{fit′, split-bytes}
+use Rattle.lookup_after.proofs.Entering.{Entering}
+use Rattle.promise_lookups.proofs.GoesAhead.{entering, splits}
+use Rattle.lookup_after.proofs.NewLookups.{fit′, split-bytes}
 use Rattle.promise_lookups.proofs.Kept.{table-child, around-table, OneOfTables, kept-table, new-table}
 
 module _ (s : Store) (l t : ℕ) (cs : List ℕ) (e : Entering s l t cs) where

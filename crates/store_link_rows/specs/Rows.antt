@@ -47,6 +47,10 @@ PositionsRise ls lo hi = (i j : ℕ) → lo ≤ i → i ≤ j → j < hi → pos
 unfoldable pub placedRow : List ℕ → ℕ → ℕ → ℕ → List ℕ
 placedRow ls p q k = numbersOf (placedAt p q (linkIn ls k))
 
+-- row k with its link changed by f
+unfoldable pub changedRow : (Link → Link) → List ℕ → ℕ → List ℕ
+changedRow f ls k = numbersOf (f (linkIn ls k))
+
 -- row k where it stays: the kept table t's own parts are new objects, of which v is the first
-unfoldable pub keptRow : List ℕ → List ℕ → ℕ → ℕ → ℕ → List ℕ
-keptRow ls own t v k = numbersOf (kept own t v (linkIn ls k))
+abbrev pub keptRow : List ℕ → List ℕ → ℕ → ℕ → ℕ → List ℕ
+keptRow ls own t v k = changedRow (kept own t v) ls k
