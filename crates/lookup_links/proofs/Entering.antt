@@ -1,14 +1,14 @@
 -- The lookups one after another, for a caller. Assumes nothing.
 use Prim.Native.Nat.{ℕ, _+_, _≤_, _<_}
-use mathlib.Core.Path.{_≡_, sym, ap, subst}
+use mathlib.Core.Path.{_≡_, ap, subst}
 use mathlib.Core.List.{List}
 use native.Mathlib.Omega.{arith}
 use lib.ListN.{length, getD}
 use Rattle.folds.specs.Folds.{flat}
-use Rattle.store_rules.specs.Store.{Store, Link, lent, linksOf}
-use Rattle.store_rules.proofs.Sound.{Fits, sound-fits}
+use Rattle.store_rules.specs.Store.{Link, lent, linksOf}
+use Rattle.store_rules.proofs.Sound.{sound-fits}
 use Rattle.store_reader.proofs.Rows.{in-order, position-most}
-use Rattle.store_link_rows.specs.Copies.{inUse, RowsRoom, Copied}
+use Rattle.store_link_rows.specs.Copies.{inUse, Copied}
 use Rattle.store_link_rows.proofs.Copying.{Turns, turns-start, turns-link, turns-in-order, turns-room, turns-most, turns-turn, turns-stop}
 use Rattle.lookup_rules.specs.Written.{newLookupLinks}
 use Rattle.lookup_links.specs.Copies.{lookupCopies, LookupReady}
