@@ -1,13 +1,14 @@
 -- The links of an object, by its own rows. Assumes nothing.
-use Prim.Native.Nat.{ℕ, _+_, _-_, _≤_, _<_}
+use Prim.Native.Nat.{ℕ, suc, _+_, _-_, _≤_, _<_}
 use mathlib.Core.Path.{_≡_, sym, ap, ap₂, _∙_}
 use mathlib.Core.Bool.{Bool, true, false}
-use mathlib.Core.List.{List, _++_, append-nil}
+use mathlib.Core.List.{List, [], _∷_, _++_, append-nil}
 use mathlib.Core.Logic.{_⊎_, inl, inr, ⊎-elim}
 use native.Mathlib.Omega.{arith}
 use lib.Dec.{eqb}
 use Rattle.folds.specs.Folds.{upto}
 use Rattle.folds.specs.Lists.{sift}
+use Rattle.folds.proofs.Folds.{flat-none, upto-cons, upto-same}
 use Rattle.folds.proofs.Picked.{picked-none, picked-same, sift-append, sift-upto}
 use Rattle.folds.proofs.InRange.{is-between, below-range, above-range}
 use Rattle.folds.proofs.TwoParts.{upto-split}
@@ -19,6 +20,21 @@ use Rattle.store_reader.proofs.Rows.{parent-rows}
 -- the links of the rows from lo up to hi, hi left out
 abbrev pub linksBetween : Store → ℕ → ℕ → List Link
 linksBetween s lo hi = upto (λ i. linkAt s (lo + i)) (hi - lo)
+
+-- the first, then the others
+pub between-next : (s : Store) (lo hi : ℕ) → lo < hi → linksBetween s lo hi ≡ linkAt s lo ∷ linksBetween s (lo + 1) hi
+between-next s lo hi l =
+    let m = hi - (lo + 1) in
+    let n : hi - lo ≡ suc m = omega arith in
+    let z : lo + 0 ≡ lo = omega arith in
+    ap (upto (λ i. linkAt s (lo + i))) n
+    ∙ upto-cons (λ i. linkAt s (lo + i)) m
+    ∙ ap₂ (λ (k : ℕ) (ls : List Link). linkAt s k ∷ ls) z
+    (upto-same (λ i. linkAt s (lo + suc i)) (λ i. linkAt s (lo + 1 + i)) m
+    (λ i h. let e : lo + suc i ≡ lo + 1 + i = omega arith in ap (linkAt s) e))
+
+pub between-none : (s : Store) (lo hi : ℕ) → hi ≤ lo → linksBetween s lo hi ≡ []
+between-none s lo hi l = let z : hi - lo ≡ 0 = omega arith in rw z (flat-none (λ i. linkAt s (lo + i) ∷ []))
 
 module _ (s : Store) (p : ℕ) {r : LinkRows} (rows : ParentRows (s .links) (s .linkCount) p r) (small : (k : ℕ) → positionOf s k < 4294967296) where
   -- link i of those from a on
