@@ -1,6 +1,6 @@
 -- "each once", number by number, and what all numbers of a list pass. Assumes nothing.
 use Prim.Native.Nat.{ℕ, _+_, _≤_, _<_}
-use mathlib.Core.Path.{_≡_, refl, sym, ap, ap₂, subst, _∙_}
+use mathlib.Core.Path.{_≡_, refl, sym, ap, subst, _∙_}
 use mathlib.Core.Bool.{Bool, true, false, cond, not, _||_}
 use mathlib.Core.List.{List, [], _∷_, _++_, append-nil}
 use native.Mathlib.Omega.{arith}
@@ -75,7 +75,9 @@ module _ (f : ℕ → ℕ) where
       (λ i ih h.
       let before = ih (λ j l. h j (omega arith)) in
       by-test (among (f i) (upto f i))
-      (λ e. ap length (once-seen i e) ∙ before ∙ sym (tally-same (λ k. 1) (λ c. among c (upto f (i + 1))) (λ c. among c (upto f i)) n (λ c l. among-same i e c)))
+      (λ e.
+      ap length (once-seen i e) ∙ before
+      ∙ sym (tally-same (λ k. 1) (λ c. among c (upto f (i + 1))) (λ c. among c (upto f i)) n (λ c l. among-same i e c)))
       (λ e.
       let more = tally-one (λ k. 1) (λ c. among c (upto f i)) (λ c. among c (upto f (i + 1))) (f i) n (h i (omega arith)) e
       (among-at f (i + 1) i (omega arith)) (λ c l ne. among-other i c ne) in

@@ -48,8 +48,9 @@ loop-again-2 : tie.Need-loop-again-2 Inv-loop μ-loop
 loop-again-2 c =
     let call = c .before .before .before .before .before .before .before .before .before in
     let turn = call .before .before .before in
-    one-chosen _ _ _ _ _ (turn .before .loop .inv) (turn .loop-test .taken) (call .was-marked .ensures) (c .before .before .before .before .before .before .if1 .left)
-    (c .before .before .before .before .before .is-rewritten .ensures) (c .before .before .before .before .if2 .taken) (c .before .before .put-lookup .ensures)
+    one-chosen _ _ _ _ _ (turn .before .loop .inv) (turn .loop-test .taken) (call .was-marked .ensures)
+    (c .before .before .before .before .before .before .if1 .left) (c .before .before .before .before .before .is-rewritten .ensures) (c .before .before .before .before .if2 .taken)
+    (c .before .before .put-lookup .ensures)
 
 loop-again-3 : tie.Need-loop-again-3 Inv-loop μ-loop
 loop-again-3 c =
