@@ -1,5 +1,6 @@
 pub mod Pinned
 pub mod Slots
+pub mod Filled
 pub mod Rows
 pub mod Once
 pub mod Listed

@@ -12,9 +12,9 @@ use Rattle.store_rules.specs.Store.{Link, lent, perLink, rowParent, rowPosition
 use Rattle.store_rules.specs.Appended.{rowNumbers}
 use Rattle.store_rules.proofs.LinkRows.{rows-numbers}
 use Rattle.store_reader.specs.declared.LinkRows.{LinkRows}
-use Rattle.store_reader.specs.Rows.{rowKey, keyOf, FirstRow}
+use Rattle.store_reader.specs.Rows.{rowKey, keyOf, InOrder, FirstRow}
+use Rattle.store_link_rows.specs.Copies.{inUse, Source, RowsRoom, Copied}
 use Rattle.store_link_rows.proofs.Links.{numbers-append}
-use Rattle.mark_links.specs.Copies.{inUse, Source, RowsRoom, Copied}
 
 -- ---- rows that agree below the count are the same links
 
@@ -22,16 +22,17 @@ module _ (ls out counts : List ℕ) (same : (i : ℕ) → i < perLink * getD cou
   abbrev count : ℕ
   count = getD counts 2 0
 
+  link-same : (k : ℕ) → k < count → linkAt (lent [] [] out counts) k ≡ linkAt (lent [] [] ls counts) k
+  link-same k l = λ i. record {
+    parent = same (perLink * k + rowParent) (omega arith) i;
+    position = same (perLink * k + rowPosition) (omega arith) i;
+    width = same (perLink * k + rowWidth) (omega arith) i;
+    child = same (perLink * k + rowChild) (omega arith) i;
+  }
+
   in-use-same : inUse out counts ≡ inUse ls counts
   unfolding linksOf
-  in-use-same =
-      upto-same (linkAt (lent [] [] out counts)) (linkAt (lent [] [] ls counts)) count
-      (λ k l i. record {
-        parent = same (perLink * k + rowParent) (omega arith) i;
-        position = same (perLink * k + rowPosition) (omega arith) i;
-        width = same (perLink * k + rowWidth) (omega arith) i;
-        child = same (perLink * k + rowChild) (omega arith) i;
-      })
+  in-use-same = upto-same (linkAt (lent [] [] out counts)) (linkAt (lent [] [] ls counts)) count link-same
 
   key-same : (k : ℕ) → k < count → rowKey out k ≡ rowKey ls k
   key-same k l = ap₂ (λ (p q : ℕ). keyOf p q) (same (perLink * k + rowParent) (omega arith)) (same (perLink * k + rowPosition) (omega arith))
@@ -44,13 +45,17 @@ module _ (ls out counts : List ℕ) (same : (i : ℕ) → i < perLink * getD cou
         above = λ k l h. omega (arith, f .above k l h, key-same k h);
       }
 
+  order-same : length out ≡ length ls → InOrder ls count → InOrder out count
+  order-same n o =
+      record {
+        room = omega (arith, o .room);
+        rising = λ j k l h. omega (arith, o .rising j k l h, key-same j (omega arith), key-same k h);
+      }
+
   source-same : length out ≡ length ls → (p : ℕ) (rows : LinkRows) → Source ls counts p rows → Source out counts p rows
   source-same n p rows s =
       record {
-        order = record {
-          room = omega (arith, s .order .room);
-          rising = λ j k l h. omega (arith, s .order .rising j k l h, key-same j (omega arith), key-same k h);
-        };
+        order = order-same n (s .order);
         rows-are = record {
           first = first-same (keyOf p 0) (rows .first) (s .rows-are .first);
           after = first-same (keyOf (p + 1) 0) (rows .after) (s .rows-are .after);
@@ -68,6 +73,12 @@ module _ (ls counts : List ℕ) (at : ℕ) (new : List Link) (room : RowsRoom ls
   stays i l =
       ap (λ (x : List ℕ). getD x i 0) (done .rows-are)
       ∙ put-below ls (perLink * at) (rowNumbers new) (omega (arith, room .fits)) i (omega (arith, room .behind))
+
+  pub still-link : (k : ℕ) → k < getD counts 2 0 → linkAt (lent [] [] out counts) k ≡ linkAt (lent [] [] ls counts) k
+  still-link = link-same ls out counts stays
+
+  pub still-in-order : InOrder ls (getD counts 2 0) → InOrder out (getD counts 2 0)
+  still-in-order = order-same ls out counts stays copied-long
 
   pub still-in-use : inUse out counts ≡ inUse ls counts
   still-in-use = in-use-same ls out counts stays
@@ -152,11 +163,28 @@ module _ (ls counts : List ℕ) (at : ℕ) (new : List Link → ℕ → List Lin
           let (rest, e) = flat-split turn k n l in
           room-first (flat turn k ++ turn k) rest (subst (λ (x : List Link). RowsRoom ls counts at x) e (t .room))
 
+      -- what is done
+      done-room : RowsRoom ls counts at (flat turn k)
+      done-room = room-first (flat turn k) (turn k) more-room
+
+      pub turns-link : (i : ℕ) → i < getD counts 2 0 → linkAt (lent [] [] out counts) i ≡ linkAt (lent [] [] ls counts) i
+      turns-link = still-link ls counts at (flat turn k) done-room out next (t .copied)
+
+      pub turns-in-order : InOrder ls (getD counts 2 0) → InOrder out (getD counts 2 0)
+      turns-in-order = still-in-order ls counts at (flat turn k) done-room out next (t .copied)
+
       pub turns-source : (p : ℕ) (rows : LinkRows) → Source ls counts p rows → Source out counts p rows
       turns-source p rows s = source-then (flat turn k) (λ old. new old k) more-room (t .copied) p rows s
 
       pub turns-room : RowsRoom out counts next (new (inUse out counts) k)
       turns-room = room-then (flat turn k) (λ old. new old k) more-room (t .copied)
+
+      -- and no row passes a bound that the last keeps
+      pub turns-most : (most : ℕ) → at + length (flat turn n) ≤ most → next + length (new (inUse out counts) k) ≤ most
+      turns-most most all =
+          let same = ap (λ (old : List Link). length (new old k)) (still-in-use ls counts at (flat turn k) done-room out next (t .copied)) in
+          let (rest, e) = flat-split turn k n l in
+          omega (arith, t .copied .next, ap length e, length-append (flat turn k ++ turn k) rest, length-append (flat turn k) (turn k))
 
       pub turns-turn : {out′ : List ℕ} {next′ : ℕ} → Copied out next (new (inUse out counts) k) out′ next′ → Turns ls counts at new n out′ next′ (k + 1)
       turns-turn {out′} {next′} more =

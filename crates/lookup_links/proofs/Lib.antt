@@ -1,0 +1,5 @@
+pub mod BySlots
+pub mod Rows
+pub mod Lookup
+pub mod Entering
+pub mod Redirecting
