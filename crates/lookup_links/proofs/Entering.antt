@@ -29,7 +29,7 @@ module _ (ls counts : List ℕ) (t : ℕ) (us ps : List ℕ) (n : ℕ) where
 
   all-are : (b o : List ℕ) → Entering (lent b o ls counts) t us ps n → all ≡ newLookupLinks (lent b o ls counts) t us ps n
   unfolding linksOf
-  all-are b o e = let s = lent b o ls counts in all-by-rows s (sound-fits s (e .sound-is)) t us ps n (e .good)
+  all-are b o e = let s = lent b o ls counts in all-by-rows s (sound-fits s (e .sound-is)) t us ps n (λ m l. e .lookups m l .good)
 
   pub all-start : EnteringLent ls counts t us ps n → AllEntered ls counts t us ps n ls (getD counts 2 0) 0
   all-start g =
@@ -55,7 +55,7 @@ module _ (ls counts : List ℕ) (t : ℕ) (us ps : List ℕ) (n : ℕ) where
           let at = getD counts 2 0 in
           record {
             order = turns-in-order ls counts at (lookupTurn t us ps n) (length ps) (done .turns) l (in-order s fits);
-            used = omega (arith, g .known .used m l, fits .objectsMost);
+            used = omega (arith, g .known .lookups m l .used, fits .objectsMost);
             small = λ k h.
                 let same = ap (λ (x : Link). x .position) (turns-link ls counts at (lookupTurn t us ps n) (length ps) (done .turns) l k h) in
                 omega (arith, position-most s fits k h);
