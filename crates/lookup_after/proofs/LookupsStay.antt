@@ -10,7 +10,7 @@ use Rattle.folds.proofs.Tests.{and-both, and-intro}
 use Rattle.folds.proofs.Folds.{upto-same}
 use Rattle.folds.proofs.FromTheFront.{flat-same}
 use Rattle.ot_layouts.specs.Lookup.{subtableCount, lookupHeader, lookupExact, isSubtableSlot}
-use Rattle.store_rules.specs.Store.{Store, parentOf, positionOf, childOf, bytesOf, childAt, allAt}
+use Rattle.store_rules.specs.Store.{Store, positionOf, childOf, bytesOf, childAt, allAt}
 use Rattle.store_rules.proofs.Slots.{all-stand}
 use Rattle.store_rules.proofs.RowChild.{row-child}
 use Rattle.pair_rules.specs.Written.{splitStore}

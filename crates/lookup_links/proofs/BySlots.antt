@@ -1,5 +1,5 @@
 -- The links of a new lookup by the rows of its old one are those by its slots. Assumes nothing.
-use Prim.Native.Nat.{ℕ, zero, suc, _+_, _*_, _<_}
+use Prim.Native.Nat.{ℕ, suc, _+_, _*_, _<_}
 use mathlib.Core.Path.{_≡_, refl, sym, ap, ap₂, _∙_}
 use mathlib.Core.Bool.{Bool, true, false, cond}
 use mathlib.Core.List.{List, [], _∷_, _++_, map, append-assoc}
@@ -8,16 +8,15 @@ use native.Mathlib.Omega.{arith}
 use lib.ListN.{length, getD}
 use lib.Dec.{eqb}
 use Rattle.folds.specs.Folds.{flat}
-use Rattle.folds.specs.Lists.{sift}
 use Rattle.folds.proofs.Folds.{upto-cons, upto-same}
 use Rattle.folds.proofs.FromTheFront.{flat-cons, flat-same}
 use Rattle.folds.proofs.Moved.{length-map}
 use Rattle.ot_layouts.specs.Lookup.{lookupHeader}
-use Rattle.store_rules.specs.Store.{Store, Link, linksOf, ofParent}
+use Rattle.store_rules.specs.Store.{Store, Link, linksOf}
 use Rattle.store_rules.specs.Appended.{link}
 use Rattle.store_rules.specs.SlotLinks.{slotLink, slotLinks}
 use Rattle.store_rules.proofs.Sound.{Fits}
-use Rattle.lookup_rules.specs.Listed.{leadsTo, goodLookup, subtableSlots}
+use Rattle.lookup_rules.specs.Listed.{goodLookup, subtableSlots}
 use Rattle.lookup_rules.specs.Written.{entered, newSlots, subtableLinks, newLookupLinks}
 use Rattle.lookup_rules.proofs.Filled.{Filled, end, empty, linked, lookup-filled}
 use Rattle.lookup_links.specs.Copies.{tableLinks, linkEntered, linksEntered, lookupCopies}

@@ -1,14 +1,14 @@
 -- The lookups one after another, for a caller. Assumes nothing.
 use Prim.Native.Nat.{ℕ, _+_, _≤_, _<_}
-use mathlib.Core.Path.{_≡_, sym, ap, subst}
+use mathlib.Core.Path.{_≡_, ap, subst}
 use mathlib.Core.List.{List}
 use native.Mathlib.Omega.{arith}
 use lib.ListN.{length, getD}
 use Rattle.folds.specs.Folds.{flat}
-use Rattle.store_rules.specs.Store.{Store, Link, lent, linksOf}
-use Rattle.store_rules.proofs.Sound.{Fits, sound-fits}
+use Rattle.store_rules.specs.Store.{Link, lent, linksOf}
+use Rattle.store_rules.proofs.Sound.{sound-fits}
 use Rattle.store_reader.proofs.Rows.{in-order, position-most}
-use Rattle.store_link_rows.specs.Copies.{inUse, RowsRoom, Copied}
+use Rattle.store_link_rows.specs.Copies.{inUse, Copied}
 use Rattle.store_link_rows.proofs.Copying.{Turns, turns-start, turns-link, turns-in-order, turns-room, turns-most, turns-turn, turns-stop}
 use Rattle.lookup_rules.specs.Written.{newLookupLinks}
 use Rattle.lookup_links.specs.Copies.{lookupCopies, LookupReady}
@@ -29,7 +29,7 @@ module _ (ls counts : List ℕ) (t : ℕ) (us ps : List ℕ) (n : ℕ) where
 
   all-are : (b o : List ℕ) → Entering (lent b o ls counts) t us ps n → all ≡ newLookupLinks (lent b o ls counts) t us ps n
   unfolding linksOf
-  all-are b o e = let s = lent b o ls counts in all-by-rows s (sound-fits s (e .sound-is)) t us ps n (e .good)
+  all-are b o e = let s = lent b o ls counts in all-by-rows s (sound-fits s (e .sound-is)) t us ps n (λ m l. e .lookups m l .good)
 
   pub all-start : EnteringLent ls counts t us ps n → AllEntered ls counts t us ps n ls (getD counts 2 0) 0
   all-start g =
@@ -55,7 +55,7 @@ module _ (ls counts : List ℕ) (t : ℕ) (us ps : List ℕ) (n : ℕ) where
           let at = getD counts 2 0 in
           record {
             order = turns-in-order ls counts at (lookupTurn t us ps n) (length ps) (done .turns) l (in-order s fits);
-            used = omega (arith, g .known .used m l, fits .objectsMost);
+            used = omega (arith, g .known .lookups m l .used, fits .objectsMost);
             small = λ k h.
                 let same = ap (λ (x : Link). x .position) (turns-link ls counts at (lookupTurn t us ps n) (length ps) (done .turns) l k h) in
                 omega (arith, position-most s fits k h);

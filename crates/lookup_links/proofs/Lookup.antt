@@ -4,7 +4,7 @@ use mathlib.Core.Path.{_≡_, refl, sym, ap, ap₂, subst, _∙_}
 use mathlib.Core.List.{List, [], _∷_, _++_, append-assoc, append-nil}
 use native.Mathlib.Omega.{arith}
 use lib.ListN.{length, getD, length-append}
-use Rattle.store_rules.specs.Store.{Link, lent, perLink, rowChild, positionOf}
+use Rattle.store_rules.specs.Store.{Link, lent, perLink, positionOf}
 use Rattle.store_reader.specs.declared.LinkRows.{LinkRows}
 use Rattle.store_reader.specs.Rows.{ParentRows}
 use Rattle.store_link_rows.specs.Rows.{linkIn, positionIn}

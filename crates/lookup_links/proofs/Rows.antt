@@ -1,35 +1,20 @@
 -- Rows of an old lookup copied one by one, with the new tables behind each that leads to the old one. Assumes nothing.
-use Prim.Native.Nat.{ℕ, _+_, _-_, _*_, _≤_, _<_}
-use mathlib.Core.Path.{_≡_, refl, sym, ap, ap₂, subst, _∙_}
-use mathlib.Core.Bool.{Bool, true, false, cond}
-use mathlib.Core.List.{List, [], _∷_, _++_, append-assoc, append-nil}
+use Prim.Native.Nat.{ℕ, _+_, _*_, _≤_, _<_}
+use mathlib.Core.Path.{_≡_, sym, ap, subst}
+use mathlib.Core.Bool.{cond}
+use mathlib.Core.List.{List, [], _∷_, _++_}
 use native.Mathlib.Omega.{arith}
 use lib.ListN.{length, getD}
 use lib.Dec.{eqb}
 use borrow.Author.Tests.{eq-eqb, ne-eqb}
-use Rattle.folds.specs.Folds.{upto}
-use Rattle.folds.specs.Lists.{put, sift}
+use Rattle.folds.specs.Lists.{put}
 use Rattle.folds.proofs.Tests.{by-test}
-use Rattle.folds.proofs.Folds.{flat-none, length-upto, upto-cons, upto-same}
-use Rattle.store_rules.specs.Store.{Store, Link, lent, perLink, linkAt, linksOf, positionOf, ofParent}
+use Rattle.folds.proofs.Folds.{length-upto}
+use Rattle.store_rules.specs.Store.{Link, perLink}
 use Rattle.store_rules.specs.Appended.{link, numbersOf, rowNumbers}
-use Rattle.store_reader.specs.declared.LinkRows.{LinkRows}
-use Rattle.store_reader.specs.Rows.{ParentRows}
-use Rattle.store_link_rows.specs.Rows.{linkIn, positionIn}
-use Rattle.store_link_rows.specs.Copies.{inUse, RowsRoom, Copied}
-use Rattle.store_link_rows.proofs.OwnLinks.{linksBetween, own-links}
-use Rattle.store_link_rows.proofs.Copying.{
-  copied-long,
-  still-link,
-  room-first,
-  room-rest,
-  copied-more,
-  copied-none,
-  Turns,
-  turns-start,
-  turns-turn,
-  turns-stop,
-}
+use Rattle.store_link_rows.specs.Rows.{linkIn}
+use Rattle.store_link_rows.specs.Copies.{RowsRoom, Copied}
+use Rattle.store_link_rows.proofs.Copying.{room-rest, copied-more, Turns, turns-start, turns-turn, turns-stop}
 use Rattle.lookup_links.specs.Copies.{tableLinks, linkEntered, linksEntered, RowReady}
 
 -- one row

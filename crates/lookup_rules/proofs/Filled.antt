@@ -1,9 +1,9 @@
 -- Slots that stand in a row, and the links that fill them, in order: where all links of an object stand at its slots, these are its own links. Assumes nothing.
 use Prim.Native.Nat.{ℕ, zero, suc, _+_, _-_, _*_, _<_, _≤_}
 use mathlib.Core.Path.{_≡_, refl, sym, ap, subst, _∙_}
-use mathlib.Core.Bool.{Bool, true, false, cond, _&&_}
+use mathlib.Core.Bool.{Bool, true, false, cond}
 use mathlib.Core.List.{List, [], _∷_, map}
-use mathlib.Core.Logic.{_⊎_, inl, inr, ⊎-elim}
+use mathlib.Core.Logic.{_⊎_, inl, inr}
 use mathlib.Core.Option.{Option, some, none}
 use native.Mathlib.Omega.{arith}
 use lib.ListN.{length}
@@ -14,15 +14,15 @@ use Rattle.folds.specs.Lists.{sift}
 use Rattle.folds.proofs.Tests.{by-test, and-both, and-second}
 use Rattle.folds.proofs.Folds.{flat-none, upto-cons, upto-same}
 use Rattle.folds.proofs.Each.{Each, each-upto}
-use Rattle.ot_layouts.specs.Lookup.{isOneOf, isListSlot, listHeader, lookupCount, lookupHeader, subtableCount, lookupExact, isSubtableSlot}
+use Rattle.ot_layouts.specs.Lookup.{isOneOf, lookupHeader, subtableCount, lookupExact, isSubtableSlot}
 use Rattle.ot_layouts.proofs.LookupSlots.{which-slot}
 use Rattle.store_rules.specs.Store.{Store, Link, lookup, linksOf, linkAt, childAt, bytesOf, positionOf, ofParent, allAt}
 use Rattle.store_rules.proofs.Sound.{Fits}
 use Rattle.store_rules.proofs.Slots.{one-stands}
 use Rattle.store_rules.proofs.Lookups.{hit}
-use Rattle.store_rules.proofs.LinksAscend.{From, Climb, from-trans}
+use Rattle.store_rules.proofs.LinksAscend.{From, Climb}
 use Rattle.store_rules.proofs.LinksFit.{rows-climb}
-use Rattle.lookup_rules.specs.Listed.{slotsAt, linkedIn, leadsTo, subtableSlots, goodLookup}
+use Rattle.lookup_rules.specs.Listed.{slotsAt, linkedIn, subtableSlots, goodLookup}
 use Rattle.lookup_rules.specs.Written.{listings}
 
 -- these links fill these slots, of which the first is at a: each is passed with no link, or has the next one

@@ -1,9 +1,9 @@
 pub mod Pinned
 pub mod Slots
+pub mod Filled
 pub mod Rows
 pub mod Once
 pub mod Listed
-pub mod Filled
 pub mod Redirection
 pub mod Marks
 pub mod NewLookup

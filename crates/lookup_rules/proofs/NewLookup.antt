@@ -4,7 +4,7 @@ use mathlib.Core.Path.{_≡_, sym, ap, subst, _∙_}
 use mathlib.Core.Bool.{true}
 use mathlib.Core.List.{List, _++_, append-assoc}
 use native.Mathlib.Omega.{arith}
-use lib.ListN.{length, getD, drop, replicate, length-append, length-replicate, List·getD-append}
+use lib.ListN.{length, getD, drop, replicate, length-append, length-drop, length-replicate, List·getD-append}
 use lib.Seq.{getD-drop}
 use borrow.Author.Tests.{eqb-true}
 use Rattle.folds.specs.Lists.{part, Bytes}
@@ -62,6 +62,14 @@ module _ (b : List ℕ) (n : ℕ) (long : lookupHeader + 2 * subtableCount b ≤
       let zeros : List ℕ = replicate (2 * n) 0 in
       let z : length zeros ≡ 2 * n = length-replicate (2 * n) 0 in
       omega (arith, ap length new-parts, length-append front rest, front-long, length-append zeros behind)
+
+  -- it is longer by its further slots
+  pub new-length : length (newLookup b n) + 2 * subtableCount b ≡ length b + 2 * n
+  unfolding rest be16
+  new-length =
+      let zeros : List ℕ = replicate (2 * n) 0 in
+      let z : length zeros ≡ 2 * n = length-replicate (2 * n) 0 in
+      omega (arith, ap length new-parts, length-append front rest, front-long, length-append zeros behind, length-drop (lookupHeader + 2 * subtableCount b) b)
 
   pub new-octets : Bytes b → n < 65536 → Bytes (newLookup b n)
   unfolding rest

@@ -1,7 +1,7 @@
 -- The rows of an object whose links all stand at slots lead, in their order, where its slots do. Assumes nothing.
 use Prim.Native.Nat.{ℕ, zero, suc, _+_, _-_, _*_, _<_, _≤_}
-use mathlib.Core.Path.{_≡_, refl, sym, ap, ap₂, subst, _∙_}
-use mathlib.Core.Bool.{Bool, true, _&&_, _||_}
+use mathlib.Core.Path.{_≡_, refl, sym, ap, ap₂, _∙_}
+use mathlib.Core.Bool.{true, _&&_, _||_}
 use mathlib.Core.List.{List, [], _∷_, _++_, append-nil}
 use mathlib.Core.Logic.{⊎-elim}
 use mathlib.Core.Option.{Option, some, none}
@@ -13,7 +13,7 @@ use borrow.Author.Tests.{le-leb, lt-ltb, le-ltb, leb-true, ltb-true, eq-eqb, eqb
 use Rattle.folds.specs.Folds.{flat, upto}
 use Rattle.folds.specs.Lists.{among}
 use Rattle.folds.proofs.Tests.{either, and-both, and-intro}
-use Rattle.folds.proofs.Folds.{flat-none, flat-more}
+use Rattle.folds.proofs.Folds.{flat-more}
 use Rattle.ot_layouts.specs.Lookup.{
   isOneOf,
   lookupCount,
@@ -144,7 +144,10 @@ module _ (s : Store) (fit : Fits s) (p first after : ℕ) (rows : OwnRows s p fi
         record {
           low = omega (arith, w .low);
           high = omega arith;
-          below = λ k x y. ⊎-elim (λ (d : k < lo). omega (arith, w .below k x d)) (λ (d : lo ≤ k). let z : k ≡ lo = omega arith in rw z (omega arith)) (either k lo);
+          below = λ k x y. ⊎-elim
+              (λ (d : k < lo). omega (arith, w .below k x d))
+              (λ (d : lo ≤ k). let z : k ≡ lo = omega arith in rw z (omega arith))
+              (either k lo);
           above = λ k x y. beyond k x y (row-slot k (omega (arith, w .low)) y);
           linked =
               linked-more m ∙ ap₂ (λ (xs : List ℕ) (o : Option ℕ). xs ++ linkedIn (o ∷ [])) (w .linked) here

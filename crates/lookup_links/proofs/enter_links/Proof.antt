@@ -1,6 +1,5 @@
 -- `lookup_links::enter_links` meets its contract: the links of the new lookups before m are written. Assumes nothing.
 use Prim.Native.Nat.{_-_}
-use native.Mathlib.Omega.{arith}
 use lib.ListN.{length}
 use borrow.Author.Needs.{needs}
 use Rattle.lookup_links.proofs.Entering.{AllEntered, all-start, all-stop, lookup-ready, all-turn}

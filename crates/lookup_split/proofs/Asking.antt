@@ -1,0 +1,48 @@
+-- 1, 2 of the table and of the list, and 9: one after another. Assumes nothing.
+use Prim.Native.Nat.{ℕ, _≤_, _<_}
+use mathlib.Core.Path.{_≡_, sym, _∙_}
+use mathlib.Core.Bool.{Bool, true, false, not}
+use borrow.Author.Tests.{le-leb, lt-leb, not-true, not-false}
+use Rattle.store_rules.specs.Store.{Store, sound}
+use Rattle.call_rules.specs.declared.Answer.the-variants.{Unsound, NoTable, BadList}
+use Rattle.call_rules.specs.Answers.{firstCase}
+use Rattle.lookup_rules.specs.Listed.{badList}
+use Rattle.lookup_rules.specs.Calls.{listCases}
+use Rattle.lookup_checks.specs.Objects.{InUse}
+use Rattle.lookup_split.specs.declared.deciding.Listing.the-variants.{Good, Settled}
+use Rattle.lookup_split.specs.Deciding.{listingAs}
+
+module _ (s : Store) (l t : ℕ) {b : Bool} (e : b ≡ sound s) where
+  pub unsound : not b ≡ true → listingAs (Settled Unsound) ≡ firstCase (listCases s l t)
+  unfolding listCases firstCase
+  unsound h = rw (← e, h)
+
+  module _ (h : not b ≡ false) where
+    pub sounds : sound s ≡ true
+    sounds = sym e ∙ not-false b h
+
+    pub no-table : s .objectCount ≤ t → listingAs (Settled NoTable) ≡ firstCase (listCases s l t)
+    unfolding listCases firstCase
+    no-table out = rw (sounds, le-leb (s .objectCount) t out)
+
+    module _ (table-in : t < s .objectCount) where
+      pub no-list : s .objectCount ≤ l → listingAs (Settled NoTable) ≡ firstCase (listCases s l t)
+      unfolding listCases firstCase
+      no-list out = rw (sounds, lt-leb (s .objectCount) t table-in, le-leb (s .objectCount) l out)
+
+      module _ (list-in : l < s .objectCount) where
+        pub list-used : InUse s l
+        list-used = record { sounds = sounds; used = list-in }
+
+        module _ {good : Bool} (f : good ≡ not (badList s l t)) where
+          pub bad-list : not good ≡ true → listingAs (Settled BadList) ≡ firstCase (listCases s l t)
+          unfolding listCases firstCase
+          bad-list g =
+              let bad : badList s l t ≡ true = not-false (badList s l t) (sym f ∙ not-true good g) in
+              rw (sounds, lt-leb (s .objectCount) t table-in, lt-leb (s .objectCount) l list-in, bad)
+
+          pub good-list : not good ≡ false → listingAs Good ≡ firstCase (listCases s l t)
+          unfolding listCases firstCase
+          good-list g =
+              let fine : badList s l t ≡ false = not-true (badList s l t) (sym f ∙ not-false good g) in
+              rw (sounds, lt-leb (s .objectCount) t table-in, lt-leb (s .objectCount) l list-in, fine)

@@ -1,0 +1,4 @@
+pub mod Asking
+pub mod ListDecided
+pub mod AllLinks
+pub mod Entered
