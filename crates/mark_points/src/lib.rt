@@ -50,6 +50,7 @@ pub fn compute_split_points(
         from: 0,
         partial: 4,
     };
+    let mut held = [0u32; 4096];
     let mut class: u16 = 0;
     while class < info.classes {
         columns = weigh_class(
@@ -62,6 +63,7 @@ pub fn compute_split_points(
             class,
             places,
             classes,
+            &mut held,
             walk,
             cuts,
         );
@@ -81,6 +83,7 @@ fn weigh_class(
     class: u16,
     places: &[u16],
     classes: &[u16],
+    held: &mut [u32; 4096],
     walk: &mut [u32],
     cuts: &mut [u16],
 ) -> Columns
@@ -112,6 +115,7 @@ fn weigh_class(
         class,
         &places[from..to],
         epoch,
+        held,
         walk,
     );
     let cost = 2 * (info.bases as u64) + 4 * marks + size;

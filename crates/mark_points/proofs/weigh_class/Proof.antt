@@ -26,7 +26,7 @@ part-class-size-end c =
 
 class-size-requires : tie.Need-class-size-requires
 class-size-requires c κs =
-    let s = c .before .before .before .before .before .before .before .before .before .before .before .before in
+    let s = c .before .before .before .before .before .before .before .before .before .before .before .before .before in
     let v = s .pre .1 .1 .3 in
     let x = s .args .info in
     let early : x .epoch + s .args .columns .filling .cuts < 2147483648 = omega (arith, v .described .epochs, v .filled .few, s .pre .1 .0) in (
@@ -36,10 +36,10 @@ class-size-requires c κs =
 
 -- the function's start, where the class ends and what its anchors reach, from behind the measuring
 abbrev begin : tie.After-class-size → tie.Start
-begin m = m .before .before .before .before .before .before .before .before .before .before .before .before .before
+begin m = m .before .before .before .before .before .before .before .before .before .before .before .before .before .before
 
 abbrev at-end : tie.After-class-size → tie.After-class-end
-at-end m = m .before .before .before .before .before
+at-end m = m .before .before .before .before .before .before
 
 marks : (m : tie.After-class-size) → (at-end m .class-end .result ≤ 4194304)
 marks m = marks-few (begin m .pre .1 .1 .3) (begin m .pre .1 .0) (at-end m .class-end .ensures) .2
