@@ -28,8 +28,8 @@ use Rattle.lookup_rules.proofs.Redirection.{redirect-other}
 use Rattle.promise_calls.specs.Unchanged.{Octets}
 use Rattle.promise_pairs.specs.Exactly.{Checked}
 use Rattle.promise_pairs.proofs.WrittenAfresh.{kept-reads}
-use Rattle.promise_pairs.proofs.SameReach.{at-slots, still-acyclic}
-use Rattle.promise_pairs.proofs.SplitLinks.{NewOrOwn, row-leads}
+use Rattle.pair_after.proofs.SameReach.{at-slots, still-acyclic}
+use Rattle.pair_after.proofs.SplitLinks.{NewOrOwn, row-leads}
 use Rattle.promise_pairs.proofs.AgainNothing.{nothing-to-split, no-cut}
 use Rattle.promise_lookups.specs.Demands.{AgainNoEntry}
 use Rattle.promise_lookups.proofs.Answered.{store-entered}

@@ -17,7 +17,8 @@ use Rattle.lookup_rules.specs.Written.{newSlots, newLookups, linksNeeded}
 use Rattle.promise_pairs.specs.Exactly.{MaySplit}
 use Rattle.promise_pairs.specs.Demands.{Splits}
 use Rattle.promise_pairs.proofs.Answered.{may-splits}
-use Rattle.promise_pairs.proofs.Ready.{Ready, splits-ready}
+use Rattle.pair_after.proofs.Ready.{Ready}
+use Rattle.promise_pairs.proofs.GoesAhead.{splits-ready}
 use Rattle.promise_lookups.specs.Demands.{Enters}
 use Rattle.promise_lookups.specs.Exactly.{MayEnter}
 use Rattle.promise_lookups.proofs.Answered.{enters-may}

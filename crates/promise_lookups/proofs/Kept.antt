@@ -23,11 +23,11 @@ use Rattle.lookup_rules.specs.Listed.{rewritten}
 use Rattle.lookup_rules.specs.Written.{newSlots, redirect, lookupStore}
 use Rattle.lookup_rules.specs.Applied.{reaches}
 use Rattle.lookup_rules.proofs.Redirection.{child-stays}
-use Rattle.promise_pairs.proofs.Ready.{new-used}
-use Rattle.promise_pairs.proofs.NewLinks.{others-child}
-use Rattle.promise_pairs.proofs.NewBytes as split
-use Rattle.promise_pairs.proofs.StaysSound.{sound-then}
-use Rattle.promise_pairs.proofs.SplitLinks.{NewOrOwn, child-leads}
+use Rattle.pair_after.proofs.Ready.{new-used}
+use Rattle.pair_after.proofs.NewLinks.{others-child}
+use Rattle.pair_after.proofs.NewBytes as split
+use Rattle.pair_after.proofs.SoundThen.{sound-then}
+use Rattle.pair_after.proofs.SplitLinks.{NewOrOwn, child-leads}
 use Rattle.promise_lookups.specs.Demands.{tablesNew, leadThen, numberThen, OthersRedirected, ObjectsAsSplit, TablesAsSplit, LookupsWritten, ListLeads}
 use Rattle.promise_lookups.proofs.Answered.{store-entered}
 use Rattle.promise_lookups.proofs.Entering.{Entering, entering}

@@ -35,11 +35,11 @@ use Rattle.lookup_rules.proofs.Redirection.{redirect-either, redirect-other}
 use Rattle.lookup_rules.proofs.NewLookup.{new-type}
 use Rattle.promise_calls.specs.Unchanged.{Octets}
 use Rattle.promise_pairs.specs.Demands.{Splits, resulting, storeThen}
-use Rattle.promise_pairs.proofs.Ready.{store-written}
+use Rattle.promise_pairs.proofs.GoesAhead.{store-written}
 use Rattle.promise_pairs.proofs.Calls.{read-among}
 use Rattle.promise_pairs.proofs.PairsKept.{pairs-kept}
 use Rattle.promise_pairs.proofs.ReadingsKept.{readings-kept}
-use Rattle.promise_pairs.proofs.SplitLinks.{NewOrOwn}
+use Rattle.pair_after.proofs.SplitLinks.{NewOrOwn}
 use Rattle.promise_lookups.specs.Demands.{LookupsKept, NoOtherReaches}
 use Rattle.promise_lookups.proofs.Answered.{store-entered}
 use Rattle.promise_lookups.proofs.Entering.{Entering, entering, splits}

@@ -35,9 +35,9 @@ use Rattle.lookup_rules.specs.Written.{
 use Rattle.lookup_rules.proofs.Redirection.{among-place, lookup-redirected}
 use Rattle.lookup_rules.proofs.NewLookup.{exact-long, new-count}
 use Rattle.lookup_rules.proofs.Counts.{all-needed}
-use Rattle.promise_pairs.proofs.Ready.{objects-then}
-use Rattle.promise_pairs.proofs.StaysSound.{fits-then}
-use Rattle.promise_pairs.proofs.Taken.{bytes-then, links-then, bytes-length, rows-length}
+use Rattle.pair_after.proofs.Ready.{objects-then}
+use Rattle.pair_after.proofs.SoundThen.{fits-then}
+use Rattle.pair_after.proofs.Taken.{bytes-then, links-then, bytes-length, rows-length}
 use Rattle.promise_lookups.proofs.Entering.{Entering}
 use Rattle.promise_lookups.proofs.Apart.{Named, each-named}
 

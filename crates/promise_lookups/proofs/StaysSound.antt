@@ -29,9 +29,10 @@ use Rattle.lookup_rules.proofs.Slots.{each-linked, among-linked, each-entered}
 use Rattle.lookup_rules.proofs.Redirection.{redirect-below, climb-redirected}
 use Rattle.lookup_rules.proofs.NewLookup.{new-long, new-octets}
 use Rattle.promise_calls.specs.Unchanged.{Octets}
-use Rattle.promise_pairs.proofs.Ready.{objects-then, many-new, new-used, store-written}
+use Rattle.pair_after.proofs.Ready.{objects-then, many-new, new-used}
+use Rattle.promise_pairs.proofs.GoesAhead.{store-written}
 use Rattle.promise_pairs.proofs.StaysOctets.{stays-octets}
-use Rattle.promise_pairs.proofs.Taken.{bytes-then, links-length}
+use Rattle.pair_after.proofs.Taken.{bytes-then, links-length}
 use Rattle.promise_lookups.specs.Demands.{StaysSoundEntered, StaysOctetsEntered, EntersAsNeeded}
 use Rattle.promise_lookups.proofs.Answered.{store-entered}
 use Rattle.promise_lookups.proofs.Entering.{Entering, entering, splits}

@@ -16,7 +16,7 @@ use Rattle.pair_rules.specs.Written.{splitStore, perTable}
 use Rattle.pair_rules.proofs.SameReading.{refusal-same}
 use Rattle.lookup_rules.specs.Written.{lookupStore}
 use Rattle.promise_pairs.specs.Demands.{Afresh, AllAfresh}
-use Rattle.promise_pairs.proofs.Ready.{store-written}
+use Rattle.promise_pairs.proofs.GoesAhead.{store-written}
 use Rattle.promise_pairs.proofs.WrittenAfresh.{written-afresh}
 use Rattle.promise_lookups.specs.Demands.{EnteredAfresh}
 use Rattle.promise_lookups.proofs.Answered.{store-entered}

@@ -42,12 +42,13 @@ use Rattle.pair_rules.proofs.Checks.{entries-ascend, cover-read}
 use Rattle.promise_pairs.specs.Demands.{AgainNothing}
 use Rattle.promise_pairs.specs.Exactly.{Checked}
 use Rattle.promise_pairs.proofs.Exactly.{checked-no-case}
-use Rattle.promise_pairs.proofs.Ready.{Ready, first-cut, splits-ready, store-written}
-use Rattle.promise_pairs.proofs.View.{View, view-shape, view-test, view-entries}
-use Rattle.promise_pairs.proofs.KeptAndNew.{view-kept}
-use Rattle.promise_pairs.proofs.StaysSound.{fits-then}
+use Rattle.pair_after.proofs.Ready.{Ready, first-cut}
+use Rattle.promise_pairs.proofs.GoesAhead.{splits-ready, store-written}
+use Rattle.pair_after.proofs.View.{View, view-shape, view-test, view-entries}
+use Rattle.pair_after.proofs.KeptAndNew.{view-kept}
+use Rattle.pair_after.proofs.SoundThen.{fits-then}
 use Rattle.promise_pairs.proofs.WrittenAfresh.{kept-reads}
-use Rattle.promise_pairs.proofs.SameReach.{size-same, at-slots, still-acyclic}
+use Rattle.pair_after.proofs.SameReach.{size-same, at-slots, still-acyclic}
 
 -- ---- a call that finds nothing to split
 pub nothing-to-split : (s : Store) (t : ℕ) (w : Scratch) (list : List ℕ) → Checked s t w → cutPlaces s t ≡ []

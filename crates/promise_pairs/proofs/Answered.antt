@@ -24,7 +24,7 @@ use Rattle.promise_calls.proofs.Given.{answerOf, gives-first, settle-gives, exa
 use Rattle.promise_pairs.specs.Demands.{Splits}
 use Rattle.promise_pairs.specs.Exactly.{MaySplit, MayPlan, SplitsExactly, PlansExactly, PairsExactly, PairAnswersExactly}
 use Rattle.promise_pairs.proofs.Exactly.{no-case-splits, splits-no-case, no-case-plans, plans-no-case}
-use Rattle.promise_pairs.proofs.Ready.{splitAhead}
+use Rattle.promise_pairs.proofs.GoesAhead.{splitAhead}
 use Rattle.promise_pairs.proofs.Refusals.{planAhead}
 
 -- ---- a split

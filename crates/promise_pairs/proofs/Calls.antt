@@ -27,7 +27,7 @@ use Rattle.promise_pairs.proofs.Refusals.{as-many-as-cuts}
 use Rattle.promise_calls.proofs.Keeps.{call-keeps}
 use Rattle.promise_pairs.specs.Exactly.{MaySplit, MayPlan}
 use Rattle.promise_pairs.proofs.Exactly.{no-case-splits, splits-no-case, no-case-plans, plans-no-case}
-use Rattle.promise_pairs.proofs.Ready.{splitAhead, store-written}
+use Rattle.promise_pairs.proofs.GoesAhead.{splitAhead, store-written}
 use Rattle.promise_pairs.proofs.Refusals.{planAhead}
 use Rattle.promise_pairs.proofs.Answered.{may-splits, may-plans, may-pair, pair-gives}
 use Rattle.pair_rules.specs.Reads.{Reads}

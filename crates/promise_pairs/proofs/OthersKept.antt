@@ -1,9 +1,9 @@
 -- Every other object in use keeps its place, its bytes and its links. Assumes nothing.
 use Rattle.pair_rules.specs.Table.{cutPlaces}
 use Rattle.promise_pairs.specs.Demands.{OthersKept}
-use Rattle.promise_pairs.proofs.Ready.{splits-ready, store-written}
-use Rattle.promise_pairs.proofs.NewLinks.{others-child}
-use Rattle.promise_pairs.proofs.NewBytes.{old-head, other-tail, other-bytes}
+use Rattle.promise_pairs.proofs.GoesAhead.{splits-ready, store-written}
+use Rattle.pair_after.proofs.NewLinks.{others-child}
+use Rattle.pair_after.proofs.NewBytes.{old-head, other-tail, other-bytes}
 
 -- "Every other old object keeps its bytes and links", and its place
 pub others-kept : OthersKept

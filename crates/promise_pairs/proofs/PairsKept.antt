@@ -24,10 +24,11 @@ use Rattle.cut_rules.proofs.CutPlaces.{loAt, ranges-apart, covering}
 use Rattle.pair_rules.proofs.PairByItem.{entryOf, lies, pair-found, pair-item}
 use Rattle.pair_rules.proofs.Checks.{entries-ascend}
 use Rattle.promise_pairs.specs.Demands.{PairsKept}
-use Rattle.promise_pairs.proofs.Ready.{Ready, splits-ready, store-written}
-use Rattle.promise_pairs.proofs.View.{View}
-use Rattle.promise_pairs.proofs.KeptAndNew.{view-kept, view-new, child-kept}
-use Rattle.promise_pairs.proofs.ViewPairs.{pair-view}
+use Rattle.pair_after.proofs.Ready.{Ready}
+use Rattle.promise_pairs.proofs.GoesAhead.{splits-ready, store-written}
+use Rattle.pair_after.proofs.View.{View}
+use Rattle.pair_after.proofs.KeptAndNew.{view-kept, view-new, child-kept}
+use Rattle.pair_after.proofs.ViewPairs.{pair-view}
 
 no-found : noPair .found ≡ false
 unfolding noPair

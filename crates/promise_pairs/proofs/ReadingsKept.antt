@@ -18,7 +18,7 @@ use Rattle.call_rules.specs.Scratch.{Scratch}
 use Rattle.pair_rules.proofs.Checks.{reads-no-case}
 use Rattle.promise_calls.specs.Unchanged.{Octets}
 use Rattle.promise_pairs.specs.Demands.{Splits, resulting, storeThen, ReadingsKept}
-use Rattle.promise_pairs.proofs.Ready.{splits-ready}
+use Rattle.promise_pairs.proofs.GoesAhead.{splits-ready}
 use Rattle.promise_pairs.proofs.WrittenAfresh.{written-afresh}
 
 takes : (s : Store) (t a b : ℕ) → firstCase (readCases s t) ≡ none → pairCall s t a b ≡ reported 0 (pairOf s t a b)

@@ -25,7 +25,7 @@ use Rattle.promise_pairs.specs.Demands.{Refusals, NoCutNothing, OtherFor
 use Rattle.promise_calls.proofs.Settled.{settled, stands, refuses, zeroed, plan-none, plan-keeps}
 use Rattle.promise_pairs.specs.Exactly.{MaySplit}
 use Rattle.promise_pairs.proofs.Exactly.{no-case-splits}
-use Rattle.promise_pairs.proofs.Ready.{splits-ready, splitAhead}
+use Rattle.promise_pairs.proofs.GoesAhead.{splits-ready, splitAhead}
 
 -- ---- a split or a plan
 

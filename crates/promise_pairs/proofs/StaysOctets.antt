@@ -34,8 +34,9 @@ use Rattle.pair_rules.proofs.NamedRuns.{GivenBy, range-given, range-runs-few}
 use Rattle.pair_rules.proofs.NewTable.{bytes-new-table}
 use Rattle.promise_calls.specs.Unchanged.{Octets}
 use Rattle.promise_pairs.specs.Demands.{StaysOctets}
-use Rattle.promise_pairs.proofs.Ready.{Ready, first-cut, splits-ready, store-written}
-use Rattle.promise_pairs.proofs.NewBytes.{objectsOf, shortened, room, count-inside}
+use Rattle.pair_after.proofs.Ready.{Ready, first-cut}
+use Rattle.promise_pairs.proofs.GoesAhead.{splits-ready, store-written}
+use Rattle.pair_after.proofs.NewBytes.{objectsOf, shortened, room, count-inside}
 
 module _ (s : Store) (t : ℕ) (cs : List ℕ) (g : Ready s t cs) (octets : Octets s) where
   abbrev sh : Shape

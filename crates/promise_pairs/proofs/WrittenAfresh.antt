@@ -36,11 +36,12 @@ use Rattle.pair_rules.proofs.Checks.{entries-ascend, entries-under, class-read,
 use Rattle.pair_rules.proofs.NewCounts.{per-two}
 use Rattle.promise_calls.specs.Unchanged.{Octets}
 use Rattle.promise_pairs.specs.Demands.{Afresh, AllAfresh, WrittenAfresh}
-use Rattle.promise_pairs.proofs.Ready.{Ready, objects-then, new-used, splits-ready, store-written}
-use Rattle.promise_pairs.proofs.NewBytes.{kept-bytes}
-use Rattle.promise_pairs.proofs.View.{View, renumbered, within-up, view-test, renumbered-up, view-glyphs, view-format, view-shape, view-class}
-use Rattle.promise_pairs.proofs.KeptAndNew.{view-kept, view-new, bytes-new}
-use Rattle.promise_pairs.proofs.StaysSound.{sound-then}
+use Rattle.pair_after.proofs.Ready.{Ready, objects-then, new-used}
+use Rattle.promise_pairs.proofs.GoesAhead.{splits-ready, store-written}
+use Rattle.pair_after.proofs.NewBytes.{kept-bytes}
+use Rattle.pair_after.proofs.View.{View, renumbered, within-up, view-test, renumbered-up, view-glyphs, view-format, view-shape, view-class}
+use Rattle.pair_after.proofs.KeptAndNew.{view-kept, view-new, bytes-new}
+use Rattle.pair_after.proofs.SoundThen.{sound-then}
 
 -- ---- a view is a table written afresh
 

@@ -1,9 +1,8 @@
 -- A split that goes ahead: what its checks give of the store, the table and its cuts. Assumes nothing.
 use Prim.Native.Nat.{ℕ, _+_, _*_, _<_, _≤_}
-use mathlib.Core.Path.{_≡_, sym, ap, _∙_}
+use mathlib.Core.Path.{_≡_, sym, _∙_}
 use mathlib.Core.Bool.{true, false}
 use mathlib.Core.List.{List}
-use mathlib.Core.Option.{Option}
 use native.Mathlib.Omega.{arith}
 use native.Mathlib.Nat.{mul-le-mul-left, mul-add}
 use lib.ListN.{length}
@@ -11,25 +10,16 @@ use Rattle.folds.specs.Lists.{join}
 use Rattle.ot_layouts.specs.PairPos.{itemAt}
 use Rattle.store_rules.specs.Store.{perLink, Store, sizeOf, bytesOf, objectRoom, byteRoom, linkRoom}
 use Rattle.store_rules.specs.Reach.{onCycle}
-use Rattle.pair_rules.specs.Table.{shape, allAtSlots, cutPlaces, entriesOf}
-use Rattle.pair_rules.specs.Written.{newOf, needLinks, needObjects, splitStore, newTables, storeAfter, newLinks, perTable, keptTable}
+use Rattle.pair_rules.specs.Table.{shape, allAtSlots, entriesOf}
+use Rattle.pair_rules.specs.Written.{newOf, needLinks, needObjects, splitStore, storeAfter, newLinks, perTable, keptTable}
 use Rattle.cut_rules.specs.Ranges.{from}
-use Rattle.call_rules.specs.Scratch.{Scratch}
-use Rattle.call_rules.specs.Answers.{firstCase}
-use Rattle.pair_rules.specs.Calls.{splitCases, splitCall}
-use Rattle.call_rules.specs.Outcomes.{done, settle, Outcome}
 use Rattle.store_rules.proofs.Sound.{Fits, sound-fits, size-bytes}
 use Rattle.store_rules.specs.Appended.{newNumber, withBytes, withTail}
 use Rattle.store_rules.proofs.Appended as behind
 use Rattle.cut_rules.specs.Places.{Places}
-use Rattle.pair_rules.proofs.TableCuts.{table-cuts}
 use Rattle.pair_rules.specs.Reads.{Reads}
 use Rattle.pair_rules.proofs.Checks.{Parts, parts-read}
 use Rattle.pair_rules.proofs.NewCounts.{new-many}
-use Rattle.promise_calls.proofs.Settled.{went}
-use Rattle.promise_pairs.specs.Exactly.{MaySplit}
-use Rattle.promise_pairs.proofs.Exactly.{no-case-splits}
-use Rattle.promise_pairs.specs.Demands.{Splits, storeThen}
 
 -- table t of s is ready to be split at cs
 pub record Ready (s : Store) (t : ℕ) (cs : List ℕ) : Type 0 where
@@ -52,11 +42,14 @@ pub record Ready (s : Store) (t : ℕ) (cs : List ℕ) : Type 0 where
   pub linksRoom : perLink * (s .linkCount + needLinks (shape s t) (length cs)) ≤ length (s .links)
   pub linksMost : s .linkCount + needLinks (shape s t) (length cs) ≤ 262144
 
-ready : (s : Store) (t : ℕ) (w : Scratch) (list : List ℕ) → MaySplit s t w list → Ready s t (cutPlaces s t)
+-- what is asked before a split, and room for what it needs, make it ready
+pub ready : (s : Store) (t : ℕ) (cs : List ℕ) → Reads s t → allAtSlots s t ≡ true → onCycle s t ≡ false → Places (shape s t .count) cs → 0 < length cs
+    → s .objectCount + needObjects (shape s t) (length cs) ≤ objectRoom (length (s .objects))
+    → s .linkCount + needLinks (shape s t) (length cs) ≤ linkRoom (length (s .links))
+    → s .byteCount + length (join (newOf s t cs)) ≤ byteRoom (length (s .bytes))
+    → Ready s t cs
 unfolding objectRoom byteRoom linkRoom
-ready s t w list m =
-    let cs = cutPlaces s t in
-    let r = m .checked .reads in
+ready s t cs r slots acyclic cuts some o l b =
     let f = sound-fits s (r .sounds) in
     let many : length (newOf s t cs) ≡ needObjects (shape s t) (length cs) = new-many (shape s t) (bytesOf s t) (entriesOf s t) cs in
     record {
@@ -64,34 +57,17 @@ ready s t w list m =
       fit = f;
       size = sym (size-bytes s f t (r .used)) ∙ r .exactly;
       parts = parts-read s t (r .parts);
-      atSlots = m .checked .atSlots;
-      acyclic = m .checked .acyclic;
-      cuts = table-cuts s t;
-      someCut = m .cuts;
-      objectsRoom = omega (arith, m .objects);
-      objectsMost = omega (arith, m .objects);
-      bytesRoom = omega (arith, m .bytes);
-      bytesMost = omega (arith, m .bytes);
-      linksRoom = omega (arith, m .links);
-      linksMost = omega (arith, m .links);
+      atSlots = slots;
+      acyclic = acyclic;
+      cuts = cuts;
+      someCut = some;
+      objectsRoom = omega arith;
+      objectsMost = omega arith;
+      bytesRoom = omega arith;
+      bytesMost = omega arith;
+      linksRoom = omega arith;
+      linksMost = omega arith;
     }
-
--- what a split leaves that goes ahead
-abbrev pub splitAhead : Store → ℕ → Scratch → List ℕ → Outcome
-splitAhead s t w list = done (splitStore s t (cutPlaces s t)) (newTables s t (cutPlaces s t)) list w
-
--- a call that splits goes ahead, and leaves the store that is written
-pub splits-ready : (s : Store) (t : ℕ) (w : Scratch) (list : List ℕ) → Splits s t w list
-    → Ready s t (cutPlaces s t) × (splitCall s t w list ≡ splitAhead s t w list)
-unfolding splitCall settle
-splits-ready s t w list p =
-    let none-applies = went s w list (splitAhead s t w list) (firstCase (splitCases s t w list)) (p .cuts) in
-    (ready s t w list (no-case-splits s t w list none-applies), ap (λ (c : Option ℕ). settle c s list w (splitAhead s t w list)) none-applies)
-
--- the store at exit is the written one
-pub store-written : (s : Store) (t : ℕ) (w : Scratch) (list : List ℕ) → Splits s t w list → storeThen s t w list ≡ splitStore s t (cutPlaces s t)
-unfolding done
-store-written s t w list p = ap (λ (o : Outcome). o .store) (splits-ready s t w list p .1)
 
 module _ (s : Store) (t : ℕ) (cs : List ℕ) (g : Ready s t cs) where
   -- the first cut is an item, so the kept table is no longer than the old one

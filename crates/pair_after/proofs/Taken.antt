@@ -15,9 +15,9 @@ use Rattle.store_rules.proofs.LinkRows.{rows-numbers}
 use Rattle.cut_rules.specs.Ranges.{from}
 use Rattle.pair_rules.specs.Table.{shape}
 use Rattle.pair_rules.specs.Written.{splitStore, storeAfter, keptTable, newLinks, newOf, needLinks}
-use Rattle.promise_pairs.proofs.Ready.{Ready}
-use Rattle.promise_pairs.proofs.NewBytes.{counted, shortened, counted-length, row-inside, room}
-use Rattle.promise_pairs.proofs.LinksCounted.{many-links}
+use Rattle.pair_after.proofs.Ready.{Ready}
+use Rattle.pair_after.proofs.NewBytes.{counted, shortened, counted-length, row-inside, room}
+use Rattle.pair_after.proofs.LinksCounted.{many-links}
 
 module _ (s : Store) (t : ℕ) (cs : List ℕ) (g : Ready s t cs) where
   abbrev s′ : Store

@@ -30,10 +30,10 @@ use Rattle.store_rules.proofs.Lookups.{child-used, child-other, mapped, mapped-
 use Rattle.store_rules.specs.Appended.{newNumber}
 use Rattle.pair_rules.proofs.NewCounts.{per-two}
 use Rattle.pair_rules.proofs.NewTable.{new-long, new-count, new-same, new-wide, new-rows}
-use Rattle.promise_pairs.proofs.Ready.{Ready, first-cut}
-use Rattle.promise_pairs.proofs.NewLinks.{others-child, new-item, new-cover, new-class1, new-class2, kept-child}
-use Rattle.promise_pairs.proofs.NewBytes.{table-object, kept-bytes, kept-object, other-bytes}
-use Rattle.promise_pairs.proofs.View.{View}
+use Rattle.pair_after.proofs.Ready.{Ready, first-cut}
+use Rattle.pair_after.proofs.NewLinks.{others-child, new-item, new-cover, new-class1, new-class2, kept-child}
+use Rattle.pair_after.proofs.NewBytes.{table-object, kept-bytes, kept-object, other-bytes}
+use Rattle.pair_after.proofs.View.{View}
 
 module _ (s : Store) (t : ℕ) (cs : List ℕ) (g : Ready s t cs) where
   abbrev sh : Shape

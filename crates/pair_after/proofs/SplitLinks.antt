@@ -26,8 +26,8 @@ use Rattle.cut_rules.specs.Ranges.{from, to}
 use Rattle.pair_rules.specs.Table.{shape, ofItems}
 use Rattle.pair_rules.specs.Written.{headLinks, moved, tableLinks, perTable, splitStore}
 use Rattle.pair_rules.proofs.ItemLinks.{items-from}
-use Rattle.promise_pairs.proofs.Ready.{Ready}
-use Rattle.promise_pairs.proofs.NewLinks.{piece, stayed, stays, links-then}
+use Rattle.pair_after.proofs.Ready.{Ready}
+use Rattle.pair_after.proofs.NewLinks.{piece, stayed, stays, links-then}
 
 -- c is a new object, or t reached it
 abbrev pub NewOrOwn : Store → ℕ → ℕ → Type 0

@@ -27,7 +27,7 @@ use Rattle.pair_rules.specs.Table.{shape, entriesOf}
 use Rattle.pair_rules.specs.Pairs.{numberOf, deviceNumber, pairAt, Spot, pairOf, noPair}
 use Rattle.store_rules.proofs.Lookups.{linked-some}
 use Rattle.pair_rules.proofs.PairByItem.{rowSpot, setSpot, itemSpot, lies, entryOf, spot-by-item, entry-ranged, reduce}
-use Rattle.promise_pairs.proofs.View.{View, view-value1, view-value2, view-shape, view-columns, view-record, view-test, view-entries}
+use Rattle.pair_after.proofs.View.{View, view-value1, view-value2, view-shape, view-columns, view-record, view-test, view-entries}
 
 -- ---- rows, shifted
 

@@ -21,7 +21,7 @@ use Rattle.store_rules.proofs.Sound.{size-bytes}
 use Rattle.store_rules.proofs.Changed.{other-length, other-here, other-elsewhere}
 use Rattle.store_rules.proofs.Changed.{short-rows, short-head, short-tail, short-other, short-here, short-elsewhere, short-fits}
 use Rattle.store_rules.proofs.Appended as behind
-use Rattle.promise_pairs.proofs.Ready.{Ready, many-new, first-cut}
+use Rattle.pair_after.proofs.Ready.{Ready, many-new, first-cut}
 
 module _ (s : Store) (t : ℕ) (cs : List ℕ) (g : Ready s t cs) where
   abbrev sh : Shape

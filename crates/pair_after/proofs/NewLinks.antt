@@ -25,7 +25,7 @@ use Rattle.store_rules.specs.Header.{ownChild, kept}
 use Rattle.store_rules.proofs.Header.{kept-other, kept-parent}
 use Rattle.pair_rules.proofs.NewCounts.{tables-apart}
 use Rattle.pair_rules.proofs.TableLinks.{table-none, head-cover, head-class1, head-class2, past-header, same-hit, moved-child}
-use Rattle.promise_pairs.proofs.Ready.{Ready}
+use Rattle.pair_after.proofs.Ready.{Ready}
 
 -- a link stays that is not of an item past the first cut
 abbrev pub stays : Store → ℕ → List ℕ → Link → Bool

@@ -20,8 +20,8 @@ use Rattle.store_rules.specs.Header.{kept}
 use Rattle.cut_rules.proofs.CutPlaces.{range-high, cuts-rise}
 use Rattle.pair_rules.proofs.ItemLinks.{items-none, items-meet}
 use Rattle.pair_rules.proofs.NewCounts.{heads-many}
-use Rattle.promise_pairs.proofs.Ready.{Ready}
-use Rattle.promise_pairs.proofs.NewLinks.{piece, stayed, stays}
+use Rattle.pair_after.proofs.Ready.{Ready}
+use Rattle.pair_after.proofs.NewLinks.{piece, stayed, stays}
 
 module _ (s : Store) (t : ℕ) (cs : List ℕ) (g : Ready s t cs) where
   abbrev sh : Shape

@@ -33,12 +33,12 @@ use Rattle.pair_rules.proofs.NewCounts.{per-two}
 use Rattle.pair_rules.proofs.TableLinks.{kept-item}
 use Rattle.store_rules.specs.Header.{kept}
 use Rattle.store_rules.proofs.Header.{header-each, kept-parent, kept-position, kept-any, kept-other}
-use Rattle.promise_pairs.proofs.Ready.{Ready, objects-then}
-use Rattle.promise_pairs.proofs.NewLinks.{stays, piece, stayed, links-then}
-use Rattle.promise_pairs.proofs.NewBytes.{other-size}
-use Rattle.promise_pairs.proofs.View.{View, view-shape}
-use Rattle.promise_pairs.proofs.KeptAndNew.{view-kept}
-use Rattle.promise_pairs.proofs.StaysSound.{fits-then}
+use Rattle.pair_after.proofs.Ready.{Ready, objects-then}
+use Rattle.pair_after.proofs.NewLinks.{stays, piece, stayed, links-then}
+use Rattle.pair_after.proofs.NewBytes.{other-size}
+use Rattle.pair_after.proofs.View.{View, view-shape}
+use Rattle.pair_after.proofs.KeptAndNew.{view-kept}
+use Rattle.pair_after.proofs.SoundThen.{fits-then}
 
 module _ (s : Store) (t : ℕ) (cs : List ℕ) (g : Ready s t cs) where
   abbrev sh : Shape

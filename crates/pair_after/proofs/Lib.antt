@@ -1,0 +1,11 @@
+pub mod Ready
+pub mod NewLinks
+pub mod NewBytes
+pub mod View
+pub mod KeptAndNew
+pub mod ViewPairs
+pub mod LinksCounted
+pub mod Taken
+pub mod SoundThen
+pub mod SameReach
+pub mod SplitLinks
