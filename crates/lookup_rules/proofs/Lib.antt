@@ -1,5 +1,10 @@
 pub mod Pinned
 pub mod Slots
+pub mod Rows
+pub mod Once
+pub mod Listed
+pub mod Filled
 pub mod Redirection
+pub mod Marks
 pub mod NewLookup
 pub mod Counts

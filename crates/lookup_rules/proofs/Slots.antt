@@ -101,6 +101,17 @@ among-slots s p a n q c h e =
     let f : ℕ → Option ℕ = λ i. childAt s p (a + 2 * i) in
     among-linked (upto f n) i c (omega (arith, length-upto f n)) (upto-at f n i none l ∙ ap (childAt s p) (sym z) ∙ e)
 
+-- one leads to t where t is among them
+pub leads-among : (t : ℕ) (os : List (Option ℕ)) → anyLeads t os ≡ among t (linkedIn os)
+unfolding anyLeads linkedIn among
+leads-among t [] = refl
+leads-among t (none ∷ os) = leads-among t os
+leads-among t (some c ∷ os) = go (ℕ-discrete c t) (leads-among t os)
+  where
+    go : Dec (c ≡ t) → anyLeads t os ≡ among t (linkedIn os) → (eqb c t || anyLeads t os) ≡ cond (eqb t c) true (among t (linkedIn os))
+    go (yes e) ih = rw (eq-eqb c t e, eq-eqb t c (sym e))
+    go (no n) ih = rw (ne-eqb c t n, ne-eqb t c (λ e. n (sym e))) ih
+
 -- ---- what is entered
 
 -- where a slot leads to t, which one does

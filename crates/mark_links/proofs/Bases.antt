@@ -22,8 +22,9 @@ use Rattle.folds.specs.Folds.{flat}
 use Rattle.folds.proofs.Tests.{either}
 use Rattle.ot_layouts.specs.MarkBasePos.{baseSlot}
 use Rattle.store_rules.specs.Store.{Link}
-use Rattle.mark_links.specs.Copies.{inUse, slotCopy, oldSlot, RowsRoom, Copied}
-use Rattle.mark_links.proofs.Copying.{Turns, turns-start, turns-room, turns-turn}
+use Rattle.store_link_rows.specs.Copies.{inUse, RowsRoom, Copied}
+use Rattle.mark_links.specs.Copies.{slotCopy, oldSlot}
+use Rattle.store_link_rows.proofs.Copying.{Turns, turns-start, turns-room, turns-turn}
 
 -- ---- slot k of rows of w
 

@@ -29,7 +29,7 @@ use Rattle.mark_rules.specs.Written.{perTable, needLinks, freshLinks, newLinks}
 use Rattle.mark_rules.proofs.Checks.{Parts, parts-read, at-slots}
 use Rattle.mark_rules.proofs.LinkCounts.{fresh-many, many-links}
 use Rattle.mark_links.specs.declared.Arrays.{Arrays}
-use Rattle.mark_links.specs.Copies.{inUse, Copied}
+use Rattle.store_link_rows.specs.Copies.{inUse, Copied}
 use Rattle.mark_order.specs.Marks.{markPlaces}
 use Rattle.mark_links.specs.Splitting.{newCopies, CopyReady, Splitting, LinksSplit}
 use Rattle.mark_links.proofs.SameLinks.{same-links}

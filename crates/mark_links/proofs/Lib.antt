@@ -1,4 +1,3 @@
-pub mod Copying
 pub mod Slots
 pub mod Bases
 pub mod Tables

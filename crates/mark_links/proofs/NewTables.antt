@@ -16,9 +16,10 @@ use Rattle.cut_parts.proofs.TableParts.{kept-half, kept-entries, same-part, new
 use Rattle.mark_rules.specs.Written.{perTable}
 use Rattle.mark_links.specs.declared.Arrays.{Arrays}
 use Rattle.mark_links.specs.declared.ArrayRows.{ArrayRows}
-use Rattle.mark_links.specs.Copies.{inUse, tableCopies, Sources, RowsRoom, Copied}
+use Rattle.store_link_rows.specs.Copies.{inUse, RowsRoom, Copied}
+use Rattle.mark_links.specs.Copies.{tableCopies, Sources}
 use Rattle.mark_links.specs.Splitting.{placesIn, tableTurn}
-use Rattle.mark_links.proofs.Copying.{Turns, turns-start, turns-source, turns-room, turns-turn}
+use Rattle.store_link_rows.proofs.Copying.{Turns, turns-start, turns-source, turns-room, turns-turn}
 
 -- the links of the new tables before j are written; the next one's number is `table`, and its marks start at `start`
 pub record NewTables (ls counts : List ℕ) (a : Arrays) (ps ks cs : List ℕ) (at first : ℕ) (out : List ℕ) (start next table j : ℕ) : Type 0 where

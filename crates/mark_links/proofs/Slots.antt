@@ -14,8 +14,9 @@ use Rattle.store_reader.specs.declared.Child.{Child}
 use Rattle.store_reader.specs.declared.Child.the-variants.{Of, Nowhere}
 use Rattle.store_reader.specs.Children.{childFound}
 use Rattle.store_link_rows.specs.Rows.{four}
-use Rattle.mark_links.specs.Copies.{inUse, slotCopy, RowsRoom, Copied}
-use Rattle.mark_links.proofs.Copying.{copied-none}
+use Rattle.store_link_rows.specs.Copies.{inUse, RowsRoom, Copied}
+use Rattle.mark_links.specs.Copies.{slotCopy}
+use Rattle.store_link_rows.proofs.Copying.{copied-none}
 
 module _ (ls counts : List ℕ) (array q p slot at : ℕ) {r : Child} (e : childFound r ≡ childAt (lent [] [] ls counts) array q) where
   pub nowhere-copied : r ≡ Nowhere → Copied ls at (slotCopy (inUse ls counts) array q p slot) ls at

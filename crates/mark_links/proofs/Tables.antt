@@ -12,8 +12,9 @@ use Rattle.store_rules.specs.Header.{headerLinks}
 use Rattle.store_reader.specs.declared.LinkRows.{LinkRows}
 use Rattle.mark_links.specs.declared.Arrays.{Arrays}
 use Rattle.mark_links.specs.declared.ArrayRows.{ArrayRows}
-use Rattle.mark_links.specs.Copies.{inUse, markCopies, baseCopies, arrayCopies, tableCopies, Source, Sources, RowsRoom, Copied}
-use Rattle.mark_links.proofs.Copying.{room-first, room-then, copied-then, source-then}
+use Rattle.store_link_rows.specs.Copies.{inUse, Source, RowsRoom, Copied}
+use Rattle.mark_links.specs.Copies.{markCopies, baseCopies, arrayCopies, tableCopies, Sources}
+use Rattle.store_link_rows.proofs.Copying.{room-first, room-then, copied-then, source-then}
 
 -- ---- arrays
 

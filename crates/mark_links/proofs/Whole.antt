@@ -14,9 +14,10 @@ use Rattle.cut_parts.specs.Tables.{PartEnd}
 use Rattle.mark_rules.specs.Written.{perTable}
 use Rattle.mark_links.specs.declared.Arrays.{Arrays}
 use Rattle.mark_links.specs.declared.ArrayRows.{ArrayRows}
-use Rattle.mark_links.specs.Copies.{inUse, arrayCopies, Sources, RowsRoom, Copied}
+use Rattle.store_link_rows.specs.Copies.{inUse, RowsRoom, Copied}
+use Rattle.mark_links.specs.Copies.{arrayCopies, Sources}
 use Rattle.mark_links.specs.Splitting.{placesIn, tablesCopies, newCopies, CopyReady}
-use Rattle.mark_links.proofs.Copying.{room-first, room-then, copied-then, source-then}
+use Rattle.store_link_rows.proofs.Copying.{room-first, room-then, copied-then, source-then}
 use Rattle.mark_links.proofs.NewTables.{kept-places}
 
 module _ (ls counts : List ℕ) (a : Arrays) (ps ks cs : List ℕ) (g : CopyReady ls counts a ps ks cs) where

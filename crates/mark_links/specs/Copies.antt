@@ -1,24 +1,14 @@
 -- Links of a table's arrays copied to new arrays, from the link rows alone. Assumes nothing.
-use Prim.Native.Nat.{ℕ, _+_, _-_, _*_, _/_, _%_, _≤_, _<_}
-use mathlib.Core.Path.{_≡_}
-use mathlib.Core.List.{List, [], _++_}
+use Prim.Native.Nat.{ℕ, _+_, _-_, _*_, _/_, _%_, _<_}
+use mathlib.Core.List.{List, _++_}
 use lib.ListN.{length, getD}
-use Rattle.folds.specs.Lists.{put}
 use Rattle.ot_layouts.specs.MarkBasePos.{own, heads, markSlot, baseSlot}
-use Rattle.store_rules.specs.Store.{Link, lent, perLink, linksOf, lookup}
-use Rattle.store_rules.specs.Appended.{rowNumbers}
+use Rattle.store_rules.specs.Store.{Link, lookup}
 use Rattle.store_rules.specs.Header.{headerLinks}
 use Rattle.store_rules.specs.SlotLinks.{slotLink, slotLinks}
-use Rattle.store_reader.specs.declared.LinkRows.{LinkRows}
-use Rattle.store_reader.specs.Rows.{InOrder, ParentRows}
+use Rattle.store_link_rows.specs.Copies.{Source}
 use Rattle.mark_links.specs.declared.Arrays.{Arrays}
 use Rattle.mark_links.specs.declared.ArrayRows.{ArrayRows}
-
--- the links in use
-abbrev pub inUse : List ℕ → List ℕ → List Link
-inUse ls counts = linksOf (lent [] [] ls counts)
-
--- ---- what is copied
 
 -- a link at `slot` of the new array p, to the child that the old array has at position q
 abbrev pub slotCopy : List Link → ℕ → ℕ → ℕ → ℕ → List Link
@@ -46,25 +36,8 @@ arrayCopies old a places lo hi p =
 unfoldable pub tableCopies : List Link → Arrays → List ℕ → ℕ → ℕ → ℕ → List Link
 tableCopies old a places lo hi u = headerLinks own heads u (λ q. a .«base_coverage») ++ arrayCopies old a places lo hi (u + 2)
 
--- ---- how it is written
-
--- the rows are in order, and these are the ones of object p
-pub record Source (ls counts : List ℕ) (p : ℕ) (rows : LinkRows) : Type 0 where
-  pub order : InOrder ls (getD counts 2 0)
-  pub rows-are : ParentRows ls (getD counts 2 0) p rows
-
 -- these are those of the two arrays, and the positions in the base array fit
 pub record Sources (ls counts : List ℕ) (a : Arrays) (rows : ArrayRows) : Type 0 where
   pub marks : Source ls counts (a .«mark_array») (rows .marks)
   pub bases : Source ls counts (a .«base_array») (rows .bases)
   pub short : 2 + 2 * (a .bases * a .classes) < 4294967296
-
--- there is room for new links from row `at` on, behind the rows in use
-pub record RowsRoom (ls counts : List ℕ) (at : ℕ) (new : List Link) : Type 0 where
-  pub behind : getD counts 2 0 ≤ at
-  pub fits : perLink * (at + length new) ≤ length ls
-
--- they are written, and the next row is row r
-pub record Copied (ls : List ℕ) (at : ℕ) (new : List Link) (out : List ℕ) (r : ℕ) : Type 0 where
-  pub rows-are : out ≡ put ls (perLink * at) (rowNumbers new)
-  pub next : r ≡ at + length new

@@ -20,7 +20,8 @@ use Rattle.mark_order.specs.Marks.{markPlaces}
 use Rattle.mark_rules.specs.Written.{perTable, needLinks, newLinks}
 use Rattle.mark_rules.specs.Reads.{Reads}
 use Rattle.mark_links.specs.declared.Arrays.{Arrays}
-use Rattle.mark_links.specs.Copies.{inUse, arrayCopies, tableCopies, RowsRoom}
+use Rattle.store_link_rows.specs.Copies.{inUse, RowsRoom}
+use Rattle.mark_links.specs.Copies.{arrayCopies, tableCopies}
 
 -- ---- from the link rows, and from the marks' places with their classes
 

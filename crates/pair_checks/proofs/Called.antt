@@ -13,8 +13,8 @@ use Rattle.store_reader.proofs.Rows.{in-order}
 use Rattle.ot_pairpos.specs.declared.Layout.{Layout}
 use Rattle.ot_pairpos.specs.Layout.{layoutOf}
 use Rattle.call_rules.specs.declared.Answer.{Answer}
-use Rattle.call_rules.specs.declared.Answer.the-variants.{ShortScratch, BadLinks, UnsortedSets}
-use Rattle.store_rules.specs.Store.{Store, lent}
+use Rattle.call_rules.specs.declared.Answer.the-variants.{Unsound, ShortScratch, BadLinks, UnsortedSets}
+use Rattle.store_rules.specs.Store.{Store, lent, sound}
 use Rattle.store_rules.specs.Reach.{onCycle}
 use Rattle.pair_rules.specs.Table.{allAtSlots, setsSorted}
 use Rattle.call_rules.specs.Scratch.{Scratch}
@@ -28,6 +28,7 @@ use Rattle.pair_checks.specs.declared.Checked.{Checked}
 use Rattle.pair_checks.specs.declared.Checked.the-variants.{Open, Settled}
 use Rattle.pair_checks.specs.Checked.{checkedAs, checkedOf, settledAs}
 use Rattle.pair_checks.specs.Opens.{Opens}
+use Rattle.pair_checks.proofs.Deciding.{not-sound}
 use Rattle.pair_checks.proofs.Refusals.{opens, refusals}
 use Rattle.call_rules.specs.declared.Lengths.{Lengths}
 use Rattle.call_rules.specs.Scratch.{lengthsOf, lengthsShort}
@@ -68,6 +69,10 @@ module _ (s : Store) (t : ℕ) {x : Checked} (e : checkedAs x ≡ checkedOf s t)
     pub call-open : {p : PairTable} {r : ℕ ⊎ PairTable} → x ≡ Open p → (checkedOf s t ≡ checkedAs (Open p) → r ≡ lentBy s t n p) → r ≡ calledOf s t n
     unfolding calledOf
     call-open y h = h (is-open y) ∙ ap (calledBy s t n) (sym (ap checkedAs y) ∙ e)
+
+-- 1
+pub call-unsound : (s : Store) (t : ℕ) (n : Lengths) {b : Bool} → b ≡ sound s → not b ≡ true → checkedAs (Settled Unsound) ≡ calledOf s t n
+call-unsound s t n e h = call-settled s t {x = Settled Unsound} (not-sound s t e h) n {a = Unsound} refl
 
 -- ---- the cases 1 to 7, and 11
 

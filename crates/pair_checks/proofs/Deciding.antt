@@ -7,7 +7,7 @@ use mathlib.Core.Logic.{_⊎_}
 use mathlib.Core.Option.{Option, some}
 use native.Mathlib.Omega.{arith}
 use lib.ListN.{length}
-use borrow.Author.Tests.{eq-eqb, ne-eqb, lt-ltb, le-ltb, le-leb, lt-leb}
+use borrow.Author.Tests.{eq-eqb, ne-eqb, lt-ltb, le-ltb, le-leb, lt-leb, not-false}
 use Rattle.ot_layouts.specs.Coverage.{coverGlyphs}
 use Rattle.ot_layouts.specs.ClassDef.{classDefOf}
 use Rattle.ot_pairpos.specs.declared.Layout.{Layout}
@@ -77,27 +77,23 @@ module _ (s : Store) (t : ℕ) (l : Layout) {x : Option Part} {r : Linked} (e : 
 
 -- ---- a table
 
-is-true : (b : Bool) → not b ≡ false → b ≡ true
-is-true true h = refl
-is-true false h = let z : _≡_ {A = Bool} true false = h in cc
-
 module _ (s : Store) (t : ℕ) {b : Bool} (e : b ≡ sound s) where
   pub not-sound : not b ≡ true → checkedAs (Settled Unsound) ≡ checkedOf s t
   unfolding checkedOf
   not-sound h = rw (← e, h)
 
-  module _ (h : not b ≡ false) where
-    pub tested : sound s ≡ true
-    tested = sym e ∙ is-true b h
+  pub tested : not b ≡ false → sound s ≡ true
+  tested h = sym e ∙ not-false b h
 
-    pub no-table : s .objectCount ≤ t → checkedAs (Settled NoTable) ≡ checkedOf s t
+module _ (s : Store) (t : ℕ) (h : sound s ≡ true) where
+  pub no-table : s .objectCount ≤ t → checkedAs (Settled NoTable) ≡ checkedOf s t
+  unfolding checkedOf
+  no-table l = rw (h, le-leb (s .objectCount) t l)
+
+  pub table-inside : t < s .objectCount → Inside (length (s .bytes)) (s .objects) t
+  table-inside l = inside s (sound-fits s h) t l
+
+  module _ (l : t < s .objectCount) {v : List ℕ} {o : Opened} (g : v ≡ bytesOf s t) (i : openedAs o ≡ openedOf v) where
+    pub by-opened : {k : Opened} {r : ℕ ⊎ PairTable} → o ≡ k → r ≡ openBy s t (openedAs k) → r ≡ checkedOf s t
     unfolding checkedOf
-    no-table l = rw (tested, le-leb (s .objectCount) t l)
-
-    pub table-inside : t < s .objectCount → Inside (length (s .bytes)) (s .objects) t
-    table-inside l = inside s (sound-fits s tested) t l
-
-    module _ (l : t < s .objectCount) {v : List ℕ} {o : Opened} (g : v ≡ bytesOf s t) (i : openedAs o ≡ openedOf v) where
-      pub by-opened : {k : Opened} {r : ℕ ⊎ PairTable} → o ≡ k → r ≡ openBy s t (openedAs k) → r ≡ checkedOf s t
-      unfolding checkedOf
-      by-opened {k} {r} p q = q ∙ ap (openBy s t) (sym (ap openedAs p) ∙ i ∙ ap openedOf g) ∙ sym (rw (tested, lt-leb (s .objectCount) t l))
+    by-opened {k} {r} p q = q ∙ ap (openBy s t) (sym (ap openedAs p) ∙ i ∙ ap openedOf g) ∙ sym (rw (h, lt-leb (s .objectCount) t l))

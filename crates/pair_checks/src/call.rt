@@ -1,21 +1,22 @@
-// All that a call asks of a table before it needs its scratch: the checks 1 to 6, and the slots of check 7.
+// All that a call asks of a table of a sound store before it needs its scratch: the checks 2 to 6, and the slots of check 7.
 use crate::Checked;
 use crate::PairTable;
-use crate::check_table;
+use crate::check_sound_table;
 use crate::slots::links_at_slots;
 use call_rules::Answer;
 use call_rules::Lengths;
 use call_scratch::is_short;
 ghost use mathlib.Core.Path.{_≡_};
+ghost use mathlib.Core.Bool.{true};
 ghost use mathlib.Core.List.{List};
 ghost use Prim.Native.Nat.{ℕ};
 ghost use Rattle.folds.specs.Moments.{came};
-ghost use Rattle.store_rules.specs.Store.{lent};
-ghost use Rattle.store_rules.specs.Moments.{storeCameWith};
+ghost use Rattle.store_rules.specs.Store.{lent, sound};
+ghost use Rattle.store_rules.specs.Moments.{storeCameWith, storeNowWith};
 ghost use Rattle.pair_checks.specs.Checked.{checkedAs, checkedOf};
 ghost use Rattle.pair_checks.specs.Called.{lentBy, calledOf};
 
-// The checks 1 to 6, and the slots of check 7: all that needs no scratch.
+// The checks 2 to 6, and the slots of check 7: all that needs no scratch. That the store is sound is known.
 pub fn check_call(
     data: &[u8],
     objects: &[u32],
@@ -24,9 +25,10 @@ pub fn check_call(
     table: u32,
     lengths: Lengths,
 ) -> Checked
+    requires { ⌜ sound (storeNowWith «data» objects links counts) ≡ true ⌝ }
     ensures { λ r. ⌜ checkedAs r ≡ calledOf (storeCameWith «data» objects links counts) table lengths ⌝ }
 {
-    let checked = check_table(data, objects, links, counts, table);
+    let checked = check_sound_table(data, objects, links, counts, table);
     match checked {
         Checked::Settled(answer) => Checked::Settled(answer),
         Checked::Open(opened) => check_lent(links, counts, table, opened, lengths),

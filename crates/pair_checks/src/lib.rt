@@ -53,6 +53,20 @@ pub fn check_table(
     if !is_sound(data, objects, links, counts) {
         return Checked::Settled(Answer::Unsound);
     }
+    check_sound_table(data, objects, links, counts, table)
+}
+
+// Checks a table of a store that is known to be sound.
+pub fn check_sound_table(
+    data: &[u8],
+    objects: &[u32],
+    links: &[u32],
+    counts: [u32; 3],
+    table: u32,
+) -> Checked
+    requires { ⌜ sound (storeNowWith «data» objects links counts) ≡ true ⌝ }
+    ensures { λ r. ⌜ checkedAs r ≡ checkedOf (storeCameWith «data» objects links counts) table ⌝ }
+{
     if counts[1] <= table {
         return Checked::Settled(Answer::NoTable);
     }

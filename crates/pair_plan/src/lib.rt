@@ -11,12 +11,15 @@ use cutting::cut_table;
 use pair_checks::Checked;
 use pair_checks::PairTable;
 use pair_checks::call::check_call;
+use store_reader::is_sound;
 use store_walk::begin_walk;
 ghost use mathlib.Core.Path.{_≡_};
+ghost use mathlib.Core.Bool.{true};
 ghost use Rattle.call_rules.specs.Outcomes.{outcome};
 ghost use Rattle.pair_rules.specs.Calls.{planCall};
 ghost use Rattle.call_rules.specs.Scratch.{lengthsOf};
 ghost use Rattle.folds.specs.Moments.{came, left};
+ghost use Rattle.store_rules.specs.Store.{sound};
 ghost use Rattle.store_rules.specs.Moments.{storeCameWith, storeNowWith};
 ghost use Rattle.call_rules.specs.Moments.{scratchCame, scratchLeft, scratchNow};
 ghost use Rattle.pair_checks.specs.Checked.{checkedAs};
@@ -83,8 +86,8 @@ pub fn decide_cuts(
     })
 }
 
-// Decides for a table of any store, with any scratch.
-pub fn decide(
+// Decides for a table of a store that is known to be sound, with any scratch.
+pub fn decide_sound(
     data: &[u8],
     objects: &[u32],
     links: &[u32],
@@ -96,6 +99,7 @@ pub fn decide(
     classes: &mut [u16],
     cuts: &mut [u16],
 ) -> Decision
+    requires { ⌜ sound (storeNowWith «data» objects links counts) ≡ true ⌝ }
     ensures { λ r. ⌜
         Decided (storeCameWith «data» objects links counts) table (scratchCame walk «glyph_set» glyphs classes cuts) r (left glyphs)
         (left classes) (left cuts)
@@ -125,6 +129,41 @@ pub fn decide(
             cuts,
         ),
     }
+}
+
+// Decides for a table of any store, with any scratch.
+pub fn decide(
+    data: &[u8],
+    objects: &[u32],
+    links: &[u32],
+    counts: [u32; 3],
+    table: u32,
+    walk: &mut [u32],
+    glyph_set: &mut [u8],
+    glyphs: &mut [u16],
+    classes: &mut [u16],
+    cuts: &mut [u16],
+) -> Decision
+    ensures { λ r. ⌜
+        Decided (storeCameWith «data» objects links counts) table (scratchCame walk «glyph_set» glyphs classes cuts) r (left glyphs)
+        (left classes) (left cuts)
+        ⌝ }
+{
+    if !is_sound(data, objects, links, counts) {
+        return Decision::Settled(Answer::Unsound);
+    }
+    decide_sound(
+        data,
+        objects,
+        links,
+        counts,
+        table,
+        walk,
+        glyph_set,
+        glyphs,
+        classes,
+        cuts,
+    )
 }
 
 // Hands out what was decided: the answer, and where it is 0 the places and their count.

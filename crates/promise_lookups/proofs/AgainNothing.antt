@@ -33,8 +33,9 @@ use Rattle.pair_after.proofs.SplitLinks.{NewOrOwn, row-leads}
 use Rattle.promise_pairs.proofs.AgainNothing.{nothing-to-split, no-cut}
 use Rattle.promise_lookups.specs.Demands.{AgainNoEntry}
 use Rattle.promise_lookups.proofs.Answered.{store-entered}
-use Rattle.promise_lookups.proofs.Entering.{Entering, entering}
-use Rattle.promise_lookups.proofs.NewLookups.{more, unled, links, links-are, fit′, used-then, split-head, split-tail, split-bytes}
+use Rattle.lookup_after.proofs.Entering.{Entering}
+use Rattle.promise_lookups.proofs.GoesAhead.{entering}
+use Rattle.lookup_after.proofs.NewLookups.{more, unled, links, links-are, fit′, used-then, split-head, split-tail, split-bytes}
 use Rattle.promise_lookups.proofs.StaysSound.{fits-entered}
 use Rattle.promise_lookups.proofs.Kept.{not-rewritten, table-child, around-table, kept-table}
 

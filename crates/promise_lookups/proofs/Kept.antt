@@ -30,9 +30,10 @@ use Rattle.pair_after.proofs.SoundThen.{sound-then}
 use Rattle.pair_after.proofs.SplitLinks.{NewOrOwn, child-leads}
 use Rattle.promise_lookups.specs.Demands.{tablesNew, leadThen, numberThen, OthersRedirected, ObjectsAsSplit, TablesAsSplit, LookupsWritten, ListLeads}
 use Rattle.promise_lookups.proofs.Answered.{store-entered}
-use Rattle.promise_lookups.proofs.Entering.{Entering, entering}
-use Rattle.promise_lookups.proofs.Apart.{way-reaches, list-other, each-named, no-way-to, no-way-from}
-use Rattle.promise_lookups.proofs.NewLookups.{fit′, used-then, split-head, split-tail, split-bytes, split-child, lookup-bytes, lookup-slots}
+use Rattle.lookup_after.proofs.Entering.{Entering}
+use Rattle.promise_lookups.proofs.GoesAhead.{entering}
+use Rattle.lookup_after.proofs.Apart.{way-reaches, list-other, each-named, no-way-to, no-way-from}
+use Rattle.lookup_after.proofs.NewLookups.{fit′, used-then, split-head, split-tail, split-bytes, split-child, lookup-bytes, lookup-slots}
 use Rattle.promise_lookups.proofs.StaysSound.{old-used, sound-entered}
 
 module _ (s : Store) (l t : ℕ) (cs : List ℕ) (e : Entering s l t cs) where

@@ -1,8 +1,6 @@
 pub mod Exactly
 pub mod Answered
-pub mod Entering
-pub mod Apart
-pub mod NewLookups
+pub mod GoesAhead
 pub mod StaysSound
 pub mod Kept
 pub mod WrittenAfresh

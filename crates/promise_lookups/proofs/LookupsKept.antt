@@ -33,6 +33,7 @@ use Rattle.lookup_rules.specs.Applied.{subtables, applied, reaches}
 use Rattle.lookup_rules.proofs.Slots.{linked-append, linked-all, linked-mapped, nothing-entered, each-linked, among-linked}
 use Rattle.lookup_rules.proofs.Redirection.{redirect-either, redirect-other}
 use Rattle.lookup_rules.proofs.NewLookup.{new-type}
+use Rattle.lookup_rules.proofs.Listed.{list-leads, named-among}
 use Rattle.promise_calls.specs.Unchanged.{Octets}
 use Rattle.promise_pairs.specs.Demands.{Splits, resulting, storeThen}
 use Rattle.promise_pairs.proofs.GoesAhead.{store-written}
@@ -42,9 +43,10 @@ use Rattle.promise_pairs.proofs.ReadingsKept.{readings-kept}
 use Rattle.pair_after.proofs.SplitLinks.{NewOrOwn}
 use Rattle.promise_lookups.specs.Demands.{LookupsKept, NoOtherReaches}
 use Rattle.promise_lookups.proofs.Answered.{store-entered}
-use Rattle.promise_lookups.proofs.Entering.{Entering, entering, splits}
-use Rattle.promise_lookups.proofs.Apart.{Listed, way-reaches, list-other, list-leads, each-listed, named-among, each-named}
-use Rattle.promise_lookups.proofs.NewLookups.{lookup-bytes, lookup-slots, lookup-long}
+use Rattle.lookup_after.proofs.Entering.{Entering}
+use Rattle.promise_lookups.proofs.GoesAhead.{entering, splits}
+use Rattle.lookup_after.proofs.Apart.{Listed, way-reaches, list-other, each-listed, each-named}
+use Rattle.lookup_after.proofs.NewLookups.{lookup-bytes, lookup-slots, lookup-long}
 use Rattle.promise_lookups.proofs.Kept.{not-rewritten, other-bytes, other-child, around-other, around-table, OneOfTables, tables-are}
 
 -- ---- readings in order
@@ -233,7 +235,9 @@ module _ (s : Store) (l t : ℕ) (cs : List ℕ) (e : Entering s l t cs) where
           led ∙ ap some n,
           ap lookupType (other-bytes s l t cs e p (listed .used) (listed .other)) ∙ two,
           applied-other
-              (by-test (names s t p) (λ y. true-false (sym (named-among s l t (e .fine) (e .ready .fit) (e .ready .reads) p among-list two y) ∙ absent)) (λ y. y))
+              (by-test (names s t p)
+              (λ y. true-false (sym (named-among s l t (e .fine) p among-list (eq-eqb (lookupType (bytesOf s p)) pairType two) y) ∙ absent))
+              (λ y. y))
               together,
         ))
         (redirect-either (s′ .objectCount) ps p)
@@ -246,7 +250,7 @@ pub lookups-kept : LookupsKept
 lookups-kept s l t w list octets enters q p lead two reads noOther =
     let cs = cutPlaces s t in
     let e = entering s l t w list enters in
-    let among-list = list-leads s l t (e .fine) (e .ready .fit) (e .ready .reads) q p lead in
+    let among-list = list-leads s l t (e .fine) q p lead in
     let listed = each-listed s l t (e .fine) (e .ready .fit) (e .ready .reads) p among-list in
     rw (store-entered s l t w list enters)
     (lookup-kept s l t cs e p listed noOther q lead among-list two (split-pairs s t w list octets (splits s l t w list enters)))

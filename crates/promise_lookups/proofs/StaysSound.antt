@@ -35,8 +35,9 @@ use Rattle.promise_pairs.proofs.StaysOctets.{stays-octets}
 use Rattle.pair_after.proofs.Taken.{bytes-then, links-length}
 use Rattle.promise_lookups.specs.Demands.{StaysSoundEntered, StaysOctetsEntered, EntersAsNeeded}
 use Rattle.promise_lookups.proofs.Answered.{store-entered}
-use Rattle.promise_lookups.proofs.Entering.{Entering, entering, splits}
-use Rattle.promise_lookups.proofs.NewLookups.{
+use Rattle.lookup_after.proofs.Entering.{Entering}
+use Rattle.promise_lookups.proofs.GoesAhead.{entering, splits}
+use Rattle.lookup_after.proofs.NewLookups.{
   new,
   more,
   unled,

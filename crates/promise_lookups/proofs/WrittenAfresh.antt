@@ -20,8 +20,9 @@ use Rattle.promise_pairs.proofs.GoesAhead.{store-written}
 use Rattle.promise_pairs.proofs.WrittenAfresh.{written-afresh}
 use Rattle.promise_lookups.specs.Demands.{EnteredAfresh}
 use Rattle.promise_lookups.proofs.Answered.{store-entered}
-use Rattle.promise_lookups.proofs.Entering.{Entering, entering, splits}
-use Rattle.promise_lookups.proofs.NewLookups.{fit′, split-bytes}
+use Rattle.lookup_after.proofs.Entering.{Entering}
+use Rattle.promise_lookups.proofs.GoesAhead.{entering, splits}
+use Rattle.lookup_after.proofs.NewLookups.{fit′, split-bytes}
 use Rattle.promise_lookups.proofs.Kept.{table-child, around-table, OneOfTables, kept-table, new-table}
 
 module _ (s : Store) (l t : ℕ) (cs : List ℕ) (e : Entering s l t cs) where

@@ -2,5 +2,8 @@ pub mod Spans
 pub mod RowLaws
 pub mod Reversing
 pub mod Links
+pub mod OwnLinks
 pub mod Header
+pub mod Changing
 pub mod Keeping
+pub mod Copying

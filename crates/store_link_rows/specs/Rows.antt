@@ -52,8 +52,14 @@ reversed ls lo hi = segment (λ k. row ls (lo + hi - 1 - k)) lo hi
 abbrev pub PositionsRise : List ℕ → ℕ → ℕ → Type 0
 PositionsRise ls lo hi = (i j : ℕ) → lo ≤ i → i ≤ j → j < hi → positionIn ls i ≤ positionIn ls j
 
--- row k where it stays: the kept table t's own parts are new objects, of which v is the first
-unfoldable pub keptRow : List ℕ → List ℕ → ℕ → ℕ → ℕ → List ℕ
-keptRow ls own t v k =
-    four (parentIn ls k) (positionIn ls k) (widthIn ls k)
-    (cond (eqb (parentIn ls k) t) (ownChild own v (positionIn ls k) (childIn ls k)) (childIn ls k))
+-- row k with another child, which f gives from its parent, its position and its child
+unfoldable pub changedRow : (ℕ → ℕ → ℕ → ℕ) → List ℕ → ℕ → List ℕ
+changedRow f ls k = four (parentIn ls k) (positionIn ls k) (widthIn ls k) (f (parentIn ls k) (positionIn ls k) (childIn ls k))
+
+-- where a row leads that stays: the kept table t's own parts are new objects, of which v is the first
+unfoldable pub keptChild : List ℕ → ℕ → ℕ → ℕ → ℕ → ℕ → ℕ
+keptChild own t v p q c = cond (eqb p t) (ownChild own v q c) c
+
+-- row k where it stays
+abbrev pub keptRow : List ℕ → List ℕ → ℕ → ℕ → ℕ → List ℕ
+keptRow ls own t v k = changedRow (keptChild own t v) ls k

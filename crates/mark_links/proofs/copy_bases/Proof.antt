@@ -4,7 +4,7 @@ use native.Mathlib.Omega.{arith}
 use borrow.Author.Needs.{needs}
 use Rattle.store_rules.specs.SlotLinks.{slotLinks}
 use Rattle.mark_links.specs.Copies.{baseCopies}
-use Rattle.mark_links.proofs.Copying.{turns-source, turns-stop}
+use Rattle.store_link_rows.proofs.Copying.{turns-source, turns-stop}
 use Rattle.mark_links.proofs.Bases.{Bases, bases-start, bases-below, bases-room, bases-same, bases-next, slots-below}
 use Rattle.mark_links.proofs.copy_bases.Statement.{statement}
 use Rattle.mark_links.proofs.copy_bases.Tie as tie

@@ -5,7 +5,7 @@ use lib.ListN.{length}
 use borrow.Author.Needs.{needs}
 use Rattle.store_rules.specs.SlotLinks.{slotLinks}
 use Rattle.mark_links.specs.Copies.{markCopies}
-use Rattle.mark_links.proofs.Copying.{Turns, turns-start, turns-source, turns-room, turns-turn, turns-stop}
+use Rattle.store_link_rows.proofs.Copying.{Turns, turns-start, turns-source, turns-room, turns-turn, turns-stop}
 use Rattle.mark_links.proofs.Slots.{markTurn}
 use Rattle.mark_links.proofs.copy_marks.Statement.{statement}
 use Rattle.mark_links.proofs.copy_marks.Tie as tie

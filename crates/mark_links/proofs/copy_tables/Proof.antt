@@ -4,7 +4,7 @@ use native.Mathlib.Omega.{arith}
 use lib.ListN.{length}
 use borrow.Author.Needs.{needs}
 use Rattle.mark_links.specs.Splitting.{tablesCopies}
-use Rattle.mark_links.proofs.Copying.{turns-stop}
+use Rattle.store_link_rows.proofs.Copying.{turns-stop}
 use Rattle.mark_links.proofs.NewTables.{NewTables, tables-start, turn-sources, turn-many, turn-range, turn-room, tables-turn}
 use Rattle.mark_links.proofs.copy_tables.Statement.{statement}
 use Rattle.mark_links.proofs.copy_tables.Tie as tie

@@ -1,35 +1,38 @@
--- `pair_plan::decide` meets its contract: by what the checks without scratch decide. Assumes nothing.
-use mathlib.Core.Path.{sym, ap, _∙_}
+-- `pair_plan::decide` meets its contract: 1, and then what is decided of a sound store. Assumes nothing.
+use mathlib.Core.Path.{refl}
+use Rattle.call_rules.specs.Scratch.{scratchOf, lengthsOf}
 use Rattle.store_rules.specs.Store.{lent}
-use Rattle.call_rules.specs.Scratch.{scratchOf}
-use Rattle.pair_checks.specs.Checked.{checkedAs}
+use Rattle.pair_checks.proofs.Deciding.{tested}
+use Rattle.pair_checks.proofs.Called.{call-unsound}
+use Rattle.pair_checks.specs.declared.Checked.the-variants as Checked
+use Rattle.call_rules.specs.declared.Answer.the-variants.{Unsound}
 use Rattle.pair_plan.proofs.Deciding.{decided-settled}
 use borrow.Author.Needs.{needs}
 use Rattle.pair_plan.proofs.decide.Statement.{statement}
 use Rattle.pair_plan.proofs.decide.Tie as tie
 
-decide-cuts-requires : tie.Need-decide-cuts-requires
-decide-cuts-requires c κs =
-    let after-check-call = c .before .before .before .before .before .before .before .before in
-    sym (after-check-call .check-call .ensures) ∙ ap checkedAs (c .before .before .before .before .before .before .checked2 .given .1)
-
 returns : tie.Need-returns
 returns c =
-    let start = c .before .before .before .before .before .before .before .before .before .before .before .before in
+    let start = c .before .before .before .before .before .before .before .before .before .before in
     let a = start .args in
-    decided-settled (lent (a .«data» .now) (a .objects .now) (a .links .now) (a .counts)) (a .table)
-    (scratchOf (a .walk .now) (a .glyph-set .now) (a .glyphs .now) (a .classes .now) (a .cuts .now))
-    (c .before .before .before .check-call .ensures) (c .before .checked .given .1)
+    let s = lent (a .«data» .now) (a .objects .now) (a .links .now) (a .counts) in
+    let w = scratchOf (a .walk .now) (a .glyph-set .now) (a .glyphs .now) (a .classes .now) (a .cuts .now) in
+    decided-settled s (a .table) w {x = Checked.Settled Unsound} (call-unsound s (a .table) (lengthsOf w) (c .before .is-sound .ensures) (c .if1 .taken)) refl
+
+decide-sound-requires : tie.Need-decide-sound-requires
+decide-sound-requires c κs =
+    let sounds = c .before .before .before .before .before in
+    let start = sounds .before .before .before .before .before .before .before .before .before .before in
+    let a = start .args in
+    tested (lent (a .«data» .now) (a .objects .now) (a .links .now) (a .counts)) (a .table) (sounds .before .is-sound .ensures) (sounds .if1 .left)
 
 pub decide-spec : {M : Type 1} → statement M
 decide-spec =
     tie.close
     (tie.spec
     (λ c κs. search needs)
-    (λ c. search needs)
-    (λ c. search needs)
-    decide-cuts-requires
     returns
+    decide-sound-requires
     (λ c. search needs)
     (λ c. search needs)
     (λ c. search needs)

@@ -9,19 +9,19 @@ check-lent-requires : tie.Need-check-lent-requires
 check-lent-requires c κs =
     let start = c .before .before .before .before .before .before .before in
     let a = start .args in
-    (a .«data» .now, a .objects .now, is-open (lent (a .«data» .now) (a .objects .now) (a .links .now) (a .counts)) (a .table) (c .before .before .before .check-table .ensures) (c .before .checked2 .given .1))
+    (a .«data» .now, a .objects .now, is-open (lent (a .«data» .now) (a .objects .now) (a .links .now) (a .counts)) (a .table) (c .before .before .before .check-sound-table .ensures) (c .before .checked2 .given .1))
 
 returns : tie.Need-returns
 returns c =
     let start = c .before .before .before .before .before .before .before in
     let a = start .args in
-    call-settled (lent (a .«data» .now) (a .objects .now) (a .links .now) (a .counts)) (a .table) (c .before .before .before .check-table .ensures) (a .lengths) (c .before .checked .given .1)
+    call-settled (lent (a .«data» .now) (a .objects .now) (a .links .now) (a .counts)) (a .table) (c .before .before .before .check-sound-table .ensures) (a .lengths) (c .before .checked .given .1)
 
 returns-2 : tie.Need-returns-2
 returns-2 c =
     let start = c .before .before .before .before .before .before .before .before in
     let a = start .args in
-    call-open (lent (a .«data» .now) (a .objects .now) (a .links .now) (a .counts)) (a .table) (c .before .before .before .before .check-table .ensures) (a .lengths) (c .before .before .checked2 .given .1)
+    call-open (lent (a .«data» .now) (a .objects .now) (a .links .now) (a .counts)) (a .table) (c .before .before .before .before .check-sound-table .ensures) (a .lengths) (c .before .before .checked2 .given .1)
     (c .check-lent .ensures (a .«data» .now) (a .objects .now))
 
 pub check-call-spec : {M : Type 1} → statement M

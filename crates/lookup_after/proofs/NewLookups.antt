@@ -38,8 +38,8 @@ use Rattle.lookup_rules.proofs.Counts.{all-needed}
 use Rattle.pair_after.proofs.Ready.{objects-then}
 use Rattle.pair_after.proofs.SoundThen.{fits-then}
 use Rattle.pair_after.proofs.Taken.{bytes-then, links-then, bytes-length, rows-length}
-use Rattle.promise_lookups.proofs.Entering.{Entering}
-use Rattle.promise_lookups.proofs.Apart.{Named, each-named}
+use Rattle.lookup_after.proofs.Entering.{Entering}
+use Rattle.lookup_after.proofs.Apart.{Named, each-named}
 
 module _ (s : Store) (l t : ℕ) (cs : List ℕ) (e : Entering s l t cs) where
   -- the store after the split

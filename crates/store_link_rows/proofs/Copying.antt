@@ -13,8 +13,8 @@ use Rattle.store_rules.specs.Appended.{rowNumbers}
 use Rattle.store_rules.proofs.LinkRows.{rows-numbers}
 use Rattle.store_reader.specs.declared.LinkRows.{LinkRows}
 use Rattle.store_reader.specs.Rows.{rowKey, keyOf, FirstRow}
+use Rattle.store_link_rows.specs.Copies.{inUse, Source, RowsRoom, Copied}
 use Rattle.store_link_rows.proofs.Links.{numbers-append}
-use Rattle.mark_links.specs.Copies.{inUse, Source, RowsRoom, Copied}
 
 -- ---- rows that agree below the count are the same links
 

@@ -1,0 +1,65 @@
+-- The links of an object, by its own rows. Assumes nothing.
+use Prim.Native.Nat.{ℕ, _+_, _-_, _≤_, _<_}
+use mathlib.Core.Path.{_≡_, sym, ap, ap₂, _∙_}
+use mathlib.Core.Bool.{Bool, true, false}
+use mathlib.Core.List.{List, _++_, append-nil}
+use mathlib.Core.Logic.{_⊎_, inl, inr, ⊎-elim}
+use native.Mathlib.Omega.{arith}
+use lib.Dec.{eqb}
+use Rattle.folds.specs.Folds.{upto}
+use Rattle.folds.specs.Lists.{sift}
+use Rattle.folds.proofs.Picked.{picked-none, picked-same, sift-append, sift-upto}
+use Rattle.folds.proofs.InRange.{is-between, below-range, above-range}
+use Rattle.folds.proofs.TwoParts.{upto-split}
+use Rattle.store_rules.specs.Store.{Store, Link, linkAt, linksOf, ofParent, parentOf, positionOf}
+use Rattle.store_reader.specs.declared.LinkRows.{LinkRows}
+use Rattle.store_reader.specs.Rows.{ParentRows}
+use Rattle.store_reader.proofs.Rows.{parent-rows}
+
+-- the links of the rows from lo up to hi, hi left out
+abbrev pub linksBetween : Store → ℕ → ℕ → List Link
+linksBetween s lo hi = upto (λ i. linkAt s (lo + i)) (hi - lo)
+
+module _ (s : Store) (p : ℕ) {r : LinkRows} (rows : ParentRows (s .links) (s .linkCount) p r) (small : (k : ℕ) → positionOf s k < 4294967296) where
+  -- link i of those from a on
+  abbrev from : ℕ → ℕ → Link
+  from a i = linkAt s (a + i)
+
+  own : (k : ℕ) → k < s .linkCount → r .first ≤ k → k < r .after → eqb (parentOf s k) p ≡ true
+  own k m a h = sym (parent-rows p (rows .first) (rows .after) k m (small k)) ∙ is-between (r .first) (r .after) k a h
+
+  other : (k : ℕ) → k < s .linkCount → (k < r .first) ⊎ (r .after ≤ k) → eqb (parentOf s k) p ≡ false
+  other k m out =
+      sym (parent-rows p (rows .first) (rows .after) k m (small k))
+      ∙ ⊎-elim (below-range (r .first) (r .after) k) (above-range (r .first) (r .after) k) out
+
+  pub own-links : sift (ofParent p) (linksOf s) ≡ linksBetween s (r .first) (r .after)
+  unfolding linksOf
+  own-links =
+      let test : Link → Bool = ofParent p in
+      let lo = r .first in
+      let hi = r .after in
+      let n = s .linkCount in
+      let whole : hi + (n - hi) ≡ n = omega (arith, rows .after .within) in
+      let half : lo + (hi - lo) ≡ hi = omega (arith, rows .rise) in
+      let early : List Link = upto (linkAt s) lo in
+      let mine : List Link = upto (from lo) (hi - lo) in
+      let late : List Link = upto (from hi) (n - hi) in
+      let parts : upto (linkAt s) n ≡ early ++ mine ++ late
+      = ap (upto (linkAt s)) (sym whole)
+      ∙ upto-split (linkAt s) hi (n - hi)
+      ∙ ap (λ (x : List Link). x ++ late) (ap (upto (linkAt s)) (sym half) ∙ upto-split (linkAt s) lo (hi - lo)) in
+      ap (sift test) parts
+      ∙ sift-append test (early ++ mine) late
+      ∙ ap₂ (λ (x y : List Link). x ++ y)
+      (sift-append test early mine
+      ∙ ap₂ (λ (x y : List Link). x ++ y)
+      (sift-upto test (linkAt s) lo
+      ∙ picked-none (λ k. test (linkAt s k)) (linkAt s) lo (λ k l. other k (omega (arith, rows .first .within)) (inl l)))
+      (sift-upto test (from lo) (hi - lo)
+      ∙ picked-same (λ k. test (from lo k)) (λ k. true) (from lo) (from lo) (hi - lo)
+      (λ k l. own (lo + k) (omega (arith, rows .after .within)) (omega arith) (omega arith))
+      (λ k l e i. from lo k)))
+      (sift-upto test (from hi) (n - hi)
+      ∙ picked-none (λ k. test (from hi k)) (from hi) (n - hi) (λ k l. other (hi + k) (omega arith) (inr (omega arith))))
+      ∙ append-nil mine
