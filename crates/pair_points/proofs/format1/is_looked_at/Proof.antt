@@ -1,5 +1,5 @@
 -- `pair_points::format1::is_looked_at` meets its contract. Assumes nothing.
-use mathlib.Core.Path.{_≡_, refl, sym, ap, _∙_}
+use mathlib.Core.Path.{_≡_, refl, sym, ap}
 use mathlib.Core.Bool.{Bool, true, false, not, _||_}
 use borrow.Author.Tests.{eq-eqb, ne-eqb}
 use Rattle.folds.proofs.Joined.{or-second}
