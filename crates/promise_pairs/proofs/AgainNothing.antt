@@ -24,10 +24,11 @@ use Rattle.store_rules.specs.Reach.{itemSize}
 use Rattle.pair_rules.specs.Rules.{partialCover, rule1, rule2}
 use Rattle.glyph_rules.specs.Estimates.{besideRows, estimate}
 use Rattle.glyph_rules.specs.Entries.{within}
-use Rattle.cut_rules.specs.Cuts.{after, Rule, cutsOf}
-use Rattle.pair_rules.specs.Table.{cutPlaces, entriesOf, shape, glyphsOf, ruleOf, ofItems}
+use Rattle.cut_rules.specs.Cuts.{after, Rule, looked, cutsOf}
+use Rattle.pair_rules.specs.Table.{cutsBy, cutPlaces, entriesOf, shape, glyphsOf, ruleOf, ofItems}
 use Rattle.pair_rules.specs.Written.{splitStore, newTables, needed}
 use Rattle.cut_rules.specs.Ranges.{from}
+use Rattle.call_rules.specs.Settings.{firstEdition}
 use Rattle.call_rules.specs.Scratch.{Scratch, cleared}
 use Rattle.pair_rules.specs.Calls.{splitCall, splitCases, cutCases, lastCases}
 use Rattle.call_rules.specs.Outcomes.{outcome, settle, done}
@@ -127,45 +128,46 @@ module _ (s : Store) (t : ℕ) (cs : List ℕ) (g : Ready s t cs) where
   -- ---- so a rule that cuts the table at cs cuts it no more
 
   module _ (is-cut : cs ≡ cutPlaces s t) where
-    uncut-old : (k : ℕ) → k ≤ p0 → after (ruleOf s t) k .cuts ≡ []
-    unfolding cutPlaces
-    uncut-old k h = none-before (ruleOf s t) k (omega (arith, first-cut s t cs g, rule-count s t)) (subst (λ (x : List ℕ). k ≤ from x 0) is-cut h)
+    uncut-old : (k : ℕ) → k ≤ p0 → after (ruleOf firstEdition s t) k .cuts ≡ []
+    unfolding cutsBy
+    uncut-old k h = none-before (ruleOf firstEdition s t) k (omega (arith, first-cut s t cs g, rule-count firstEdition s t)) (subst (λ (x : List ℕ). k ≤ from x 0) is-cut h)
 
     -- the slots that are not empty
     abbrev slots : Store → ℕ → Bool
     slots x i = isSome (childAt x t (itemAt (shape x t) i))
 
     abbrev ruleOne : Store → Rule
-    ruleOne x = rule1 (shape x t .count) (slots x) (itemSize x (ofItems t (shape x t))) (sizeOf x (linkedAt x t 2))
+    ruleOne x = rule1 firstEdition (shape x t .count) (slots x) (itemSize x (ofItems t (shape x t))) (sizeOf x (linkedAt x t 2))
 
     abbrev ruleTwo : Store → Rule
-    ruleTwo x = rule2 (shape x t .count) (shape x t .item) (itemSize x (ofItems t (shape x t))) (entriesOf x t) (sizeOf x (linkedAt x t 10))
+    ruleTwo x = rule2 firstEdition (shape x t .count) (shape x t .item) (itemSize x (ofItems t (shape x t))) (entriesOf x t) (sizeOf x (linkedAt x t 10))
 
-    rule-one : (x : Store) → eqb (shape x t .format) 1 ≡ true → ruleOf x t ≡ ruleOne x
+    rule-one : (x : Store) → eqb (shape x t .format) 1 ≡ true → ruleOf firstEdition x t ≡ ruleOne x
     unfolding ruleOf
     rule-one x e = rw e
 
-    rule-two : (x : Store) → eqb (shape x t .format) 1 ≡ false → ruleOf x t ≡ ruleTwo x
+    rule-two : (x : Store) → eqb (shape x t .format) 1 ≡ false → ruleOf firstEdition x t ≡ ruleTwo x
     unfolding ruleOf
     rule-two x e = rw e
 
-    no-cut1 : eqb (shape s t .format) 1 ≡ true → cutsOf (ruleOf s′ t) ≡ []
-    unfolding rule1
+    no-cut1 : eqb (shape s t .format) 1 ≡ true → cutsOf (ruleOf firstEdition s′ t) ≡ []
+    unfolding rule1 looked
     no-cut1 e =
         ap cutsOf (rule-one s′ (view-test view up ∙ e))
-        ∙ cuts-none (ruleOne s) (ruleOne s′) p0 (λ k h. subst (λ (x : Rule). after x k .cuts ≡ []) (rule-one s e) (uncut-old k h)) refl
+        ∙ cuts-none (ruleOne s) (ruleOne s′) p0 (λ k h. subst (λ (x : Rule). after x k .cuts ≡ []) (rule-one s e) (uncut-old k h)) refl refl
         (λ i h. ap isSome (linked-same e i h))
         (λ i h. ap (λ (n : ℕ). n + 2) (size-same s t cs g i h))
-        (λ i h. let z : partialCover (slots s′) 0 i ≡ partialCover (slots s) 0 i = partial-same (slots s′) (slots s) i (λ k l. ap isSome (linked-same e k (omega arith))) in omega (arith, cover-less e))
+        (λ i h. let z : partialCover (looked 1 (slots s′)) 0 i ≡ partialCover (looked 1 (slots s)) 0 i
+        = partial-same (looked 1 (slots s′)) (looked 1 (slots s)) i (λ k l. ap isSome (linked-same e k (omega arith))) in omega (arith, cover-less e))
         count-then
 
-    no-cut2 : eqb (shape s t .format) 1 ≡ false → cutsOf (ruleOf s′ t) ≡ []
+    no-cut2 : eqb (shape s t .format) 1 ≡ false → cutsOf (ruleOf firstEdition s′ t) ≡ []
     unfolding rule2
     no-cut2 e =
         let row : shape s′ t .item ≡ shape s t .item = ap (λ (sh : Shape). sh .item) (view-shape view) in
         let es : entriesOf s′ t ≡ within 0 p0 (entriesOf s t) = view-entries view up ∙ reduced-none (within 0 p0 (entriesOf s t)) in
         ap cutsOf (rule-two s′ (view-test view up ∙ e))
-        ∙ cuts-none (ruleTwo s) (ruleTwo s′) p0 (λ k h. subst (λ (x : Rule). after x k .cuts ≡ []) (rule-two s e) (uncut-old k h)) refl
+        ∙ cuts-none (ruleTwo s) (ruleTwo s′) p0 (λ k h. subst (λ (x : Rule). after x k .cuts ≡ []) (rule-two s e) (uncut-old k h)) refl refl
         (λ i h. refl)
         (λ i h. ap₂ (λ (x y : ℕ). x + y) row (size-same s t cs g i h))
         (λ i h. let z : besideRows (sizeOf s′ (linkedAt s′ t 10)) (estimate (within 0 (i + 1) (entriesOf s′ t))) ≡ besideRows (sizeOf s (linkedAt s t 10)) (estimate (within 0 (i + 1) (entriesOf s t)))
@@ -173,7 +175,7 @@ module _ (s : Store) (t : ℕ) (cs : List ℕ) (g : Ready s t cs) where
         count-then
 
     pub no-cut : cutPlaces s′ t ≡ []
-    unfolding cutPlaces
+    unfolding cutsBy
     no-cut = by-test (eqb (shape s t .format) 1) no-cut1 no-cut2
 
 -- "Splitting the kept table again adds and changes nothing", scratch being enough
