@@ -5,7 +5,6 @@ use mathlib.Core.Bool.{true}
 use mathlib.Core.List.{List}
 use mathlib.Core.Option.{some}
 use native.Mathlib.Omega.{arith}
-use native.Mathlib.Nat.{mul-le-mul-left, mul-add}
 use lib.ListN.{length}
 use lib.Dec.{eqb}
 use Rattle.ot_layouts.specs.PairPos.{Shape, itemAt, recordSize, setSorted}
