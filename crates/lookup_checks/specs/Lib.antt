@@ -1,2 +1,4 @@
 pub mod Objects
+pub mod Marks
 pub mod Rows
+pub mod Ordered

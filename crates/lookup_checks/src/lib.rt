@@ -1,9 +1,12 @@
 // Check 9 of a lookup list, and the lookups of it that are to be written anew.
 pub mod fitting;
+pub mod marks;
+pub mod order;
 
 use crate::fitting::is_rewritten;
 use crate::fitting::list_fits;
 use crate::fitting::lookup_fits;
+use crate::marks::was_marked;
 use buffers::clear_u32;
 use buffers::lesser;
 use store_reader::CHILD;
@@ -12,9 +15,7 @@ use store_reader::PER_LINK;
 use store_reader::rows_of;
 ghost use mathlib.Core.Path.{_≡_};
 ghost use mathlib.Core.Bool.{not};
-ghost use lib.ListN.{getD, set};
-ghost use lib.Dec.{eqb};
-ghost use Rattle.folds.specs.Moments.{came, left};
+ghost use Rattle.folds.specs.Moments.{came};
 ghost use Rattle.store_rules.specs.Moments.{storeCameWith, storeNowWith};
 ghost use Rattle.lookup_rules.specs.Listed.{badList};
 ghost use Rattle.lookup_checks.specs.Objects.{InUse};
@@ -77,17 +78,4 @@ fn lookups_fit(
         }
     }
     named
-}
-
-// Marks an object that has a place, and says whether it had a mark.
-fn was_marked(marks: &mut [u32], object: u32) -> bool
-    ensures { λ r. ⌜ (left marks ≡ set (came marks) object 1) × (r ≡ not (eqb (getD (came marks) object 0) 0)) ⌝ }
-{
-    let at = object as usize;
-    if marks.len() <= at {
-        return false;
-    }
-    let mark = marks[at];
-    marks[at] = 1;
-    mark != 0
 }

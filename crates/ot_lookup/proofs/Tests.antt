@@ -5,7 +5,7 @@ use mathlib.Core.Bool.{false}
 use mathlib.Core.List.{List}
 use native.Mathlib.Omega.{arith}
 use lib.ListN.{length}
-use lib.Dec.{leb, ltb, eqb}
+use lib.Dec.{leb, eqb}
 use borrow.Author.Tests.{lt-leb, le-leb, lt-ltb, le-ltb, ne-eqb}
 use Rattle.folds.proofs.Tests.{and-first, and-second}
 use Rattle.ot_layouts.specs.Lookup.{isOneOf, lookupCount, listHeader, listExact, subtableCount, lookupHeader, filters, lookupExact}

@@ -26,7 +26,7 @@ loop-again : tie.Need-loop-again Inv-loop μ-loop
 loop-again c =
     let call = c .before .before .before in
     again _ _ _ _ _ (call .before .before .before .before .loop .inv) (call .before .before .before .loop-test .taken)
-    (call .was-marked .ensures .0) (call .was-marked .ensures .1) (c .if1 .taken)
+    (call .was-marked .ensures) (c .if1 .taken)
 
 lookup-fits-requires : tie.Need-lookup-fits-requires Inv-loop μ-loop
 lookup-fits-requires c κs =
@@ -50,7 +50,7 @@ loop-again-2 c =
     let fit = c .before .before .before in
     let call = fit .before .before .before .before in
     one-named _ _ _ _ _ (call .before .before .before .before .loop .inv) (call .before .before .before .loop-test .taken)
-    (call .was-marked .ensures .0) (sym (fit .lookup-fits .ensures) ∙ not-false _ (c .before .before .if2 .left))
+    (call .was-marked .ensures) (fit .before .if1 .left) (sym (fit .lookup-fits .ensures) ∙ not-false _ (c .before .before .if2 .left))
     (c .before .is-rewritten .ensures) (c .if3 .taken)
 
 loop-again-3 : tie.Need-loop-again-3 Inv-loop μ-loop
@@ -58,7 +58,7 @@ loop-again-3 c =
     let fit = c .before .before .before in
     let call = fit .before .before .before .before in
     one-other _ _ _ _ _ (call .before .before .before .before .loop .inv) (call .before .before .before .loop-test .taken)
-    (call .was-marked .ensures .0) (sym (fit .lookup-fits .ensures) ∙ not-false _ (c .before .before .if2 .left))
+    (call .was-marked .ensures) (fit .before .if1 .left) (sym (fit .lookup-fits .ensures) ∙ not-false _ (c .before .before .if2 .left))
     (c .before .is-rewritten .ensures) (c .if3 .left)
 
 returns-2 : tie.Need-returns-2 Inv-loop μ-loop

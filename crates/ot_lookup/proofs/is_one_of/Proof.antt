@@ -8,10 +8,10 @@ returns : tie.Need-returns
 returns c = before-slots _ _ _ (c .if1 .taken)
 
 returns-2 : tie.Need-returns-2
-returns-2 c = past-slots _ _ _ (c .before .if1 .left) (c .if2 .taken)
+returns-2 c = past-slots _ _ _ (c .before .if1 .left) (search needs)
 
 returns-3 : tie.Need-returns-3
-returns-3 c = among-slots _ _ _ (c .before .if1 .left) (c .if2 .left)
+returns-3 c = among-slots _ _ _ (c .before .if1 .left) (search needs)
 
 pub is-one-of-spec : {M : Type 1} → statement M
 is-one-of-spec = tie.close (tie.spec returns (λ c. search needs) returns-2 returns-3)

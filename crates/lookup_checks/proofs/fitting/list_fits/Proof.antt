@@ -17,7 +17,8 @@ unfolding goodList
 returns c =
     let a = c .before .before .before .before .before .before .args in
     let s = lent (a .«data» .now) (a .objects .now) (a .links .now) (a .counts) in
-    length-fails s (a .list) listExact isListSlot (c .before .before .bytes-of .ensures (a .links .now) (a .counts)) (c .before .list-exact .ensures) (c .if1 .taken)
+    length-fails s (a .list) listExact isListSlot
+    (c .before .before .bytes-of .ensures (a .links .now) (a .counts)) (c .before .list-exact .ensures) (c .if1 .taken)
 
 lookup-count-requires : tie.Need-lookup-count-requires
 lookup-count-requires c κs =
@@ -34,7 +35,8 @@ returns-2 c =
     let exact = c .before .before .before in
     let a = exact .before .before .before .before .before .args in
     let s = lent (a .«data» .now) (a .objects .now) (a .links .now) (a .counts) in
-    slots-decide s (a .list) listExact isListSlot (exact .before .bytes-of .ensures (a .links .now) (a .counts)) (exact .list-exact .ensures) (c .before .before .if1 .left)
+    slots-decide s (a .list) listExact isListSlot
+    (exact .before .bytes-of .ensures (a .links .now) (a .counts)) (exact .list-exact .ensures) (c .before .before .if1 .left)
     (c .all-at .ensures (a .«data» .now) (a .objects .now) ∙ ap (λ (n : ℕ). allAt s (a .list) (isOneOf listHeader n)) (c .before .lookup-count .ensures))
 
 pub list-fits-spec : {M : Type 1} → statement M

@@ -17,7 +17,8 @@ unfolding goodLookup
 returns c =
     let a = c .before .before .before .before .before .before .args in
     let s = lent (a .«data» .now) (a .objects .now) (a .links .now) (a .counts) in
-    length-fails s (a .lookup) lookupExact isSubtableSlot (c .before .before .bytes-of .ensures (a .links .now) (a .counts)) (c .before .lookup-exact .ensures) (c .if1 .taken)
+    length-fails s (a .lookup) lookupExact isSubtableSlot
+    (c .before .before .bytes-of .ensures (a .links .now) (a .counts)) (c .before .lookup-exact .ensures) (c .if1 .taken)
 
 subtable-count-requires : tie.Need-subtable-count-requires
 subtable-count-requires c κs =
@@ -34,7 +35,8 @@ returns-2 c =
     let exact = c .before .before .before in
     let a = exact .before .before .before .before .before .args in
     let s = lent (a .«data» .now) (a .objects .now) (a .links .now) (a .counts) in
-    slots-decide s (a .lookup) lookupExact isSubtableSlot (exact .before .bytes-of .ensures (a .links .now) (a .counts)) (exact .lookup-exact .ensures) (c .before .before .if1 .left)
+    slots-decide s (a .lookup) lookupExact isSubtableSlot
+    (exact .before .bytes-of .ensures (a .links .now) (a .counts)) (exact .lookup-exact .ensures) (c .before .before .if1 .left)
     (c .all-at .ensures (a .«data» .now) (a .objects .now) ∙ ap (λ (n : ℕ). allAt s (a .lookup) (isOneOf lookupHeader n)) (c .before .subtable-count .ensures))
 
 pub lookup-fits-spec : {M : Type 1} → statement M
