@@ -1,4 +1,5 @@
 pub mod Answers
+pub mod Settings
 pub mod Scratch
 pub mod Needs
 pub mod Outcomes

@@ -43,6 +43,11 @@ pub struct Needs {
     pub entries: usize,
 }
 
+// How a call cuts: by which edition of the cutting rule.
+pub struct Settings {
+    pub edition: u32,
+}
+
 // The number of an answer.
 pub fn number_of(answer: Answer) -> u32
     ensures { λ r. ⌜ r ≡ number answer ⌝ }

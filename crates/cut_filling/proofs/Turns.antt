@@ -1,50 +1,61 @@
 -- One item after another: before the first, an item that is passed over, added or cut at, and after the last. Assumes nothing.
 use Prim.Native.Nat.{ℕ, _+_, _-_, _≤_, _<_}
-use mathlib.Core.Path.{_≡_, refl, sym, ap, ap₂, subst, _∙_}
-use mathlib.Core.Bool.{Bool, true, false, cond}
+use mathlib.Core.Path.{_≡_, sym, ap, ap₂, subst, _∙_}
+use mathlib.Core.Bool.{Bool, true, false, _&&_}
 use mathlib.Core.List.{List, [], _∷_}
 use native.Mathlib.Numerals.{add-one}
 use native.Mathlib.Omega.{arith}
+use lib.Dec.{leb}
 use lib.ListN.{length, take, drop, length-append}
-use borrow.Author.Tests.{ltb-false}
+use borrow.Author.Tests.{leb-false, ltb-false}
 use Rattle.folds.specs.Lists.{put, part}
-use Rattle.folds.proofs.Tests.{by-test}
+use Rattle.folds.proofs.Tests.{by-test, cond-has}
 use Rattle.folds.proofs.Put.{put-nil, put-front, length-put}
-use Rattle.cut_rules.specs.Cuts.{Rule, Cutting, exceeds, cutHere, goOn, weigh, step, after, cutsOf}
+use Rattle.cut_rules.specs.Cuts.{Rule, Cutting, second, costAtCut, leastCut, exceeds, due, cutHere, goOn, weigh, step, after, cutsOf}
+use Rattle.cut_rules.proofs.Turns.{looksAt, costNow, step-passed, step-looked, weigh-cut, weigh-on}
 use Rattle.cut_filling.specs.declared.Filling.{Filling}
 use Rattle.cut_filling.specs.Filling.{Fills, Listed, Placed, Filled}
 
--- ---- document 01's step
+-- ---- the rule's step
 
+module _ (r : Rule) (i : ℕ) where
+  after-one : after r (i + 1) ≡ step r (after r i) i
+  unfolding after
+  after-one = ap (after r) (add-one i)
+
+  pub after-passed : looksAt r i ≡ false → after r (i + 1) ≡ after r i
+  after-passed h = after-one ∙ step-passed r (after r i) i h
+
+  module _ (looks : looksAt r i ≡ true) (cost : ℕ) (costs : cost ≡ costNow r (after r i) i) where
+    after-looked : after r (i + 1) ≡ weigh r (after r i) i cost
+    after-looked = after-one ∙ step-looked r (after r i) i looks ∙ ap (weigh r (after r i) i) (sym costs)
+
+    -- no cut: the item is in the table that is being filled
+    pub goes-on : due r (after r i) i cost ≡ false → after r (i + 1) ≡ goOn (after r i) cost
+    goes-on e = after-looked ∙ weigh-on r (after r i) i cost e
+
+    -- a cut: the item is the first of the next table
+    pub cuts-here : due r (after r i) i cost ≡ true → after r (i + 1) ≡ cutHere r (after r i) i cost
+    cuts-here e = after-looked ∙ weigh-cut r (after r i) i cost e
+
+-- a sum that goes on stays small: within the limit, but for item 0 where no cut is at 0
 module _ (r : Rule) where
-  after-looked : (i : ℕ) → r .looks i ≡ true → after r (i + 1) ≡ weigh r (after r i) i (r .cost (after r i .seen) i)
-  unfolding after step
-  after-looked i h = ap (after r) (add-one i) ∙ ap (λ (b : Bool). cond b (weigh r (after r i) i (r .cost (after r i .seen) i)) (after r i)) h
+  least-few : leastCut (r .edition) ≤ 1
+  unfolding leastCut
+  least-few = cond-has (λ (n : ℕ). n ≤ 1) (second (r .edition)) 1 0 (omega arith) (omega arith)
 
-  pub after-passed : (i : ℕ) → r .looks i ≡ false → after r (i + 1) ≡ after r i
-  unfolding after step
-  after-passed i h = ap (after r) (add-one i) ∙ ap (λ (b : Bool). cond b (weigh r (after r i) i (r .cost (after r i .seen) i)) (after r i)) h
+  start-sum : (i : ℕ) → i ≡ 0 → after r i .sum ≡ r .start
+  unfolding after
+  start-sum i e = ap (λ (k : ℕ). after r k .sum) e
 
-  module _ (c : Cutting) (i cost : ℕ) where
-    weigh-cut : exceeds r c i cost ≡ true → weigh r c i cost ≡ cutHere r c i cost
-    unfolding weigh
-    weigh-cut e = ap (λ (b : Bool). cond b (cutHere r c i cost) (goOn c cost)) e
-
-    weigh-on : exceeds r c i cost ≡ false → weigh r c i cost ≡ goOn c cost
-    unfolding weigh
-    weigh-on e = ap (λ (b : Bool). cond b (cutHere r c i cost) (goOn c cost)) e
-
-    weigh-small : exceeds r c i cost ≡ false → c .sum + cost ≤ 65535
-    unfolding exceeds
-    weigh-small e = omega (arith, ltb-false 65535 (c .sum + cost + r .beside (c .first) i) e)
-
-    cut-longer : length (cutHere r c i cost .cuts) ≡ length (c .cuts) + 1
-    unfolding cutHere
-    cut-longer = length-append (c .cuts) (i ∷ [])
-
-    on-same : length (goOn c cost .cuts) ≡ length (c .cuts)
-    unfolding goOn
-    on-same = refl
+  stays-small : (i cost : ℕ) → r .start + cost ≤ 67108864 → due r (after r i) i cost ≡ false → after r i .sum + cost ≤ 67108864
+  unfolding due exceeds
+  stays-small i cost few h =
+      by-test (exceeds r (after r i) i cost)
+      (λ x.
+      let no : leb (leastCut (r .edition)) i ≡ false = ap (λ (b : Bool). b && leb (leastCut (r .edition)) i) (sym x) ∙ h in
+      omega (arith, start-sum i (omega (arith, leb-false (leastCut (r .edition)) i no, least-few))))
+      (λ x. omega (arith, ltb-false 65535 (after r i .sum + cost + r .beside (after r i .first) i) x))
 
 -- ---- the code's step
 
@@ -69,7 +80,7 @@ module _ (r : Rule) where
         omega (arith, v .few, v .room, ap length (v .listed .listed), length-put d 0 (after r i .cuts) n)
 
     -- an item that is not looked at
-    pub passed : r .looks i ≡ false → Filled r d (i + 1) f l
+    pub passed : looksAt r i ≡ false → Filled r d (i + 1) f l
     passed h =
         let e : after r (i + 1) ≡ after r i = after-passed r i h in
         record {
@@ -80,58 +91,37 @@ module _ (r : Rule) where
           room = v .room;
         }
 
-    module _ (cost : ℕ) (looks : r .looks i ≡ true) (costs : cost ≡ r .cost (after r i .seen) i) {f′ : Filling} {l′ : List ℕ} (g : Listed f′ (weigh r (after r i) i cost) d l′) where
-      after-is : after r (i + 1) ≡ weigh r (after r i) i cost
-      after-is = after-looked r i looks ∙ ap (weigh r (after r i) i) (sym costs)
+    -- one cut more
+    pub one-more : (cost : ℕ) {f′ : Filling} {l′ : List ℕ} → Listed f′ (cutHere r (after r i) i cost) d l′ → f′ .cuts ≡ f .cuts + 1
+    unfolding cutHere
+    one-more cost g = omega (arith, v .listed .fills .cuts, g .fills .cuts, length-append (after r i .cuts) (i ∷ []))
 
-      told : length (weigh r (after r i) i cost .cuts) ≡ f′ .cuts
-      told = sym (g .fills .cuts)
+    module _ (looks : looksAt r i ≡ true) (cost : ℕ) (costs : cost ≡ costNow r (after r i) i) {f′ : Filling} where
+      -- no cut
+      pub added : due r (after r i) i cost ≡ false → r .start + cost ≤ 67108864 → Listed f′ (goOn (after r i) cost) d l → Filled r d (i + 1) f′ l
+      unfolding goOn
+      added h few g =
+          let e = goes-on r i looks cost costs h in
+          record {
+            listed = subst (λ (c : Cutting). Listed f′ c d l) (sym e) g;
+            first = omega (arith, v .first, ap (λ (c : Cutting). c .first) e);
+            few = omega (arith, v .few, v .listed .fills .cuts, g .fills .cuts);
+            small = omega (arith, g .fills .sum, stays-small r i cost few h);
+            room = v .room;
+          }
 
-      module _ (same : f′ .cuts ≡ f .cuts) where
-        stays : exceeds r (after r i) i cost ≡ false
-        stays =
-            by-test (exceeds r (after r i) i cost)
-            (λ b. absurd (omega (arith, told, v .listed .fills .cuts, ap (λ (z : Cutting). length (z .cuts)) (weigh-cut r (after r i) i cost b), cut-longer r (after r i) i cost)))
-            (λ b. b)
-
-        -- no cut: the item is in the table that is being filled
-        pub goes-on : after r (i + 1) ≡ goOn (after r i) cost
-        goes-on = after-is ∙ weigh-on r (after r i) i cost stays
-
-        pub added : Filled r d (i + 1) f′ l′
-        unfolding goOn
-        added =
-            record {
-              listed = subst (λ (z : Cutting). Listed f′ z d l′) (sym after-is) g;
-              first = omega (arith, v .first, ap (λ (c : Cutting). c .first) goes-on);
-              few = omega (arith, v .few);
-              small = omega (arith, g .fills .sum, ap (λ (z : Cutting). z .sum) (weigh-on r (after r i) i cost stays), weigh-small r (after r i) i cost stays);
-              room = v .room;
-            }
-
-      module _ (more : f′ .cuts ≡ f .cuts → ⊥) where
-        -- a cut: the item is the first of the next table
-        weighs-cut : weigh r (after r i) i cost ≡ cutHere r (after r i) i cost
-        weighs-cut =
-            by-test (exceeds r (after r i) i cost) (λ b. weigh-cut r (after r i) i cost b)
-            (λ b. absurd (more (omega (arith, told, v .listed .fills .cuts, ap (λ (z : Cutting). length (z .cuts)) (weigh-on r (after r i) i cost b), on-same r (after r i) i cost))))
-
-        pub cuts-here : after r (i + 1) ≡ cutHere r (after r i) i cost
-        cuts-here = after-is ∙ weighs-cut
-
-        pub one-more : f′ .cuts ≡ f .cuts + 1
-        one-more = omega (arith, told, v .listed .fills .cuts, ap (λ (z : Cutting). length (z .cuts)) weighs-cut, cut-longer r (after r i) i cost)
-
-        pub cut : r .start + cost ≤ 67108864 → Filled r d (i + 1) f′ l′
-        unfolding cutHere
-        cut h =
-            record {
-              listed = subst (λ (z : Cutting). Listed f′ z d l′) (sym after-is) g;
-              first = omega (arith, ap (λ (c : Cutting). c .first) cuts-here);
-              few = omega (arith, v .few, one-more);
-              small = omega (arith, g .fills .sum, ap (λ (z : Cutting). z .sum) weighs-cut);
-              room = v .room;
-            }
+      pub cut : {l′ : List ℕ} → due r (after r i) i cost ≡ true → r .start + costAtCut r i cost ≤ 67108864
+          → Listed f′ (cutHere r (after r i) i cost) d l′ → Filled r d (i + 1) f′ l′
+      unfolding cutHere
+      cut {l′} h few g =
+          let e = cuts-here r i looks cost costs h in
+          record {
+            listed = subst (λ (c : Cutting). Listed f′ c d l′) (sym e) g;
+            first = omega (arith, ap (λ (c : Cutting). c .first) e);
+            few = omega (arith, v .few, one-more cost g);
+            small = omega (arith, g .fills .sum);
+            room = v .room;
+          }
 
   -- after the last item
   module _ {d : List ℕ} {i : ℕ} {f : Filling} {l : List ℕ} (v : Filled r d i f l) (e : i ≡ r .count) where

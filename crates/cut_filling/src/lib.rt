@@ -1,10 +1,11 @@
-// The step that both formats share: an item is weighed, and goes into the table that is being filled or starts the next one.
+// The step that every kind of table shares: an item is weighed, and goes into the table that is being filled or starts the next one. A caller asks
+// whether a cut is due before it says what the item costs at it, since edition 2 measures the item at a cut again.
 ghost use mathlib.Core.Path.{_≡_};
 ghost use Prim.Native.Nat.{_<_};
 ghost use lib.ListN.{length};
 ghost use Rattle.cut_rules.specs.Cuts.{Rule, after};
 ghost use Rattle.folds.specs.Moments.{came, left};
-ghost use Rattle.cut_filling.specs.Filling.{Fills, Weighed};
+ghost use Rattle.cut_filling.specs.Filling.{Fills, IsDue, Added, Cut};
 
 // The table that is being filled: its first item, the sum of its items so far, and how many cuts stand before it.
 pub struct Filling {
@@ -25,22 +26,39 @@ impl Filling {
         }
     }
 
-    // Item `i`, which costs `cost`, with `beside` bytes of coverage and class definitions; a table starts at `start` bytes.
-    pub fn weigh(mut self, i: u16, cost: u64, beside: u64, start: u64, cuts: &mut [u16]) -> Self
-        requires { ⌜
-            (self .sum < 4294967296) × (cost < 4294967296) × (beside < 4294967296) × (start < 4294967296) × (self .cuts < length (now cuts))
-            ⌝ }
-        ensures { λ f. ⌜ Weighed self i cost beside start (came cuts) f (left cuts) ⌝ }
+    // Whether a cut is due at item `i`, which costs `cost`, with `beside` bytes of coverage and class definitions.
+    pub fn is_due(self, i: u16, cost: u64, beside: u64, edition: u32) -> bool
+        requires { ⌜ (self .sum < 4294967296) × (cost < 4294967296) × (beside < 4294967296) ⌝ }
+        ensures { λ b. ⌜ IsDue self i cost beside edition b ⌝ }
+    {
+        if self.sum + cost + beside <= 65535 {
+            return false;
+        }
+        if edition == 2 {
+            return 0 < i;
+        }
+        true
+    }
+
+    // An item that costs `cost` goes into the table.
+    pub fn add(mut self, cost: u64) -> Self
+        requires { ⌜ (self .sum < 4294967296) × (cost < 4294967296) ⌝ }
+        ensures { λ f. ⌜ Added self cost f ⌝ }
+    {
+        self.sum = self.sum + cost;
+        self
+    }
+
+    // Item `i`, which costs `cost` at a cut, starts the next table, whose header has `start` bytes.
+    pub fn cut(mut self, i: u16, cost: u64, start: u64, cuts: &mut [u16]) -> Self
+        requires { ⌜ (cost < 4294967296) × (start < 4294967296) × (self .cuts < length (now cuts)) ⌝ }
+        ensures { λ f. ⌜ Cut self i cost start (came cuts) f (left cuts) ⌝ }
     {
         let at = self.cuts;
-        if 65535 < self.sum + cost + beside {
-            cuts[at] = i;
-            self.first = i;
-            self.sum = start + cost;
-            self.cuts = at + 1;
-            return self;
-        }
-        self.sum = self.sum + cost;
+        cuts[at] = i;
+        self.first = i;
+        self.sum = start + cost;
+        self.cuts = at + 1;
         self
     }
 }

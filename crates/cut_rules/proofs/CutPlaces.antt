@@ -1,18 +1,19 @@
 -- The cuts strictly ascend, each below the number of items; so the ranges between them cover the items, and no two of them meet. Assumes nothing.
 use Prim.Native.Nat.{ℕ, zero, suc, _+_, _<_, _≤_}
-use mathlib.Core.Path.{_≡_, refl, sym}
-use mathlib.Core.List.{List, [], _∷_, _++_}
+use mathlib.Core.Path.{_≡_, refl}
+use mathlib.Core.Bool.{true}
+use mathlib.Core.List.{List}
 use mathlib.Core.Logic.{_⊎_, inl, inr, ⊎-elim}
 use native.Mathlib.Numerals.{add-one}
 use native.Mathlib.Omega.{arith}
-use native.Mathlib.Decide.{decLt}
 use native.Mathlib.Nat.{not-suc-le-zero, eq-or-lt-of-le}
-use lib.ListN.{length, getD, List·getD-append, length-append, List·getD-eq-default}
-use lib.Seq.{getD-at}
-use Rattle.folds.proofs.Tests.{cond-has, either}
+use lib.ListN.{length, getD, List·getD-eq-default}
+use Rattle.folds.proofs.Tests.{either}
 use Rattle.folds.proofs.Parts.{getD-default}
-use Rattle.cut_rules.specs.Cuts.{Rule, Cutting, step, weigh, cutHere, goOn, exceeds, after}
-use Rattle.cut_rules.specs.Places.{Places}
+use Rattle.cut_rules.specs.Cuts.{Rule, Cutting, leastCut, cutHere, goOn, after, cutsOf}
+use Rattle.cut_rules.specs.Places.{Places, ascending}
+use Rattle.cut_rules.proofs.Turns.{costNow, due-both, Turn, turn}
+use Rattle.cut_rules.proofs.Ascending.{ascending-wide, ascending-more, ascending-places}
 
 -- so that there are no more than n
 module _ (n : ℕ) (cs : List ℕ) (p : Places n cs) where
@@ -27,43 +28,28 @@ module _ (n : ℕ) (cs : List ℕ) (p : Places n cs) where
       go zero e = omega arith
       go (suc m) e = omega (arith, index-low m (omega arith), p .below m (omega arith))
 
-more : (n : ℕ) (cs : List ℕ) → Places n cs → Places (suc n) cs
-more n cs p = record { below = λ j l. let h : getD cs j 0 < n = p .below j l in omega arith; rising = p .rising }
+-- ---- the cuts
 
-snoc : (n : ℕ) (cs : List ℕ) → Places n cs → Places (suc n) (cs ++ (n ∷ []))
-snoc n cs p =
-    record {
-      below = λ j l. ⊎-elim (λ h. let b : getD cs j 0 < n = p .below j h in omega (arith, same j h)) (λ e. omega (arith, last j e)) (split j l);
-      rising = λ j l. ⊎-elim
-          (λ h. let b : getD cs j 0 < getD cs (j + 1) 0 = p .rising j h in omega (arith, same j (omega arith), same (j + 1) h))
-          (λ e. let b : getD cs j 0 < n = p .below j (omega arith) in omega (arith, same j (omega arith), last (j + 1) e)) (split (j + 1) l);
-    }
-  where
-    same : (j : ℕ) → j < length cs → getD (cs ++ (n ∷ [])) j 0 ≡ getD cs j 0
-    same j h = List·getD-append cs (n ∷ []) 0 j h
+module _ (r : Rule) where
+  ascending-next : (c : Cutting) (k : ℕ) {d : Cutting} → Turn r c k d → ascending (leastCut (r .edition)) k (c .cuts) ≡ true
+      → ascending (leastCut (r .edition)) (suc k) (d .cuts) ≡ true
+  unfolding goOn cutHere
+  ascending-next c k (Turn.passed l) p = ascending-wide (leastCut (r .edition)) k (suc k) (c .cuts) (omega arith) p
+  ascending-next c k (Turn.added l x) p = ascending-wide (leastCut (r .edition)) k (suc k) (c .cuts) (omega arith) p
+  ascending-next c k (Turn.cut x) p = ascending-more (leastCut (r .edition)) k (c .cuts) (due-both r c k (costNow r c k) x .1) p
 
-    last : (j : ℕ) → j ≡ length cs → getD (cs ++ (n ∷ [])) j 0 ≡ n
-    last j e = getD-at cs n [] 0 j (sym e)
+  ascending-after : (k : ℕ) → ascending (leastCut (r .edition)) k (after r k .cuts) ≡ true
+  unfolding after ascending
+  ascending-after zero = refl
+  ascending-after (suc k) = ascending-next (after r k) k (turn r (after r k) k) (ascending-after k)
 
-    split : (j : ℕ) → j < length (cs ++ (n ∷ [])) → (j < length cs) ⊎ (j ≡ length cs)
-    split j l = go (decLt j (length cs))
-      where
-        go : Dec (j < length cs) → (j < length cs) ⊎ (j ≡ length cs)
-        go (yes h) = inl h
-        go (no h) = inr (omega (arith, length-append cs (n ∷ [])))
+  pub places : (k : ℕ) → Places k (after r k .cuts)
+  places k = ascending-places (leastCut (r .edition)) k (after r k .cuts) (ascending-after k)
 
-step-places : (r : Rule) (c : Cutting) (k : ℕ) → Places k (c .cuts) → Places (suc k) (step r c k .cuts)
-unfolding step weigh cutHere goOn
-step-places r c k p =
-    let x = r .cost (c .seen) k in
-    cond-has (λ (d : Cutting). Places (suc k) (d .cuts)) (r .looks k) (weigh r c k x) c
-    (cond-has (λ (d : Cutting). Places (suc k) (d .cuts)) (exceeds r c k x) (cutHere r c k x) (goOn c x) (snoc k (c .cuts) p) (more k (c .cuts) p))
-    (more k (c .cuts) p)
-
-pub places : (r : Rule) (k : ℕ) → Places k (after r k .cuts)
-unfolding after
-places r zero = record { below = λ j l. absurd (not-suc-le-zero l); rising = λ j l. absurd (not-suc-le-zero l) }
-places r (suc k) = step-places r (after r k) k (places r k)
+  -- none is below the edition's least: in edition 2 none is 0
+  pub cuts-ascend : ascending (leastCut (r .edition)) (r .count) (cutsOf r) ≡ true
+  unfolding cutsOf
+  cuts-ascend = ascending-after (r .count)
 
 -- ---- ranges: the kept table's is the first
 

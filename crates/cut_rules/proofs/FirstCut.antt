@@ -1,129 +1,102 @@
--- Nothing is cut below the first cut, and neither by a rule that asks no more below it. Assumes nothing.
+-- Nothing is cut below the first cut, and neither by a rule of the same edition that asks no more below it. Assumes nothing.
 use Prim.Native.Nat.{ℕ, zero, suc, _+_, _-_, _<_, _≤_}
 use mathlib.Core.Path.{_≡_, refl, sym, ap, subst, _∙_}
-use mathlib.Core.Bool.{Bool, true, false, cond}
+use mathlib.Core.Bool.{false, _||_}
 use mathlib.Core.List.{List, [], _∷_, _++_}
-use mathlib.Core.Logic.{_⊎_, inl, inr, ⊎-elim}
-use mathlib.Core.Option.{some}
 use native.Mathlib.Omega.{arith}
-use lib.ListN.{length, getD, length-append, List·getD-append}
+use lib.Dec.{leb}
+use lib.ListN.{length, getD, length-append}
 use borrow.Author.Tests.{ltb-false, le-ltb}
-use Rattle.folds.proofs.Tests.{by-test}
-use Rattle.cut_rules.specs.Cuts.{Rule, Cutting, step, exceeds, goOn, cutHere, weigh, after, cutsOf}
+use Rattle.folds.proofs.Tests.{and-first, and-second, by-test}
+use Rattle.cut_rules.specs.Cuts.{Rule, Cutting, second, looked, leastCut, exceeds, due, cutHere, goOn, step, after, cutsOf}
+use Rattle.cut_rules.proofs.Turns.{looksAt, costNow, step-passed, step-looked, weigh-on, Turn, turn}
 use Rattle.cut_rules.proofs.CutPlaces.{places}
-
--- an item is passed over, added, or cut at
-data Turn (r : Rule) (c : Cutting) (i : ℕ) : Type 0 where
-  passed : r .looks i ≡ false → step r c i ≡ c → Turn r c i
-  added : r .looks i ≡ true → exceeds r c i (r .cost (c .seen) i) ≡ false → step r c i ≡ goOn c (r .cost (c .seen) i) → Turn r c i
-  cut : step r c i ≡ cutHere r c i (r .cost (c .seen) i) → Turn r c i
-
-module _ (r : Rule) (c : Cutting) (i : ℕ) where
-  looked : (b : Bool) → r .looks i ≡ b → step r c i ≡ cond b (weigh r c i (r .cost (c .seen) i)) c
-  unfolding step
-  looked b e = ap (λ (x : Bool). cond x (weigh r c i (r .cost (c .seen) i)) c) e
-
-  weighed : (b : Bool) → exceeds r c i (r .cost (c .seen) i) ≡ b → weigh r c i (r .cost (c .seen) i) ≡ cond b (cutHere r c i (r .cost (c .seen) i)) (goOn c (r .cost (c .seen) i))
-  unfolding weigh
-  weighed b e = ap (λ (x : Bool). cond x (cutHere r c i (r .cost (c .seen) i)) (goOn c (r .cost (c .seen) i))) e
-
-  turn : Turn r c i
-  turn =
-      by-test (r .looks i)
-      (λ e. by-test (exceeds r c i (r .cost (c .seen) i)) (λ f. Turn.cut (looked true e ∙ weighed true f)) (λ f. Turn.added e f (looked true e ∙ weighed false f)))
-      (λ e. Turn.passed e (looked false e))
 
 -- ---- the first cut stays the first
 
-abbrev cutsIn : Cutting → List ℕ
-cutsIn c = c .cuts
+-- a list of cuts that starts with x
+abbrev Starts : ℕ → List ℕ → Type 0
+Starts x cs = (xs : List ℕ) × (cs ≡ x ∷ xs)
 
-cuts-cases : (r : Rule) (c : Cutting) (i : ℕ) → (step r c i .cuts ≡ c .cuts) ⊎ (step r c i .cuts ≡ c .cuts ++ (i ∷ []))
-unfolding cutHere goOn
-cuts-cases r c i = go (turn r c i)
-  where
-    go : Turn r c i → (step r c i .cuts ≡ c .cuts) ⊎ (step r c i .cuts ≡ c .cuts ++ (i ∷ []))
-    go (Turn.passed l e) = inl (ap cutsIn e)
-    go (Turn.added l x e) = inl (ap cutsIn e)
-    go (Turn.cut e) = inr (ap cutsIn e)
+starts-next : (r : Rule) (c : Cutting) (k x : ℕ) {d : Cutting} → Turn r c k d → Starts x (c .cuts) → Starts x (d .cuts)
+unfolding goOn cutHere
+starts-next r c k x (Turn.passed l) s = s
+starts-next r c k x (Turn.added l h) s = s
+starts-next r c k x (Turn.cut h) (xs, e) = (xs ++ (k ∷ []), ap (λ (cs : List ℕ). cs ++ (k ∷ [])) e)
 
-one-more : (r : Rule) (k : ℕ) → after r (suc k) ≡ step r (after r k) k
+starts-on : (r : Rule) (k d x : ℕ) → Starts x (after r k .cuts) → Starts x (after r (k + d) .cuts)
 unfolding after
-one-more r k = refl
-
-first-fixed : (r : Rule) (k d : ℕ) → 0 < length (after r k .cuts) → (0 < length (after r (k + d) .cuts)) × (getD (after r (k + d) .cuts) 0 0 ≡ getD (after r k .cuts) 0 0)
-first-fixed r k zero h = let z : k + 0 ≡ k = omega arith in rw z (h, refl)
-first-fixed r k (suc d) h =
+starts-on r k zero x s = let z : k + 0 ≡ k = omega arith in rw z s
+starts-on r k (suc d) x s =
     let z : k + suc d ≡ suc (k + d) = omega arith in
-    let (a, b) = first-fixed r k d h in
-    rw (z, ap cutsIn (one-more r (k + d)))
-    (⊎-elim (λ q. rw q (a, b))
-    (λ q. rw q (omega (arith, length-append (after r (k + d) .cuts) ((k + d) ∷ [])), List·getD-append (after r (k + d) .cuts) ((k + d) ∷ []) 0 0 a ∙ b))
-    (cuts-cases r (after r (k + d)) (k + d)))
-
-none-or-some : (xs : List ℕ) → (xs ≡ []) ⊎ (0 < length xs)
-none-or-some [] = inl refl
-none-or-some (x ∷ xs) = inr (omega arith)
+    subst (λ (n : ℕ). Starts x (after r n .cuts)) (sym z) (starts-next r (after r (k + d)) (k + d) x (turn r (after r (k + d)) (k + d)) (starts-on r k d x s))
 
 -- so nothing is cut up to it
 pub none-before : (r : Rule) (k : ℕ) → k ≤ r .count → k ≤ getD (cutsOf r) 0 0 → after r k .cuts ≡ []
 unfolding cutsOf
-none-before r k h l =
-    ⊎-elim (λ e. e)
-    (λ some.
-    let z : k + (r .count - k) ≡ r .count = omega arith in
-    let (a, b) = first-fixed r k (r .count - k) some in
-    let e : getD (after r (r .count) .cuts) 0 0 ≡ getD (after r k .cuts) 0 0 = subst (λ (n : ℕ). getD (after r n .cuts) 0 0 ≡ getD (after r k .cuts) 0 0) z b in
-    absurd (omega (arith, places r k .below 0 some)))
-    (none-or-some (after r k .cuts))
+none-before r k h l = go (after r k .cuts) refl
+  where
+    go : (cs : List ℕ) → after r k .cuts ≡ cs → after r k .cuts ≡ []
+    go [] e = e
+    go (x ∷ xs) e =
+        let z : k + (r .count - k) ≡ r .count = omega arith in
+        let (ys, f) = subst (λ (n : ℕ). Starts x (after r n .cuts)) z (starts-on r k (r .count - k) x (xs, e)) in
+        absurd
+        (omega (
+          arith,
+          ap (λ (cs : List ℕ). getD cs 0 0) f,
+          ap (λ (cs : List ℕ). getD cs 0 0) e,
+          places r k .below 0 (omega (arith, ap length e)),
+        ))
 
 -- ---- while nothing is cut
 
-no-cut-here : (r : Rule) (c : Cutting) (k : ℕ) → step r c k ≡ cutHere r c k (r .cost (c .seen) k) → step r c k .cuts ≡ [] → ⊥
-unfolding cutHere
-no-cut-here r c k b e = omega (arith, length-append (c .cuts) (k ∷ []), ap length (sym (ap cutsIn b) ∙ e))
-
--- the table being filled and what counts as seen start at 0
-uncut : (r : Rule) (k : ℕ) → after r k .cuts ≡ [] → (after r k .first ≡ 0) × (after r k .seen ≡ 0)
-unfolding after goOn
-uncut r zero e = (refl, refl)
-uncut r (suc k) e = go (turn r (after r k) k) (uncut r k)
-  where
-    go : Turn r (after r k) k → (after r k .cuts ≡ [] → (after r k .first ≡ 0) × (after r k .seen ≡ 0)) → (step r (after r k) k .first ≡ 0) × (step r (after r k) k .seen ≡ 0)
-    go (Turn.passed l q) ih = let (a, b) = ih (sym (ap cutsIn q) ∙ e) in (ap (λ (x : Cutting). x .first) q ∙ a, ap (λ (x : Cutting). x .seen) q ∙ b)
-    go (Turn.added l x q) ih = let (a, b) = ih (sym (ap cutsIn q) ∙ e) in (ap (λ (x : Cutting). x .first) q ∙ a, ap (λ (x : Cutting). x .seen) q ∙ b)
-    go (Turn.cut q) ih = absurd (no-cut-here r (after r k) k q e)
-
 -- a rule q that asks no more than r below n, up to which r cuts nothing
-module _ (r q : Rule) (n : ℕ) (uncut-up : (k : ℕ) → k ≤ n → after r k .cuts ≡ []) (start : q .start ≡ r .start)
-    (looks : (i : ℕ) → i < n → q .looks i ≡ r .looks i) (cost : (i : ℕ) → i < n → q .cost 0 i ≡ r .cost 0 i) (beside : (i : ℕ) → i < n → q .beside 0 i ≤ r .beside 0 i) where
+module _ (r q : Rule) (n : ℕ) (uncut-up : (k : ℕ) → k ≤ n → after r k .cuts ≡ []) (edition : q .edition ≡ r .edition) (start : q .start ≡ r .start)
+    (full : (i : ℕ) → i < n → q .full i ≡ r .full i) (cost : (i : ℕ) → i < n → q .cost 0 i ≡ r .cost 0 i) (beside : (i : ℕ) → i < n → q .beside 0 i ≤ r .beside 0 i) where
+  -- both stand alike, and the table being filled and what counts as seen start at 0
+  record Alike (c d : Cutting) : Type 0 where
+    same : c ≡ d
+    first : d .first ≡ 0
+    seen : d .seen ≡ 0
+
   -- one item of both
-  same-step : (c : Cutting) (k : ℕ) → k < n → c .first ≡ 0 → c .seen ≡ 0 → (step r c k .cuts ≡ []) → step q c k ≡ step r c k
-  unfolding exceeds
-  same-step c k l f w e = go (turn r c k)
+  alike-next : (c : Cutting) (k : ℕ) {d : Cutting} → k < n → c .first ≡ 0 → c .seen ≡ 0 → Turn r c k d → d .cuts ≡ [] → Alike (step q c k) d
+  unfolding goOn cutHere looked exceeds due
+  alike-next c k l f w t u = go t u
     where
-      costs : q .cost (c .seen) k ≡ r .cost (c .seen) k
-      costs = ap (λ (m : ℕ). q .cost m k) w ∙ cost k l ∙ sym (ap (λ (m : ℕ). r .cost m k) w)
+      looks : looksAt q k ≡ looksAt r k
+      looks = λ i. second (edition i) || full k l i
 
-      less : q .beside (c .first) k ≤ r .beside (c .first) k
-      less = subst (λ (m : ℕ). q .beside m k ≤ r .beside m k) (sym f) (beside k l)
+      costs : costNow q c k ≡ costNow r c k
+      costs = ap (λ (a : ℕ). q .cost a k) w ∙ cost k l ∙ sym (ap (λ (a : ℕ). r .cost a k) w)
 
-      go : Turn r c k → step q c k ≡ step r c k
-      go (Turn.passed a b) = looked q c k false (looks k l ∙ a) ∙ sym b
-      go (Turn.added a x b) =
-          let u : c .sum + r .cost (c .seen) k + r .beside (c .first) k ≤ 65535 = ltb-false 65535 (c .sum + r .cost (c .seen) k + r .beside (c .first) k) x in
-          looked q c k true (looks k l ∙ a)
-          ∙ weighed q c k false (le-ltb 65535 (c .sum + q .cost (c .seen) k + q .beside (c .first) k) (omega (arith, costs, less)))
-          ∙ ap (goOn c) costs ∙ sym b
-      go (Turn.cut b) = absurd (no-cut-here r c k b e)
+      fewer : due r c k (costNow r c k) ≡ false → due q c k (costNow q c k) ≡ false
+      fewer h =
+          by-test (leb (leastCut (r .edition)) k)
+          (λ t.
+          let fit : exceeds r c k (costNow r c k) ≡ false = by-test (exceeds r c k (costNow r c k)) (λ e. sym (rw (e, t)) ∙ h) (λ e. e) in
+          let less : q .beside (c .first) k ≤ r .beside (c .first) k = subst (λ (a : ℕ). q .beside a k ≤ r .beside a k) (sym f) (beside k l) in
+          and-first (exceeds q c k (costNow q c k)) (leb (leastCut (q .edition)) k)
+          (le-ltb 65535 (c .sum + costNow q c k + q .beside (c .first) k)
+          (omega (arith, costs, ltb-false 65535 (c .sum + costNow r c k + r .beside (c .first) k) fit))))
+          (λ t. and-second (exceeds q c k (costNow q c k)) (leb (leastCut (q .edition)) k) (ap (λ (e : ℕ). leb (leastCut e) k) edition ∙ t))
 
-  same-after : (k : ℕ) → k ≤ n → after q k ≡ after r k
+      go : {d : Cutting} → Turn r c k d → d .cuts ≡ [] → Alike (step q c k) d
+      go (Turn.passed h) u = record { same = step-passed q c k (looks ∙ h); first = f; seen = w }
+      go (Turn.added m h) u =
+          record { same = step-looked q c k (looks ∙ m) ∙ weigh-on q c k (costNow q c k) (fewer h) ∙ ap (goOn c) costs; first = f; seen = w }
+      go (Turn.cut h) u = absurd (omega (arith, length-append (c .cuts) (k ∷ []), ap length u))
+
+  alike : (k : ℕ) → k ≤ n → Alike (after q k) (after r k)
   unfolding after
-  same-after zero h = λ i. record { first = 0; seen = 0; sum = start i; cuts = [] }
-  same-after (suc k) h =
-      let (f, w) = uncut r k (uncut-up k (omega arith)) in
-      ap (λ (x : Cutting). step q x k) (same-after k (omega arith)) ∙ same-step (after r k) k (omega arith) f w (uncut-up (suc k) h)
+  alike zero l = record { same = λ i. record { first = 0; seen = 0; sum = start i; cuts = [] }; first = refl; seen = refl }
+  alike (suc k) l =
+      let a = alike k (omega arith) in
+      let b = alike-next (after r k) k (omega arith) (a .first) (a .seen) (turn r (after r k) k) (uncut-up (suc k) l) in
+      record { same = ap (λ (c : Cutting). step q c k) (a .same) ∙ b .same; first = b .first; seen = b .seen }
 
   pub cuts-none : q .count ≡ n → cutsOf q ≡ []
   unfolding cutsOf
-  cuts-none e = ap (λ (m : ℕ). after q m .cuts) e ∙ ap cutsIn (same-after n (omega arith)) ∙ uncut-up n (omega arith)
+  cuts-none e =
+      ap (λ (m : ℕ). after q m .cuts) e ∙ ap (λ (c : Cutting). c .cuts) (alike n (omega arith) .same) ∙ uncut-up n (omega arith)

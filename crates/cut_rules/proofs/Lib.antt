@@ -1,3 +1,10 @@
+pub mod Turns
+pub mod Ascending
 pub mod CutPlaces
 pub mod FirstCut
+pub mod Measures
+pub mod SumMeasured
+pub mod WithinLimit
+pub mod FewestCuts
+pub mod TablesUncut
 pub mod Pinned

@@ -1,3 +1,4 @@
 pub mod Cuts
 pub mod Ranges
 pub mod Places
+pub mod Measure

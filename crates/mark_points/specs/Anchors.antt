@@ -1,7 +1,7 @@
 -- The anchors of a class: which link rows they are, and what a walk of them adds. Assumes nothing.
 use Prim.Native.Nat.{ℕ, _+_, _*_}
 use mathlib.Core.Path.{_≡_}
-use mathlib.Core.Bool.{Bool, true}
+use mathlib.Core.Bool.{Bool, true, false}
 use mathlib.Core.List.{List, map}
 use lib.ListN.{getD}
 use Rattle.folds.specs.Folds.{upto}
@@ -10,6 +10,7 @@ use Rattle.store_rules.specs.Store.{Store, lent, sound}
 use Rattle.store_reader.specs.declared.LinkRows.{LinkRows}
 use Rattle.store_reader.specs.Rows.{ParentRows}
 use Rattle.store_walk.specs.Marks.{alsoAt, Marks, WalkReady, Grown}
+use Rattle.cut_rules.specs.Cuts.{second}
 use Rattle.mark_points.specs.declared.«table_info».TableInfo.{TableInfo}
 use Rattle.mark_points.specs.declared.anchors.ArrayRows.{ArrayRows}
 
@@ -43,3 +44,8 @@ alsoClass s from x i ps = alsoAt s (alsoAt s from (x .«base_array») (columnSlo
 pub record WalksClass (o l c : List ℕ) (x : TableInfo) (i : ℕ) (ps : List ℕ) (e : ℕ) (w w′ : List ℕ) (r : ℕ) : Type 0 where
   pub grown : (b : List ℕ) (from : ℕ → Bool) → sound (lent b o l c) ≡ true → Marks (lent b o l c) from e w
       → Grown (lent b o l c) from (alsoClass (lent b o l c) from x i ps) e w′ r
+
+-- at a cut the rows of class i were walked in edition 2; else nothing was, and its size is what it was before
+pub record WalksAtCut (o l c : List ℕ) (x : TableInfo) (i : ℕ) (ps : List ℕ) (before edition e : ℕ) (w w′ : List ℕ) (r : ℕ) : Type 0 where
+  pub again : second edition ≡ true → WalksClass o l c x i ps e w w′ r
+  pub stays : second edition ≡ false → (r ≡ before) × (w′ ≡ w)

@@ -9,7 +9,7 @@ ghost use mathlib.Core.List.{[], _∷_, map};
 ghost use Prim.Native.Nat.{_+_, _*_, _<_};
 ghost use Rattle.ot_layouts.specs.MarkBasePos.{markSlot, baseSlot};
 ghost use Rattle.folds.specs.Moments.{came, left};
-ghost use Rattle.mark_points.specs.Anchors.{columnSlots, RowsKnown, Goes, Walkable, WalksAt, WalksClass};
+ghost use Rattle.mark_points.specs.Anchors.{columnSlots, RowsKnown, Goes, Walkable, WalksAt, WalksClass, WalksAtCut};
 
 // The link rows of the mark array and of the base array.
 pub struct ArrayRows {
@@ -56,6 +56,42 @@ pub fn class_size(
         walk,
     );
     bases + marks
+}
+
+// The size at a cut of all anchors of `class`, which was `size` before it: edition 2 measures them again, in an epoch whose mark nothing has yet.
+pub fn class_size_at_cut(
+    objects: &[u32],
+    links: &[u32],
+    counts: [u32; 3],
+    info: TableInfo,
+    rows: ArrayRows,
+    class: u16,
+    places: &[u16],
+    size: u64,
+    edition: u32,
+    epoch: u32,
+    walk: &mut [u32],
+) -> u64
+    requires { ⌜ (class < info .classes) × (baseSlot (info .bases * info .classes) + 1 < 4294967296) ⌝ }
+    requires { ⌜ RowsKnown (now links) counts info rows × Goes (now objects) (now links) counts epoch (now walk) ⌝ }
+    ensures { λ r. ⌜
+        WalksAtCut (came objects) (came links) counts info class (came places) size edition epoch (came walk) (left walk) r
+        ⌝ }
+{
+    if edition == 2 {
+        return class_size(
+            objects,
+            links,
+            counts,
+            info,
+            rows,
+            class,
+            places,
+            epoch,
+            walk,
+        );
+    }
+    size
 }
 
 // The size of the anchor at `position` of `array`, the slot of that number; 0 where there is no link.

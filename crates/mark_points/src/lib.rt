@@ -1,6 +1,8 @@
-// Where to cut a MarkBasePos table: the counterpart of `compute_split_points`.
+// Where to cut a MarkBasePos table: the counterpart of `compute_split_points`, which is edition 1's.
 use crate::anchors::ArrayRows;
 use crate::anchors::class_size;
+use crate::anchors::class_size_at_cut;
+use call_rules::Settings;
 use cut_filling::Filling;
 use glyph_class_parts::class_end;
 use store_reader::rows_of;
@@ -29,6 +31,7 @@ pub fn compute_split_points(
     links: &[u32],
     counts: [u32; 3],
     info: TableInfo,
+    settings: Settings,
     places: &[u16],
     classes: &[u16],
     walk: &mut [u32],
@@ -38,7 +41,7 @@ pub fn compute_split_points(
         ((b : List ℕ) × (t : ℕ) × PointsReady (lent b (now objects) (now links) counts) t info (now places) (now classes) (now walk) (now cuts))
         ⌝ }
     ensures { λ r. ⌜
-        FindsPlaces (came objects) (came links) counts info (came places) (came classes) (came walk) (came cuts) (left cuts) r
+        FindsPlaces settings (came objects) (came links) counts info (came places) (came classes) (came walk) (came cuts) (left cuts) r
         ⌝ }
 {
     let count = counts[2] as usize;
@@ -57,6 +60,7 @@ pub fn compute_split_points(
             links,
             counts,
             info,
+            settings,
             rows,
             columns,
             class,
@@ -76,6 +80,7 @@ fn weigh_class(
     links: &[u32],
     counts: [u32; 3],
     info: TableInfo,
+    settings: Settings,
     rows: ArrayRows,
     columns: Columns,
     class: u16,
@@ -91,10 +96,10 @@ fn weigh_class(
         ((b : List ℕ)
         × (t : ℕ)
         × (d : List ℕ)
-        × Below (lent b (now objects) (now links) counts) t info (now places) (now classes) d class columns (now walk) (now cuts))
+        × Below settings (lent b (now objects) (now links) counts) t info (now places) (now classes) d class columns (now walk) (now cuts))
         ⌝ }
     ensures { λ r. ⌜
-        Weighs (came objects) (came links) counts info (came places) (came classes) class columns (came walk) (came cuts) r (left walk)
+        Weighs settings (came objects) (came links) counts info (came places) (came classes) class columns (came walk) (came cuts) r (left walk)
         (left cuts)
         ⌝ }
 {
@@ -103,30 +108,33 @@ fn weigh_class(
     let to = class_end(classes, from, class);
     let marks = (to - from) as u64;
     let epoch = info.epoch + (filling.cuts as u32);
-    let size = class_size(
-        objects,
-        links,
-        counts,
-        info,
-        rows,
-        class,
-        &places[from..to],
-        epoch,
-        walk,
-    );
-    let cost = 2 * (info.bases as u64) + 4 * marks + size;
+    let own = &places[from..to];
+    let size = class_size(objects, links, counts, info, rows, class, own, epoch, walk);
+    let slots = 2 * (info.bases as u64) + 4 * marks;
     let alone = 4 + 2 * marks;
     let partial = columns.partial + 2 * marks;
-    let filled = filling.weigh(class, cost, partial, info.start as u64, cuts);
-    if filled.cuts != filling.cuts {
+    if filling.is_due(class, slots + size, partial, settings.edition) {
+        let again = class_size_at_cut(
+            objects,
+            links,
+            counts,
+            info,
+            rows,
+            class,
+            own,
+            size,
+            settings.edition,
+            epoch + 1,
+            walk,
+        );
         return Columns {
-            filling: filled,
+            filling: filling.cut(class, slots + again, info.start as u64, cuts),
             from: to,
             partial: alone,
         };
     }
     Columns {
-        filling: filled,
+        filling: filling.add(slots + size),
         from: to,
         partial,
     }

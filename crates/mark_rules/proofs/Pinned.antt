@@ -1,11 +1,11 @@
 -- Mark-to-base tables held against small whole stores, as one check; each list pins what its comment says. Assumes nothing.
 use Prim.Native.Nat.{ℕ, _+_}
 use mathlib.Core.Path.{_≡_, refl}
-use mathlib.Core.Bool.{Bool, true, false, _&&_}
+use mathlib.Core.Bool.{Bool, true, false, cond, _&&_, _||_}
 use mathlib.Core.List.{List, [], _∷_, _++_, map}
 use mathlib.Core.Option.{Option, some, none}
 use lib.ListN.{length, getD, replicate}
-use lib.Dec.{eqb}
+use lib.Dec.{leb, eqb}
 use Rattle.folds.specs.Folds.{all}
 use Rattle.folds.specs.Lists.{isEmpty, join}
 use Rattle.folds.proofs.Compared as compared
@@ -15,6 +15,8 @@ use Rattle.store_rules.specs.Store.{Store, sound, bytesOf}
 use Rattle.store_rules.specs.Appended.{rowNumbers}
 use Rattle.store_rules.proofs.Pinned.{linkRow, packed, storeOf, roomy}
 use Rattle.cut_rules.specs.Cuts.{cutsOf}
+use Rattle.call_rules.specs.declared.Settings.{Settings}
+use Rattle.call_rules.specs.Settings.{firstEdition, secondEdition}
 use Rattle.call_rules.specs.Scratch.{Scratch}
 use Rattle.call_rules.proofs.Pinned.{fives}
 use Rattle.mark_rules.specs.Rules.{markRule}
@@ -100,8 +102,12 @@ readings =
 -- ---- cuts
 
 -- over bare numbers of marks and bare sizes of classes, with three bases under a coverage of 10 bytes
-unfoldable pub cutClasses : List ℕ → List ℕ → List ℕ
-cutClasses marks sizes = cutsOf (markRule (length sizes) 10 3 (λ i. getD marks i 0) (λ a i. getD sizes i 0))
+unfoldable pub cutClasses : Settings → List ℕ → List ℕ → List ℕ
+cutClasses how marks sizes = cutsOf (markRule how (length sizes) 10 3 (λ i. getD marks i 0) (λ a i. getD sizes i 0))
+
+-- three classes of 40,000, 20,000 and 20,000 bytes, of which the last two lead to 20,000 bytes more
+unfoldable pub cutShared : Settings → List ℕ
+cutShared how = cutsOf (markRule how 3 10 3 (λ i. 0) (λ a i. getD (40000 ∷ 20000 ∷ 20000 ∷ []) i 0 + cond (eqb i 1 || leb 2 a) 20000 0))
 
 -- the same marks under a coverage of one range, whose 10 bytes are less than partial coverage
 unfoldable pub oneRange : Store
@@ -110,17 +116,20 @@ oneRange = withParts (header 4) (2 ∷ 1 ∷ 10 ∷ 13 ∷ 0 ∷ []) hundreds fo
 -- start, the costs of classes 0 to 3, that of class 1 where what class 0 reaches is not seen, and partial coverage up to 0, up to 3, and from 1 to 3
 unfoldable pub ruled : Store → List ℕ
 ruled s =
-    let r = ruleOf s 0 in
+    let r = ruleOf firstEdition s 0 in
     r .start ∷ r .cost 0 0 ∷ r .cost 0 1 ∷ r .cost 0 2 ∷ r .cost 0 3 ∷ r .cost 1 1 ∷ r .beside 0 0 ∷ r .beside 0 3 ∷ r .beside 1 3 ∷ []
 
 -- `markRule`, `partialCover`: at the limit and one above; partial coverage starts anew with the class at a cut; and a class of nothing is looked at
+-- in edition 2 no cut is at class 0, and what the class at a cut reaches counts as seen after
 -- `ruleOf`, `ofClasses`, `marksOfClass`: the same numbers under either coverage
 unfoldable pub cuttings : List Bool
 cuttings =
-    same (cutClasses (5 ∷ []) (65469 ∷ [])) [] ∷ same (cutClasses (5 ∷ []) (65470 ∷ [])) (0 ∷ [])
-    ∷ same (cutClasses (5 ∷ 7 ∷ []) (40000 ∷ 25421 ∷ [])) [] ∷ same (cutClasses (5 ∷ 7 ∷ []) (40000 ∷ 25422 ∷ [])) (1 ∷ [])
-    ∷ same (cutClasses (5 ∷ 7 ∷ 9 ∷ []) (40000 ∷ 25422 ∷ 39975 ∷ [])) (1 ∷ []) ∷ same (cutClasses (5 ∷ 7 ∷ 9 ∷ []) (40000 ∷ 25422 ∷ 39976 ∷ [])) (1 ∷ 2 ∷ [])
-    ∷ same (cutClasses (5 ∷ 0 ∷ 0 ∷ []) (65470 ∷ 0 ∷ 0 ∷ [])) (0 ∷ 1 ∷ []) ∷ same (cutPlaces small 0) []
+    same (cutClasses firstEdition (5 ∷ []) (65469 ∷ [])) [] ∷ same (cutClasses firstEdition (5 ∷ []) (65470 ∷ [])) (0 ∷ [])
+    ∷ same (cutClasses firstEdition (5 ∷ 7 ∷ []) (40000 ∷ 25421 ∷ [])) [] ∷ same (cutClasses firstEdition (5 ∷ 7 ∷ []) (40000 ∷ 25422 ∷ [])) (1 ∷ [])
+    ∷ same (cutClasses firstEdition (5 ∷ 7 ∷ 9 ∷ []) (40000 ∷ 25422 ∷ 39975 ∷ [])) (1 ∷ []) ∷ same (cutClasses firstEdition (5 ∷ 7 ∷ 9 ∷ []) (40000 ∷ 25422 ∷ 39976 ∷ [])) (1 ∷ 2 ∷ [])
+    ∷ same (cutClasses firstEdition (5 ∷ 0 ∷ 0 ∷ []) (65470 ∷ 0 ∷ 0 ∷ [])) (0 ∷ 1 ∷ []) ∷ same (cutPlaces small 0) []
+    ∷ same (cutClasses secondEdition (5 ∷ []) (65470 ∷ [])) [] ∷ same (cutClasses secondEdition (5 ∷ 0 ∷ 0 ∷ []) (65470 ∷ 0 ∷ 0 ∷ [])) (1 ∷ [])
+    ∷ same (cutShared firstEdition) (1 ∷ 2 ∷ []) ∷ same (cutShared secondEdition) (1 ∷ [])
     ∷ same (ruled small) (24 ∷ 24 ∷ 20 ∷ 4 ∷ 14 ∷ 26 ∷ 8 ∷ 12 ∷ 8 ∷ []) ∷ same (ruled oneRange) (ruled small)
     ∷ []
 
@@ -239,5 +248,5 @@ unfolding definitions.computes compared.computes packed storeOf roomy fives tabl
 computes = tt
 
 pub pinned : every (readings ++ cuttings ++ refusals ++ orders ++ splittings) ≡ true
-unfolding computes reads readings cutClasses oneRange ruled cuttings refuses splits refusals short orders keepsIn keeps needs splittings
+unfolding computes reads readings cutClasses cutShared oneRange ruled cuttings refuses splits refusals short orders keepsIn keeps needs splittings
 pinned = refl

@@ -1,16 +1,17 @@
 -- Format 1: a slot is not empty exactly if a row stands in its bytes, and what the coverage of the pair sets in a table takes. Assumes nothing.
 use Prim.Native.Nat.{ℕ, _+_, _*_, _≤_, _<_, min}
 use mathlib.Core.Path.{_≡_, refl, sym, ap, subst, _∙_}
-use mathlib.Core.Bool.{Bool, true, false, cond, _&&_}
+use mathlib.Core.Bool.{Bool, true, false, cond, not, _&&_, _||_}
 use mathlib.Core.List.{List}
 use mathlib.Core.Option.{Option, some, none}
 use native.Mathlib.Omega.{arith}
 use lib.Dec.{leb, ltb, eqb}
 use lib.ListN.{length}
-use borrow.Author.Tests.{le-leb, lt-leb, lt-ltb, eq-eqb, leb-true, ltb-true, eqb-true}
+use borrow.Author.Tests.{le-leb, lt-leb, lt-ltb, eq-eqb, leb-true, ltb-true, eqb-true, eqb-false}
 use Rattle.folds.specs.Folds.{sum}
 use Rattle.folds.specs.Lists.{isSome}
-use Rattle.folds.proofs.Tests.{and-both, and-first, and-second, by-test}
+use Rattle.folds.proofs.Tests.{and-both, and-first, and-second, by-test, true-false}
+use Rattle.folds.proofs.Joined.{or-second}
 use Rattle.folds.proofs.Folds.{sum-more, sum-none}
 use Rattle.folds.proofs.Sums.{sum-zero, sum-bound}
 use Rattle.ot_layouts.specs.PairPos.{itemAt}
@@ -18,10 +19,13 @@ use Rattle.ot_layouts.proofs.Shapes.{format-one}
 use Rattle.ot_layouts.proofs.Slots.{slot-fits}
 use Rattle.store_rules.specs.Store.{Store, lent, bytesOf, sizeOf, parentOf, positionOf, childAt, linkedAt}
 use Rattle.store_rules.specs.Reach.{itemSize}
-use Rattle.cut_rules.specs.Cuts.{Rule, weigh, after}
+use Rattle.cut_rules.specs.Cuts.{Rule, second, costAtCut, looked, due, after}
+use Rattle.cut_rules.proofs.Turns.{looksAt, costNow}
+use Rattle.call_rules.specs.declared.Settings.{Settings}
 use Rattle.pair_rules.specs.Rules.{partialCover, rule1}
-use Rattle.pair_rules.specs.Table.{shape, allAtSlots, ruleOf, ofItems, cutPlaces}
+use Rattle.pair_rules.specs.Table.{shape, allAtSlots, ruleOf, ofItems, cutsBy}
 use Rattle.pair_rules.proofs.Checks.{at-slot}
+use Rattle.pair_rules.proofs.TableCuts.{rule-edition}
 use Rattle.store_rules.proofs.Lookups.{child-row}
 use Rattle.store_reader.specs.Rows.{keyOf, FirstRow}
 use Rattle.store_reader.proofs.Rows.{position-most, rows-between}
@@ -30,8 +34,8 @@ use Rattle.cut_filling.specs.declared.Filling.{Filling}
 use Rattle.pair_points.specs.declared.measuring.Measured.{Measured}
 use Rattle.pair_points.specs.declared.«table_info».TableInfo.{TableInfo}
 use Rattle.pair_points.specs.declared.format1.Sets.{Sets}
-use Rattle.cut_filling.specs.Filling.{Fills, Weighed, Listed, Placed}
-use Rattle.pair_points.specs.Measuring.{At, Measures}
+use Rattle.cut_filling.specs.Filling.{Fills, IsDue, Added, Cut, Placed}
+use Rattle.pair_points.specs.Measuring.{At, Measures, Restarts}
 use Rattle.pair_points.specs.Filled.{cuttingAt, AtItem, TellsCycle}
 use Rattle.pair_points.specs.Format1.{Ready1, linked, Below1}
 use Rattle.pair_points.proofs.ItemSizes.{at-fits, at-in-order}
@@ -39,26 +43,33 @@ use Rattle.pair_points.proofs.Turns.{item-ends, filled-start, at-start,
 
 -- ---- the rule of a table of format 1
 
-module _ (s : Store) (t : ℕ) (one : eqb (shape s t .format) 1 ≡ true) where
-  rule-one : ruleOf s t ≡ rule1 (shape s t .count) (linked s t) (itemSize s (ofItems t (shape s t))) (sizeOf s (linkedAt s t 2))
+module _ (how : Settings) (s : Store) (t : ℕ) (one : eqb (shape s t .format) 1 ≡ true) where
+  rule-one : ruleOf how s t ≡ rule1 how (shape s t .count) (linked s t) (itemSize s (ofItems t (shape s t))) (sizeOf s (linkedAt s t 2))
   unfolding ruleOf
   rule-one = rw one
 
-  start-one : ruleOf s t .start ≡ 10
+  start-one : ruleOf how s t .start ≡ 10
   unfolding rule1
   start-one = ap (λ (r : Rule). r .start) rule-one
 
-  looks-one : (i : ℕ) → ruleOf s t .looks i ≡ linked s t i
+  looks-one : (i : ℕ) → looksAt (ruleOf how s t) i ≡ looked (how .edition) (linked s t) i
   unfolding rule1
-  looks-one i = ap (λ (r : Rule). r .looks i) rule-one
+  looks-one i = ap (λ (r : Rule). looksAt r i) rule-one
 
-  cost-one : (a i : ℕ) → ruleOf s t .cost a i ≡ itemSize s (ofItems t (shape s t)) a i + 2
+  cost-one : (a i : ℕ) → ruleOf how s t .cost a i ≡ itemSize s (ofItems t (shape s t)) a i + 2
   unfolding rule1
   cost-one a i = ap (λ (r : Rule). r .cost a i) rule-one
 
-  beside-one : (a i : ℕ) → ruleOf s t .beside a i ≡ min (partialCover (linked s t) a i) (sizeOf s (linkedAt s t 2))
+  beside-one : (a i : ℕ) → ruleOf how s t .beside a i ≡ min (partialCover (looked (how .edition) (linked s t)) a i) (sizeOf s (linkedAt s t 2))
   unfolding rule1
   beside-one a i = ap (λ (r : Rule). r .beside a i) rule-one
+
+  -- at a cut
+  cut-cost-one : (i before : ℕ) → costAtCut (ruleOf how s t) i (before + 2) ≡ cond (second (how .edition)) (itemSize s (ofItems t (shape s t)) i i) before + 2
+  unfolding costAtCut
+  cut-cost-one i before =
+      ap (λ (e : ℕ). cond (second e) (ruleOf how s t .cost i i) (before + 2)) (rule-edition how s t)
+      ∙ by-test (second (how .edition)) (λ e. rw e (cost-one i i)) (λ e. rw e)
 
 -- ---- empty slots
 
@@ -94,107 +105,128 @@ module _ {s : Store} {t a i row e : ℕ} {w : List ℕ} {m : Measured} {w′ : L
           let (lo, hi) = and-both (leb row k) (ltb k (m .next)) there in
           absurd (omega (arith, leb-true row k lo, ltb-true k (m .next) hi))
 
+  -- so the slot is looked at as `is_looked_at` says
+  pub slot-looked : (e : ℕ) → looked e (linked s t) i ≡ (second e || not (eqb (m .next) row))
+  unfolding looked
+  slot-looked e =
+      ap (λ (b : Bool). second e || b)
+      (by-test (eqb (m .next) row) (λ q. slot-empty (eqb-true (m .next) row q) ∙ sym (ap not q)) (λ q. slot-linked (eqb-false (m .next) row q) ∙ sym (ap not q)))
+
 -- ---- the coverage of the pair sets in a table
 
-module _ (s : Store) (t : ℕ) where
-  -- pair sets below n, from pair set a on
+module _ (looks : ℕ → Bool) where
+  -- pair sets below n that are looked at, from pair set a on
   abbrev covered : ℕ → ℕ → ℕ
-  covered a n = sum (λ k. cond (leb a k && linked s t k) 1 0) n
+  covered a n = sum (λ k. cond (leb a k && looks k) 1 0) n
 
-  covered-more : (a i : ℕ) → a ≤ i → linked s t i ≡ true → covered a (i + 1) ≡ covered a i + 1
-  covered-more a i h e = sum-more (λ k. cond (leb a k && linked s t k) 1 0) i ∙ rw (le-leb a i h, e)
+  covered-more : (a i : ℕ) → a ≤ i → looks i ≡ true → covered a (i + 1) ≡ covered a i + 1
+  covered-more a i h e = sum-more (λ k. cond (leb a k && looks k) 1 0) i ∙ rw (le-leb a i h, e)
 
-  covered-same : (a i : ℕ) → linked s t i ≡ false → covered a (i + 1) ≡ covered a i
-  covered-same a i e = sum-more (λ k. cond (leb a k && linked s t k) 1 0) i ∙ ap (λ (b : Bool). covered a i + cond b 1 0) (and-second (leb a i) (linked s t i) e) ∙ omega arith
+  covered-same : (a i : ℕ) → looks i ≡ false → covered a (i + 1) ≡ covered a i
+  covered-same a i e = sum-more (λ k. cond (leb a k && looks k) 1 0) i ∙ ap (λ (b : Bool). covered a i + cond b 1 0) (and-second (leb a i) (looks i) e) ∙ omega arith
 
   covered-none : (i : ℕ) → covered i i ≡ 0
-  covered-none i = sum-zero (λ k. cond (leb i k && linked s t k) 1 0) i (λ k h. ap (λ (b : Bool). cond b 1 0) (and-first (leb i k) (linked s t k) (lt-leb i k h)))
+  covered-none i = sum-zero (λ k. cond (leb i k && looks k) 1 0) i (λ k h. ap (λ (b : Bool). cond b 1 0) (and-first (leb i k) (looks k) (lt-leb i k h)))
 
   covered-most : (a n : ℕ) → covered a n ≤ n
-  covered-most a n = omega (arith, sum-bound (λ k. cond (leb a k && linked s t k) 1 0) 1 n (λ k h. by-test (leb a k && linked s t k) (λ e. rw e (omega arith)) (λ e. rw e (omega arith))))
+  covered-most a n = omega (arith, sum-bound (λ k. cond (leb a k && looks k) 1 0) 1 n (λ k h. by-test (leb a k && looks k) (λ e. rw e (omega arith)) (λ e. rw e (omega arith))))
 
 -- ---- one pair set after another
 
-pub sets-start : {s : Store} {x : TableInfo} {w l : List ℕ} → Ready1 s x w l → {f : Filling} {row : ℕ} → ((r : Rule) → r .start ≡ 10 → Fills f (after r 0)) → FirstRow (s .links) (s .linkCount) (keyOf (x .table) 10) row
-    → Below1 s x l 0 (record { filling = f; row = row; partial = 4 }) w l
-sets-start {s} {x} v a g =
-    let start = start-one s (x .table) (v .table .format) in
+pub sets-start : (how : Settings) {s : Store} {x : TableInfo} {w l : List ℕ} → Ready1 s x w l → {f : Filling} {row : ℕ} → ((r : Rule) → r .start ≡ 10 → Fills f (after r 0)) → FirstRow (s .links) (s .linkCount) (keyOf (x .table) 10) row
+    → Below1 how s x l 0 (record { filling = f; row = row; partial = 4 }) w l
+sets-start how {s} {x} v a g =
+    let start = start-one how s (x .table) (v .table .format) in
     record {
       table = v .table;
-      filled = filled-start (v .table .described) (v .unseen) (a (ruleOf s (x .table)) start) (omega (arith, start));
+      filled = filled-start (v .table .described) how (v .unseen) (a (ruleOf how s (x .table)) start) (omega (arith, start));
       at =
-          at-start (v .table .described) (v .unseen) (a (ruleOf s (x .table)) start)
+          at-start (v .table .described) how (v .unseen) (a (ruleOf how s (x .table)) start)
           (sym (format-one (bytesOf s (x .table)) (v .table .format) .headerIs)) g;
-      coverage = omega (arith, sum-none (λ k. cond (leb (cuttingAt s x 0 .first) k && linked s (x .table) k) 1 0));
+      coverage = omega (arith, sum-none (λ k. cond (leb (cuttingAt how s x 0 .first) k && looked (how .edition) (linked s (x .table)) k) 1 0));
     }
 
-module _ {s : Store} {x : TableInfo} {d : List ℕ} {i : ℕ} {p : Sets} {w l : List ℕ} (v : Below1 s x d i p w l) (within : i < x .count) where
+module _ {how : Settings} {s : Store} {x : TableInfo} {d : List ℕ} {i : ℕ} {p : Sets} {w l : List ℕ} (v : Below1 how s x d i p w l) (within : i < x .count) where
+  abbrev rule : Rule
+  rule = ruleOf how s (x .table)
+
+  -- the pair sets that are looked at
+  abbrev looksIn : ℕ → Bool
+  looksIn = looked (how .edition) (linked s (x .table))
+
   pub set-ends : (x .header + x .item * (i + 1) ≡ itemAt (shape s (x .table)) (i + 1)) × (x .header + x .item * (i + 1) ≤ 16777216)
   set-ends = item-ends (v .table .described) i within
 
   pub partial-most : p .partial ≤ 4 + 2 * i
-  partial-most = omega (arith, v .coverage, covered-most s (x .table) (cuttingAt s x i .first) i)
+  partial-most = omega (arith, v .coverage, covered-most looksIn (cuttingAt how s x i .first) i)
 
-  module _ {m : Measured} {w′ : List ℕ} (y : Measures s (x .table) (shape s (x .table)) (cuttingAt s x i .seen) i (p .row) (x .epoch + p .filling .cuts) w m w′) where
-    short : itemAt (shape s (x .table)) (i + 1) ≤ 4294967296
-    short = omega (arith, set-ends .0, set-ends .1)
+  pub short : itemAt (shape s (x .table)) (i + 1) ≤ 4294967296
+  short = omega (arith, set-ends .0, set-ends .1)
 
-    -- an empty slot
-    pub set-passed : m .next ≡ p .row → Below1 s x d (i + 1) p w′ l
-    set-passed e =
-        let empty = slot-empty (v .table .format) (v .table .slots) short (v .at) y e in
-        let (f, a, q) = passed s x (v .filled) y (looks-one s (x .table) (v .table .format) i ∙ empty) in
+  module _ {m : Measured} {w′ : List ℕ} (y : Measures s (x .table) (shape s (x .table)) (cuttingAt how s x i .seen) i (p .row) (x .epoch + p .filling .cuts) w m w′)
+      {b : Bool} (told : b ≡ (second (how .edition) || not (eqb (m .next) (p .row)))) where
+    looks-in : looksIn i ≡ b
+    looks-in = slot-looked (v .table .format) (v .table .slots) short (v .at) y (how .edition) ∙ sym told
+
+    looks : looksAt rule i ≡ b
+    looks = looks-one how s (x .table) (v .table .format) i ∙ looks-in
+
+    -- the slot is passed over, so that it has no row
+    pub set-passed : b ≡ false → Below1 how s x d (i + 1) p w′ l
+    set-passed skips =
+        let (f, a, q) = passed how s x (v .filled) y (looks ∙ skips) in
+        let e : m .next ≡ p .row = by-test (eqb (m .next) (p .row)) (eqb-true (m .next) (p .row)) (λ e. true-false (sym (or-second (second (how .edition)) (not (eqb (m .next) (p .row))) (ap not e)) ∙ sym told ∙ skips)) in
         record {
           table = v .table;
           filled = f;
-          at = subst (λ (n : ℕ). AtItem s x (i + 1) (p .filling) n w′) e a;
-          coverage = rw q (omega (arith, v .coverage, covered-same s (x .table) (cuttingAt s x i .first) i empty));
+          at = subst (λ (n : ℕ). AtItem how s x (i + 1) (p .filling) n w′) e a;
+          coverage = rw q (omega (arith, v .coverage, covered-same looksIn (cuttingAt how s x i .first) i (looks-in ∙ skips)));
         }
 
-    module _ (ne : m .next ≡ p .row → ⊥) {beside : ℕ} {f′ : Filling} {l′ : List ℕ} (b : beside ≡ min (p .partial + 2) (x .beside)) (g : Weighed (p .filling) i (m .size + 2) beside 10 l f′ l′) where
-      is-linked : linked s (x .table) i ≡ true
-      is-linked = slot-linked (v .table .format) (v .table .slots) short (v .at) y ne
+    module _ (taken : b ≡ true) {beside : ℕ} (stands : beside ≡ min (p .partial + 2) (x .beside)) {b′ : Bool} (weighs : IsDue (p .filling) i (m .size + 2) beside (how .edition) b′) where
+      costs : m .size + 2 ≡ costNow rule (cuttingAt how s x i) i
+      costs = ap (λ (n : ℕ). n + 2) (y .size) ∙ sym (cost-one how s (x .table) (v .table .format) (cuttingAt how s x i .seen) i)
 
-      looks : ruleOf s (x .table) .looks i ≡ true
-      looks = looks-one s (x .table) (v .table .format) i ∙ is-linked
+      one-more : covered looksIn (cuttingAt how s x i .first) (i + 1) ≡ covered looksIn (cuttingAt how s x i .first) i + 1
+      one-more = covered-more looksIn (cuttingAt how s x i .first) i (v .filled .first) (looks-in ∙ taken)
 
-      costs : m .size + 2 ≡ ruleOf s (x .table) .cost (cuttingAt s x i .seen) i
-      costs = ap (λ (n : ℕ). n + 2) (y .size) ∙ sym (cost-one s (x .table) (v .table .format) (cuttingAt s x i .seen) i)
-
-      one-more : covered s (x .table) (cuttingAt s x i .first) (i + 1) ≡ covered s (x .table) (cuttingAt s x i .first) i + 1
-      one-more = covered-more s (x .table) (cuttingAt s x i .first) i (v .filled .first) is-linked
-
-      beside-is : ruleOf s (x .table) .beside (cuttingAt s x i .first) i ≡ beside
+      beside-is : rule .beside (cuttingAt how s x i .first) i ≡ beside
       unfolding partialCover
       beside-is =
-          let e : partialCover (linked s (x .table)) (cuttingAt s x i .first) i ≡ p .partial + 2 = omega (arith, v .coverage, one-more) in
-          beside-one s (x .table) (v .table .format) (cuttingAt s x i .first) i ∙ rw (e, ← v .table .coverage) (sym b)
+          let e : partialCover looksIn (cuttingAt how s x i .first) i ≡ p .partial + 2 = omega (arith, v .coverage, one-more) in
+          beside-one how s (x .table) (v .table .format) (cuttingAt how s x i .first) i ∙ rw (e, ← v .table .coverage) (sym stands)
 
-      listed : Listed f′ (weigh (ruleOf s (x .table)) (cuttingAt s x i) i (m .size + 2)) d l′
-      listed = g (ruleOf s (x .table)) (cuttingAt s x i) d (start-one s (x .table) (v .table .format)) beside-is (v .filled .listed)
+      is-due : due rule (cuttingAt how s x i) i (m .size + 2) ≡ b′
+      is-due = sym (weighs rule (cuttingAt how s x i) (rule-edition how s (x .table)) beside-is (v .filled .listed .fills))
+
+      starts : rule .start ≡ 10
+      starts = start-one how s (x .table) (v .table .format)
 
       -- no cut
-      pub set-added : f′ .cuts ≡ p .filling .cuts → Below1 s x d (i + 1) (record { filling = f′; row = m .next; partial = p .partial + 2 }) w′ l′
-      set-added e =
-          let (f, a, q) = added s x (v .filled) y (m .size + 2) looks costs listed e in
+      pub set-added : b′ ≡ false → {f′ : Filling} → Added (p .filling) (m .size + 2) f′ → Below1 how s x d (i + 1) (record { filling = f′; row = m .next; partial = p .partial + 2 }) w′ l
+      set-added stays g =
+          let (f, a, q) = added how s x (v .filled) y (looks ∙ taken) (m .size + 2) costs (is-due ∙ stays) (omega (arith, y .most, starts)) (g (cuttingAt how s x i) d l (v .filled .listed)) in
           record { table = v .table; filled = f; at = a; coverage = rw q (omega (arith, v .coverage, one-more)) }
 
       -- a cut
-      pub set-cut : (f′ .cuts ≡ p .filling .cuts → ⊥) → Below1 s x d (i + 1) (record { filling = f′; row = m .next; partial = 6 }) w′ l′
-      set-cut e =
-          let (f, a, q) = cut s x (v .filled) y (m .size + 2) looks costs listed e (omega (arith, y .most, start-one s (x .table) (v .table .format))) in
-          record { table = v .table; filled = f; at = a; coverage = rw q (omega (arith, covered-none s (x .table) i, covered-more s (x .table) i i (omega arith) is-linked)) }
+      pub set-cut : b′ ≡ true → {size : ℕ} {w″ : List ℕ} → Restarts s (x .table) (shape s (x .table)) i (m .next) (how .edition) (x .epoch + p .filling .cuts + 1) (m .size) size w″
+          → {f′ : Filling} {l′ : List ℕ} → Cut (p .filling) i (size + 2) 10 l f′ l′ → Below1 how s x d (i + 1) (record { filling = f′; row = m .next; partial = 6 }) w″ l′
+      set-cut due-now {size} z g =
+          let at-cut : costAtCut rule i (m .size + 2) ≡ size + 2 = cut-cost-one how s (x .table) (v .table .format) i (m .size) ∙ ap (λ (n : ℕ). n + 2) (sym (z .size)) in
+          let (f, a, q) = cut how s x (v .filled) y (looks ∙ taken) (m .size + 2) costs (is-due ∙ due-now) (omega (arith, at-cut, z .most (y .most), starts)) (g rule (cuttingAt how s x i) d (m .size + 2) starts at-cut (v .filled .listed)) z in
+          record { table = v .table; filled = f; at = a; coverage = rw q (omega (arith, covered-none looksIn i, covered-more looksIn i i (omega arith) (looks-in ∙ taken))) }
 
-pub sets-stop : {s : Store} {x : TableInfo} {d : List ℕ} {i : ℕ} {p : Sets} {w l : List ℕ} → Below1 s x d i p w l → i ≡ x .count → Placed (cutPlaces s (x .table)) d l (p .filling .cuts)
-sets-stop {p = p} v e = filled-stop (v .table .described) e (p .filling) (v .filled)
+module _ {how : Settings} {s : Store} {x : TableInfo} {d : List ℕ} {i : ℕ} {p : Sets} {w l : List ℕ} (v : Below1 how s x d i p w l) (e : i ≡ x .count) where
+  pub sets-stop : Placed (cutsBy how s (x .table)) d l (p .filling .cuts)
+  sets-stop = filled-stop (v .table .described) e (p .filling) how (v .filled)
 
-pub sets-back : {s : Store} {x : TableInfo} {d : List ℕ} {i : ℕ} {p : Sets} {w l : List ℕ} → Below1 s x d i p w l → i ≡ x .count → TellsCycle s (x .table) w
-sets-back {p = p} v e = filled-back (v .table .described) e (p .filling) (v .at)
+  pub sets-back : TellsCycle s (x .table) w
+  sets-back = filled-back (v .table .described) e (p .filling) how (v .at)
 
 -- ---- the loop, whatever the bytes of the store
 
-pub record Going1 (o l c : List ℕ) (x : TableInfo) (w₀ d : List ℕ) (i : ℕ) (p : Sets) (w cuts : List ℕ) : Type 0 where
+pub record Going1 (how : Settings) (o l c : List ℕ) (x : TableInfo) (w₀ d : List ℕ) (i : ℕ) (p : Sets) (w cuts : List ℕ) : Type 0 where
   pub within : i ≤ x .count
   pub walk : length w ≡ length w₀
   pub long : length cuts ≡ length d
-  pub below : (b : List ℕ) → Ready1 (lent b o l c) x w₀ d → Below1 (lent b o l c) x d i p w cuts
+  pub below : (b : List ℕ) → Ready1 (lent b o l c) x w₀ d → Below1 how (lent b o l c) x d i p w cuts

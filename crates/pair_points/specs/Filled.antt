@@ -8,6 +8,7 @@ use lib.ListN.{length, getD}
 use Rattle.ot_layouts.specs.PairPos.{itemAt}
 use Rattle.store_rules.specs.Store.{Store, sound, bytesOf}
 use Rattle.cut_rules.specs.Cuts.{Cutting, after}
+use Rattle.call_rules.specs.declared.Settings.{Settings}
 use Rattle.pair_rules.specs.Table.{shape, ruleOf}
 use Rattle.store_rules.specs.Reach.{onCycle}
 use Rattle.store_reader.specs.Rows.{keyOf, FirstRow}
@@ -35,13 +36,13 @@ pub record Unseen (s : Store) (x : TableInfo) (w l : List ℕ) : Type 0 where
   pub back : (row : ℕ) → FirstRow (s .links) (s .linkCount) (keyOf (x .table) (x .header)) row → Back s (x .table) row w
   pub room : x .count ≤ length l
 
--- where document 01 stands once the items below i have been weighed
-abbrev pub cuttingAt : Store → TableInfo → ℕ → Cutting
-cuttingAt s x i = after (ruleOf s (x .table)) i
+-- where the cut rule stands once the items below i have been weighed
+abbrev pub cuttingAt : Settings → Store → TableInfo → ℕ → Cutting
+cuttingAt how s x i = after (ruleOf how s (x .table)) i
 
 -- then item i is at hand, and what counts as seen has the mark of this table's epoch
-abbrev pub AtItem : Store → TableInfo → ℕ → Filling → ℕ → List ℕ → Type 0
-AtItem s x i f row w = At s (x .table) (shape s (x .table)) (cuttingAt s x i .seen) i row (x .epoch + f .cuts) w
+abbrev pub AtItem : Settings → Store → TableInfo → ℕ → Filling → ℕ → List ℕ → Type 0
+AtItem how s x i f row w = At s (x .table) (shape s (x .table)) (cuttingAt how s x i .seen) i row (x .epoch + f .cuts) w
 
 -- after the last item: the table has a mark exactly if it can be reached from itself
 pub record TellsCycle (s : Store) (t : ℕ) (w : List ℕ) : Type 0 where

@@ -6,7 +6,8 @@ use mathlib.Core.List.{List}
 use lib.Dec.{eqb}
 use lib.ListN.{length}
 use Rattle.store_rules.specs.Store.{Store, lent, sizeOf, linkedAt}
-use Rattle.pair_rules.specs.Table.{shape, entriesOf, ruleOf, cutPlaces}
+use Rattle.call_rules.specs.declared.Settings.{Settings}
+use Rattle.pair_rules.specs.Table.{shape, entriesOf, ruleOf, cutsBy}
 use Rattle.glyph_set.specs.GlyphSet.{Empty}
 use Rattle.pair_points.specs.declared.«table_info».TableInfo.{TableInfo}
 use Rattle.pair_points.specs.declared.format2.Rows.{Rows}
@@ -30,20 +31,20 @@ pub record Ready2 (s : Store) (x : TableInfo) (gs cs w set l : List ℕ) : Type 
   pub empty : Empty set
 
 -- the rows below i have been weighed, and the estimator has the classes of those in the table that is being filled
-pub record Below2 (s : Store) (x : TableInfo) (gs cs d : List ℕ) (i : ℕ) (p : Rows) (w set l : List ℕ) : Type 0 where
+pub record Below2 (how : Settings) (s : Store) (x : TableInfo) (gs cs d : List ℕ) (i : ℕ) (p : Rows) (w set l : List ℕ) : Type 0 where
   pub table : Table2 s x gs cs
-  pub filled : Filled (ruleOf s (x .table)) d i (p .filling) l
-  pub at : AtItem s x i (p .filling) (p .row) w
-  pub held : Holds (entriesOf s (x .table)) gs (cuttingAt s x i .first) i (p .classes) set
+  pub filled : Filled (ruleOf how s (x .table)) d i (p .filling) l
+  pub at : AtItem how s x i (p .filling) (p .row) w
+  pub held : Holds (entriesOf s (x .table)) gs (cuttingAt how s x i .first) i (p .classes) set
 
 -- row i was weighed, whatever the bytes of the store
-abbrev pub Weighs2 : List ℕ → List ℕ → List ℕ → TableInfo → List ℕ → List ℕ → ℕ → Rows → List ℕ → List ℕ → List ℕ → Rows → List ℕ → List ℕ → List ℕ → Type 0
-Weighs2 o l c x gs cs i p w set cuts p′ w′ set′ cuts′ =
-    (b d : List ℕ) → Below2 (lent b o l c) x gs cs d i p w set cuts → Below2 (lent b o l c) x gs cs d (i + 1) p′ w′ set′ cuts′
+abbrev pub Weighs2 : Settings → List ℕ → List ℕ → List ℕ → TableInfo → List ℕ → List ℕ → ℕ → Rows → List ℕ → List ℕ → List ℕ → Rows → List ℕ → List ℕ → List ℕ → Type 0
+Weighs2 how o l c x gs cs i p w set cuts p′ w′ set′ cuts′ =
+    (b d : List ℕ) → Below2 how (lent b o l c) x gs cs d i p w set cuts → Below2 how (lent b o l c) x gs cs d (i + 1) p′ w′ set′ cuts′
 
 -- all were
-abbrev pub Places2 : List ℕ → List ℕ → List ℕ → TableInfo → List ℕ → List ℕ → List ℕ → List ℕ → List ℕ → List ℕ → ℕ → Type 0
-Places2 o l c x gs cs w set cuts cuts′ r = (b : List ℕ) → Ready2 (lent b o l c) x gs cs w set cuts → Placed (cutPlaces (lent b o l c) (x .table)) cuts cuts′ r
+abbrev pub Places2 : Settings → List ℕ → List ℕ → List ℕ → TableInfo → List ℕ → List ℕ → List ℕ → List ℕ → List ℕ → List ℕ → ℕ → Type 0
+Places2 how o l c x gs cs w set cuts cuts′ r = (b : List ℕ) → Ready2 (lent b o l c) x gs cs w set cuts → Placed (cutsBy how (lent b o l c) (x .table)) cuts cuts′ r
 
 -- and then the walk tells of a cycle
 abbrev pub Tells2 : List ℕ → List ℕ → List ℕ → TableInfo → List ℕ → List ℕ → List ℕ → List ℕ → List ℕ → List ℕ → Type 0

@@ -1,6 +1,8 @@
-// The cut places of a table of format 2: the counterpart of `compute_format2_split_points`.
+// The cut places of a table of format 2: the counterpart of `compute_format2_split_points`, which is edition 1's.
 use crate::measuring::measure;
+use crate::measuring::measure_at_cut;
 use crate::table_info::TableInfo;
+use call_rules::Settings;
 use cut_filling::Filling;
 use pair_row_classes::Classes;
 use store_reader::first_row;
@@ -23,6 +25,7 @@ pub fn compute_format2_split_points(
     links: &[u32],
     counts: [u32; 3],
     info: TableInfo,
+    settings: Settings,
     glyphs: &[u16],
     classes: &[u16],
     walk: &mut [u32],
@@ -34,7 +37,7 @@ pub fn compute_format2_split_points(
         (now cuts))
         ⌝ }
     ensures { λ r. ⌜
-        Places2 (came objects) (came links) counts info (came glyphs) (came classes) (came walk) (came set) (came cuts) (left cuts) r
+        Places2 settings (came objects) (came links) counts info (came glyphs) (came classes) (came walk) (came set) (came cuts) (left cuts) r
         ⌝ }
     ensures { λ _. ⌜
         Tells2 (came objects) (came links) counts info (came glyphs) (came classes) (came walk) (came set) (came cuts) (left walk)
@@ -53,6 +56,7 @@ pub fn compute_format2_split_points(
             links,
             counts,
             info,
+            settings,
             rows,
             i,
             glyphs,
@@ -72,6 +76,7 @@ fn weigh_row(
     links: &[u32],
     counts: [u32; 3],
     info: TableInfo,
+    settings: Settings,
     rows: Rows,
     i: u16,
     glyphs: &[u16],
@@ -85,10 +90,10 @@ fn weigh_row(
         ×
         ((b : List ℕ)
         × (d : List ℕ)
-        × Below2 (lent b (now objects) (now links) counts) info (now glyphs) (now classes) d i rows (now walk) (now set) (now cuts))
+        × Below2 settings (lent b (now objects) (now links) counts) info (now glyphs) (now classes) d i rows (now walk) (now set) (now cuts))
         ⌝ }
     ensures { λ r. ⌜
-        Weighs2 (came objects) (came links) counts info (came glyphs) (came classes) i rows (came walk) (came set) (came cuts) r
+        Weighs2 settings (came objects) (came links) counts info (came glyphs) (came classes) i rows (came walk) (came set) (came cuts) r
         (left walk) (left set) (left cuts)
         ⌝ }
 {
@@ -99,16 +104,30 @@ fn weigh_row(
     let measured = measure(objects, links, counts, info.table, row, end, epoch, walk);
     let held = rows.classes.add(i, glyphs, classes, set);
     let beside = held.estimator.beside(info.beside as usize) as u64;
-    let filled = filling.weigh(i, info.item as u64 + measured.size, beside, 16, cuts);
-    if filled.cuts != filling.cuts {
+    if filling.is_due(
+        i,
+        info.item as u64 + measured.size,
+        beside,
+        settings.edition,
+    ) {
+        let size = measure_at_cut(
+            objects,
+            links,
+            counts,
+            row,
+            measured,
+            settings.edition,
+            epoch + 1,
+            walk,
+        );
         return Rows {
-            filling: filled,
+            filling: filling.cut(i, info.item as u64 + size, 16, cuts),
             row: measured.next,
             classes: held.restart(i, glyphs, set),
         };
     }
     Rows {
-        filling: filled,
+        filling: filling.add(info.item as u64 + measured.size),
         row: measured.next,
         classes: held,
     }

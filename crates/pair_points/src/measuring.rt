@@ -8,7 +8,7 @@ ghost use Prim.Native.Nat.{ℕ, _+_, _<_};
 ghost use Rattle.ot_layouts.specs.PairPos.{Shape, itemAt};
 ghost use Rattle.store_rules.specs.Store.{lent};
 ghost use Rattle.folds.specs.Moments.{came, left};
-ghost use Rattle.pair_points.specs.Measuring.{At, MeasuresItem};
+ghost use Rattle.pair_points.specs.Measuring.{At, MeasuresItem, AtCut, MeasuresAtCut};
 
 // An item's size, and the row at which the next item's links start.
 pub struct Measured {
@@ -42,4 +42,33 @@ pub fn measure(
     let next = next_row(links, count, row, table, end);
     let size = subgraph_size(objects, links, counts, row, next, epoch, walk);
     Measured { size, next }
+}
+
+// The size at a cut of the item whose links are the rows from `row` to those of the next item: edition 2 measures it again, in an epoch whose mark
+// nothing has yet.
+pub fn measure_at_cut(
+    objects: &[u32],
+    links: &[u32],
+    counts: [u32; 3],
+    row: usize,
+    measured: Measured,
+    edition: u32,
+    epoch: u32,
+    walk: &mut [u32],
+) -> u64
+    requires { ⌜ epoch < 2147483648 ⌝ }
+    requires { ⌜
+        ((b : List ℕ)
+        × (t : ℕ)
+        × (sh : Shape)
+        × (i : ℕ)
+        × AtCut (lent b (now objects) (now links) counts) t sh i row (measured .next) epoch (now walk))
+        ⌝ }
+    ensures { λ r. ⌜ MeasuresAtCut (came objects) (came links) counts row measured edition epoch (came walk) r (left walk) ⌝ }
+{
+    if edition == 2 {
+        let next = measured.next;
+        return subgraph_size(objects, links, counts, row, next, epoch, walk);
+    }
+    measured.size
 }

@@ -17,6 +17,8 @@ use Rattle.store_rules.specs.Store.{Store, perLink, sound, bytesOf}
 use Rattle.store_rules.specs.Appended.{rowNumbers}
 use Rattle.store_rules.proofs.Pinned.{linkRow, packed, storeOf, roomy}
 use Rattle.cut_rules.specs.Cuts.{cutsOf}
+use Rattle.call_rules.specs.declared.Settings.{Settings}
+use Rattle.call_rules.specs.Settings.{firstEdition}
 use Rattle.call_rules.specs.Scratch.{Scratch}
 use Rattle.call_rules.specs.Outcomes.{Outcome}
 use Rattle.call_rules.proofs.Pinned.{fives}
@@ -151,13 +153,17 @@ readings =
 
 -- ---- cuts
 
-abbrev entry : ℕ → ℕ → Entry
+abbrev pub entry : ℕ → ℕ → Entry
 entry g c = record { glyph = g; class = c }
 
+-- format 1 over bare sizes
+unfoldable pub cutSets : Settings → List ℕ → ℕ → List ℕ
+cutSets how sizes cover = cutsOf (bareRule how sizes cover)
+
 -- format 2 over bare additions of rows: five glyphs of class 0, one each of classes 1 and 2, class definition 2 of 1,000 bytes
-unfoldable pub cutRows : List ℕ → List ℕ
-cutRows sizes =
-    cutsOf (rule2 (length sizes) 0 (λ a i. getD sizes i 0)
+unfoldable pub cutRows : Settings → List ℕ → List ℕ
+cutRows how sizes =
+    cutsOf (rule2 how (length sizes) 0 (λ a i. getD sizes i 0)
     (entry 0 0 ∷ entry 2 0 ∷ entry 4 0 ∷ entry 6 0 ∷ entry 8 0 ∷ entry 10 1 ∷ entry 12 2 ∷ []) 1000)
 
 -- three sets of 100, 30,000 and 100 bytes; the first two lead to 40,000 bytes, and the last, too, where it is asked
@@ -187,16 +193,16 @@ threeRows n more = bare2 3 (2 ∷ 0 ∷ []) (30000 ∷ n ∷ []) (heads2 ++ link
 -- `ruleOf`: what was seen before a cut counts again, the cut item's too; each format's rule over its own parts
 unfoldable pub cuttings : List Bool
 cuttings =
-    same (cutsOf (bareRule (40000 ∷ 0 ∷ 0 ∷ 25513 ∷ []) 204)) [] ∷ same (cutsOf (bareRule (40000 ∷ 0 ∷ 0 ∷ 25514 ∷ []) 204)) (3 ∷ [])
-    ∷ same (cutsOf (bareRule (40000 ∷ 25515 ∷ []) 6)) [] ∷ same (cutsOf (bareRule (40000 ∷ 25516 ∷ []) 6)) (1 ∷ [])
-    ∷ same (cutsOf (bareRule (40000 ∷ 40000 ∷ 25513 ∷ []) 204)) (1 ∷ []) ∷ same (cutsOf (bareRule (40000 ∷ 40000 ∷ 25514 ∷ []) 204)) (1 ∷ 2 ∷ [])
-    ∷ same (cutsOf (bareRule (65518 ∷ 0 ∷ 0 ∷ 1 ∷ []) 204)) (0 ∷ 3 ∷ [])
+    same (cutSets firstEdition (40000 ∷ 0 ∷ 0 ∷ 25513 ∷ []) 204) [] ∷ same (cutSets firstEdition (40000 ∷ 0 ∷ 0 ∷ 25514 ∷ []) 204) (3 ∷ [])
+    ∷ same (cutSets firstEdition (40000 ∷ 25515 ∷ []) 6) [] ∷ same (cutSets firstEdition (40000 ∷ 25516 ∷ []) 6) (1 ∷ [])
+    ∷ same (cutSets firstEdition (40000 ∷ 40000 ∷ 25513 ∷ []) 204) (1 ∷ []) ∷ same (cutSets firstEdition (40000 ∷ 40000 ∷ 25514 ∷ []) 204) (1 ∷ 2 ∷ [])
+    ∷ same (cutSets firstEdition (65518 ∷ 0 ∷ 0 ∷ 1 ∷ []) 204) (0 ∷ 3 ∷ [])
     -- two bytes a set, of three sets, and none for a set that comes later
-    ∷ same (cutsOf (bareRule (20000 ∷ 20000 ∷ 25509 ∷ []) 204)) [] ∷ same (cutsOf (bareRule (20000 ∷ 20000 ∷ 25510 ∷ []) 204)) (2 ∷ [])
-    ∷ same (cutsOf (bareRule (40000 ∷ 25513 ∷ 1 ∷ []) 204)) (2 ∷ []) ∷ same (cutsOf (bareRule (65530 ∷ 65530 ∷ 65530 ∷ []) 2)) (0 ∷ 1 ∷ 2 ∷ [])
-    ∷ same (cutRows (40000 ∷ 30000 ∷ 35499 ∷ [])) (1 ∷ []) ∷ same (cutRows (40000 ∷ 30000 ∷ 35500 ∷ [])) (1 ∷ 2 ∷ [])
+    ∷ same (cutSets firstEdition (20000 ∷ 20000 ∷ 25509 ∷ []) 204) [] ∷ same (cutSets firstEdition (20000 ∷ 20000 ∷ 25510 ∷ []) 204) (2 ∷ [])
+    ∷ same (cutSets firstEdition (40000 ∷ 25513 ∷ 1 ∷ []) 204) (2 ∷ []) ∷ same (cutSets firstEdition (65530 ∷ 65530 ∷ 65530 ∷ []) 2) (0 ∷ 1 ∷ 2 ∷ [])
+    ∷ same (cutRows firstEdition (40000 ∷ 30000 ∷ 35499 ∷ [])) (1 ∷ []) ∷ same (cutRows firstEdition (40000 ∷ 30000 ∷ 35500 ∷ [])) (1 ∷ 2 ∷ [])
     -- nor are the glyphs of a later row estimated
-    ∷ same (cutRows (65501 ∷ 1 ∷ [])) (1 ∷ [])
+    ∷ same (cutRows firstEdition (65501 ∷ 1 ∷ [])) (1 ∷ [])
     ∷ same (cutPlaces (sharing []) 0) (1 ∷ []) ∷ same (cutPlaces (sharing (linkRow 4 4 5)) 0) (1 ∷ 2 ∷ [])
     ∷ same (cutPlaces (fiveSets 25505) 0) [] ∷ same (cutPlaces (fiveSets 25506) 0) (4 ∷ [])
     ∷ same (cutPlaces (twoSets 25513) 0) [] ∷ same (cutPlaces (twoSets 25514) 0) (2 ∷ [])
@@ -340,5 +346,5 @@ splittings =
     ∷ []
 
 pub pinned : every (readings ++ cuttings ++ refusals ++ orders ++ tables ++ splittings ++ inOrder) ≡ true
-unfolding definitions.computes compared.computes packed sameℤs samePair storeOf roomy bare1 under1 tens slots1 store1 bare2 rows2 fifties heads2 store2 storeFields parts store9 fives enough reads found nothing readings cutRows sharing fiveSets twoSets threeRows cuttings refuses splits refusals short orders having keepsIn keeps splitsAt0 afresh tables splittings readAs inOrder
+unfolding definitions.computes compared.computes packed sameℤs samePair storeOf roomy bare1 under1 tens slots1 store1 bare2 rows2 fifties heads2 store2 storeFields parts store9 fives enough reads found nothing readings cutSets cutRows sharing fiveSets twoSets threeRows cuttings refuses splits refusals short orders having keepsIn keeps splitsAt0 afresh tables splittings readAs inOrder
 pinned = refl

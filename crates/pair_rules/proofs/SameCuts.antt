@@ -23,8 +23,10 @@ use Rattle.store_rules.proofs.Lookups.{linked-used}
 use Rattle.store_rules.proofs.Ways.{Way}
 use Rattle.store_rules.proofs.SameReach.{Seed, SameWays, RowsBehind, behind-goes, behind-went, marks-same, reach-size-same}
 use Rattle.cut_rules.specs.Cuts.{Rule, cutsOf}
+use Rattle.call_rules.specs.declared.Settings.{Settings}
+use Rattle.call_rules.specs.Settings.{firstEdition}
 use Rattle.pair_rules.specs.Rules.{rule1, rule2}
-use Rattle.pair_rules.specs.Table.{shape, entriesOf, allAtSlots, ofItems, ruleOf, cutPlaces}
+use Rattle.pair_rules.specs.Table.{shape, entriesOf, allAtSlots, ofItems, ruleOf, cutsBy, cutPlaces}
 use Rattle.pair_rules.proofs.Checks.{all-at-slots, at-slot}
 
 -- y has the objects and rows of x, and leads from t, and from what t reaches, as x does
@@ -129,9 +131,9 @@ module _ {x y : Store} {t : ℕ} (e : Extends x y t) where
   entries-same = λ d. entriesBy (e .bytes t (e .used) d) (linked-bytes coverAt d) (linked-bytes class1At d)
 
   -- the rule over all that it asks
-  abbrev ruleBy : List ℕ → (ℕ → Bool) → (ℕ → ℕ → ℕ) → List Entry → ℕ → ℕ → Rule
-  ruleBy own slots size es cover class2 =
-      cond (eqb (shapeOf own .format) 1) (rule1 (shapeOf own .count) slots size cover) (rule2 (shapeOf own .count) (shapeOf own .item) size es class2)
+  abbrev ruleBy : Settings → List ℕ → (ℕ → Bool) → (ℕ → ℕ → ℕ) → List Entry → ℕ → ℕ → Rule
+  ruleBy how own slots size es cover class2 =
+      cond (eqb (shapeOf own .format) 1) (rule1 how (shapeOf own .count) slots size cover) (rule2 how (shapeOf own .count) (shapeOf own .item) size es class2)
 
   -- slot i is not empty
   abbrev full : Store → ℕ → Bool
@@ -143,11 +145,14 @@ module _ {x y : Store} {t : ℕ} (e : Extends x y t) where
   cost-same : (a i : ℕ) → itemSize y (ofItems t (shape y t)) a i ≡ itemSize x (ofItems t (shape x t)) a i
   cost-same a i = ap (λ (b : List ℕ). itemSize y (ofItems t (shapeOf b)) a i) (e .bytes t (e .used)) ∙ item-same (shape x t) a i
 
-  rule-same : ruleOf y t ≡ ruleOf x t
+  rule-same : (how : Settings) → ruleOf how y t ≡ ruleOf how x t
   unfolding ruleOf
-  rule-same =
-      λ d. ruleBy (e .bytes t (e .used) d) (λ i. full-same i d) (λ a i. cost-same a i d) (entries-same d) (linked-size coverAt d) (linked-size class2At d)
+  rule-same how =
+      λ d. ruleBy how (e .bytes t (e .used) d) (λ i. full-same i d) (λ a i. cost-same a i d) (entries-same d) (linked-size coverAt d) (linked-size class2At d)
+
+  pub cuts-by-same : (how : Settings) → cutsBy how y t ≡ cutsBy how x t
+  unfolding cutsBy
+  cuts-by-same how = ap cutsOf (rule-same how)
 
   pub cuts-same : cutPlaces y t ≡ cutPlaces x t
-  unfolding cutPlaces
-  cuts-same = ap cutsOf rule-same
+  cuts-same = cuts-by-same firstEdition

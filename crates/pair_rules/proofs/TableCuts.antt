@@ -7,14 +7,25 @@ use Rattle.store_rules.specs.Store.{Store}
 use Rattle.cut_rules.specs.Cuts.{cutsOf}
 use Rattle.cut_rules.proofs.CutPlaces.{places}
 use Rattle.cut_rules.specs.Places.{Places}
+use Rattle.call_rules.specs.declared.Settings.{Settings}
+use Rattle.call_rules.specs.Settings.{firstEdition}
 use Rattle.pair_rules.specs.Rules.{rule1, rule2}
-use Rattle.pair_rules.specs.Table.{ruleOf, shape, cutPlaces}
+use Rattle.pair_rules.specs.Table.{ruleOf, shape, cutsBy, cutPlaces}
 
--- the rule has the table's items
-pub rule-count : (s : Store) (t : ℕ) → ruleOf s t .count ≡ shape s t .count
-unfolding ruleOf rule1 rule2
-rule-count s t = by-test (eqb (shape s t .format) 1) (λ e. rw e) (λ e. rw e)
+module _ (how : Settings) (s : Store) (t : ℕ) where
+  -- the rule has the table's items
+  pub rule-count : ruleOf how s t .count ≡ shape s t .count
+  unfolding ruleOf rule1 rule2
+  rule-count = by-test (eqb (shape s t .format) 1) (λ e. rw e) (λ e. rw e)
+
+  -- and the call's edition
+  pub rule-edition : ruleOf how s t .edition ≡ how .edition
+  unfolding ruleOf rule1 rule2
+  rule-edition = by-test (eqb (shape s t .format) 1) (λ e. rw e) (λ e. rw e)
+
+  pub cuts-by : Places (shape s t .count) (cutsBy how s t)
+  unfolding cutsBy cutsOf
+  cuts-by = subst (λ (n : ℕ). Places n (cutsBy how s t)) rule-count (places (ruleOf how s t) (ruleOf how s t .count))
 
 pub table-cuts : (s : Store) (t : ℕ) → Places (shape s t .count) (cutPlaces s t)
-unfolding cutPlaces cutsOf
-table-cuts s t = subst (λ (n : ℕ). Places n (cutPlaces s t)) (rule-count s t) (places (ruleOf s t) (ruleOf s t .count))
+table-cuts s t = cuts-by firstEdition s t

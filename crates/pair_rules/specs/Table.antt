@@ -12,6 +12,8 @@ use Rattle.ot_layouts.specs.PairPos.{Shape, coverAt, class1At, class2At, shapeO
 use Rattle.store_rules.specs.Store.{Store, Link, bytesOf, sizeOf, childAt, linkedAt, linkedBytes, ofSpan, allAt}
 use Rattle.store_rules.specs.Reach.{itemSize}
 use Rattle.cut_rules.specs.Cuts.{Rule, cutsOf}
+use Rattle.call_rules.specs.declared.Settings.{Settings}
+use Rattle.call_rules.specs.Settings.{firstEdition}
 use Rattle.pair_rules.specs.Rules.{rule1, rule2}
 
 -- the shape of table t
@@ -44,18 +46,22 @@ allAtSlots s t = allAt s t (isSlot (shape s t))
 abbrev pub ofItems : ℕ → Shape → ℕ → ℕ → Link → Bool
 ofItems t sh lo hi = ofSpan t (itemAt sh lo) (itemAt sh hi)
 
--- the rule for table t, and its cuts
-unfoldable pub ruleOf : Store → ℕ → Rule
-ruleOf s t =
+-- the rule for table t
+unfoldable pub ruleOf : Settings → Store → ℕ → Rule
+ruleOf how s t =
     cond (eqb (shape s t .format) 1)
-    (rule1 (shape s t .count) (λ i. isSome (childAt s t (itemAt (shape s t) i))) (itemSize s (ofItems t (shape s t))) (sizeOf s (linkedAt s t coverAt)))
-    (rule2 (shape s t .count) (shape s t .item) (itemSize s (ofItems t (shape s t))) (entriesOf s t) (sizeOf s (linkedAt s t class2At)))
+    (rule1 how (shape s t .count) (λ i. isSome (childAt s t (itemAt (shape s t) i))) (itemSize s (ofItems t (shape s t))) (sizeOf s (linkedAt s t coverAt)))
+    (rule2 how (shape s t .count) (shape s t .item) (itemSize s (ofItems t (shape s t))) (entriesOf s t) (sizeOf s (linkedAt s t class2At)))
 
 -- the places at which table t is cut
-unfoldable pub cutPlaces : Store → ℕ → List ℕ
-cutPlaces s t = cutsOf (ruleOf s t)
+unfoldable pub cutsBy : Settings → Store → ℕ → List ℕ
+cutsBy how s t = cutsOf (ruleOf how s t)
+
+-- by the first edition, which every call has yet
+abbrev pub cutPlaces : Store → ℕ → List ℕ
+cutPlaces s t = cutsBy firstEdition s t
 
 -- all of this file's definitions, for checks that compute
 unfoldable pub computes : Unit {0}
-unfolding partsReadable entriesOf allAtSlots ruleOf cutPlaces
+unfolding partsReadable entriesOf allAtSlots ruleOf cutsBy
 computes = tt

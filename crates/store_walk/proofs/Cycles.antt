@@ -54,17 +54,24 @@ module _ {s : Store} {t row next e : ℕ} {from : ℕ → Bool} {w w′ : List �
       (λ x. and-intro (ofParent t (linkAt s k)) (ltb k next) (own k h x) (and-both (leb row k) (ltb k next) x .1))
       (or-either (from k) (between row next k) a)
 
-  pub back-more : Back s t row w → Back s t next w′
-  back-more b = by-test (marked now t) found missed
-    where
-      found : marked now t ≡ true → Back s t next w′
-      found m =
-          let mark : getD w′ t 0 ≡ e = at ∙ ap (λ (x : Bool). cond x e (getD w t 0)) m in
-          lt-ltb 0 (getD w′ t 0) (omega arith) ∙ sym (reached-more s f (alsoBetween from row next) (ownBefore s t next) walked-more t used m)
+  found : marked now t ≡ true → Back s t next w′
+  found m =
+      let mark : getD w′ t 0 ≡ e = at ∙ ap (λ (x : Bool). cond x e (getD w t 0)) m in
+      lt-ltb 0 (getD w′ t 0) (omega arith) ∙ sym (reached-more s f (alsoBetween from row next) (ownBefore s t next) walked-more t used m)
 
-      missed : marked now t ≡ false → Back s t next w′
-      missed m =
-          ap (λ (x : ℕ). ltb 0 x) (at ∙ ap (λ (x : Bool). cond x e (getD w t 0)) m) ∙ b
+  missed : marked now t ≡ false → ltb 0 (getD w′ t 0) ≡ ltb 0 (getD w t 0)
+  missed m = ap (λ (x : ℕ). ltb 0 x) (at ∙ ap (λ (x : Bool). cond x e (getD w t 0)) m)
+
+  -- rows that were walked already are walked again
+  pub back-again : Back s t next w → Back s t next w′
+  back-again b = by-test (marked now t) found (λ m. missed m ∙ b)
+
+  pub back-more : Back s t row w → Back s t next w′
+  back-more b = by-test (marked now t) found none
+    where
+      none : marked now t ≡ false → Back s t next w′
+      none m =
+          missed m ∙ b
           ∙ both-ways (marked (reached s (ownBefore s t row)) t) (marked (reached s (ownBefore s t next)) t) (reached-more s f (ownBefore s t row) (ownBefore s t next) before-more t used) fewer
         where
           fewer : marked (reached s (ownBefore s t next)) t ≡ true → marked (reached s (ownBefore s t row)) t ≡ true
@@ -75,21 +82,27 @@ module _ {s : Store} {t row next e : ℕ} {from : ℕ → Bool} {w w′ : List �
 
 -- ---- an item's rows
 
-module _ {s : Store} {t : ℕ} {at : ℕ → ℕ} {i lo hi e : ℕ} {w w′ : List ℕ} {total : ℕ} (f : Fits s) (r : ItemRows s t at i lo hi) (used : t < s .objectCount) (begun : 0 < e) where
-  pub item-back : (a : ℕ) → s .objectCount ≤ length w → lo ≤ hi → Walked s (items s t at a i) lo hi e w w′ total → Back s t lo w → Back s t hi w′
-  item-back a room rise d = back-more f used begun room earlier own rise d
-    where
-      earlier : (k : ℕ) → k < s .linkCount → items s t at a i k ≡ true → ownBefore s t lo k ≡ true
-      earlier k h x =
-          let (p, q) = and-both (ofParent t (linkAt s k) && leb (at a) (positionOf s k)) (ltb (positionOf s k) (at i)) x in
-          let own = and-both (ofParent t (linkAt s k)) (leb (at a) (positionOf s k)) p .0 in
-          let below : lo ≤ k → ⊥ = λ l. omega (arith, r .first .above k l h, eqb-true (parentOf s k) t own, ltb-true (positionOf s k) (at i) q) in
-          and-intro (ofParent t (linkAt s k)) (ltb k lo) own (lt-ltb k lo (omega arith))
+module _ {s : Store} {t : ℕ} {at : ℕ → ℕ} {i lo hi : ℕ} (f : Fits s) (r : ItemRows s t at i lo hi) where
+  item-earlier : (a k : ℕ) → k < s .linkCount → items s t at a i k ≡ true → ownBefore s t lo k ≡ true
+  item-earlier a k h x =
+      let (p, q) = and-both (ofParent t (linkAt s k) && leb (at a) (positionOf s k)) (ltb (positionOf s k) (at i)) x in
+      let own = and-both (ofParent t (linkAt s k)) (leb (at a) (positionOf s k)) p .0 in
+      let below : lo ≤ k → ⊥ = λ l. omega (arith, r .first .above k l h, eqb-true (parentOf s k) t own, ltb-true (positionOf s k) (at i) q) in
+      and-intro (ofParent t (linkAt s k)) (ltb k lo) own (lt-ltb k lo (omega arith))
 
-      own : (k : ℕ) → k < s .linkCount → between lo hi k ≡ true → ofParent t (linkAt s k) ≡ true
-      own k h x =
-          let item = sym (item-rows f r k h) ∙ x in
-          and-both (ofParent t (linkAt s k)) (leb (at i) (positionOf s k)) (and-both (ofParent t (linkAt s k) && leb (at i) (positionOf s k)) (ltb (positionOf s k) (at (i + 1))) item .0) .0
+  item-own : (k : ℕ) → k < s .linkCount → between lo hi k ≡ true → ofParent t (linkAt s k) ≡ true
+  item-own k h x =
+      let item = sym (item-rows f r k h) ∙ x in
+      and-both (ofParent t (linkAt s k)) (leb (at i) (positionOf s k)) (and-both (ofParent t (linkAt s k) && leb (at i) (positionOf s k)) (ltb (positionOf s k) (at (i + 1))) item .0) .0
+
+  module _ {e : ℕ} {w w′ : List ℕ} {total : ℕ} (used : t < s .objectCount) (begun : 0 < e) (a : ℕ) (room : s .objectCount ≤ length w) (rise : lo ≤ hi)
+      (d : Walked s (items s t at a i) lo hi e w w′ total) where
+    pub item-back : Back s t lo w → Back s t hi w′
+    item-back = back-more f used begun room (item-earlier a) item-own rise d
+
+    -- the item was walked already
+    pub item-back-again : Back s t hi w → Back s t hi w′
+    item-back-again = back-again f used begun room (item-earlier a) item-own rise d
 
 -- ---- the table's first rows, and all of them
 

@@ -10,11 +10,11 @@ use Rattle.mark_points.proofs.compute_split_points.Statement.{statement
 use Rattle.mark_points.proofs.compute_split_points.Tie as tie
 
 abbrev Inv-loop : tie.InvT-loop
-Inv-loop objects links info places classes walk₀ cuts₀ counts count rows columns₀ class₀ walk cuts columns class =
-    Going objects links counts info places classes walk₀ cuts₀ class columns walk cuts
+Inv-loop objects links info settings places classes walk₀ cuts₀ counts count rows columns₀ class₀ walk cuts columns class =
+    Going settings objects links counts info places classes walk₀ cuts₀ class columns walk cuts
 
 abbrev μ-loop : tie.MeasureT-loop
-μ-loop objects links info places classes walk₀ cuts₀ counts count rows columns₀ class₀ walk cuts columns class = info .classes - class
+μ-loop objects links info settings places classes walk₀ cuts₀ counts count rows columns₀ class₀ walk cuts columns class = info .classes - class
 
 rows-of-requires : tie.Need-rows-of-requires Inv-loop μ-loop
 rows-of-requires c κs =
@@ -27,7 +27,7 @@ rows-of-requires-2 c κs =
     (in-order _ (described-fits u), omega (arith, u .basesAt, arrays-used u .1, described-fits u .objectsMost))
 
 loop-holds : tie.Need-loop-holds Inv-loop μ-loop
-loop-holds c = record { inside = search needs; walk = refl; long = refl; below = λ b t r. columns-start r (c .new .ensures) }
+loop-holds c = record { inside = search needs; walk = refl; long = refl; below = λ b t r. columns-start _ r (c .new .ensures) }
 
 weigh-class-requires : tie.Need-weigh-class-requires Inv-loop μ-loop
 weigh-class-requires c κs =

@@ -1,4 +1,4 @@
--- `pair_points::format1::compute_format1_split_points` meets its contract: after each pair set the code stands where document 01 does. Assumes nothing.
+-- `pair_points::format1::compute_format1_split_points` meets its contract: after each pair set the code stands where the cut rule does. Assumes nothing.
 use Prim.Native.Nat.{_-_}
 use mathlib.Core.Path.{refl}
 use native.Mathlib.Omega.{arith}
@@ -10,10 +10,10 @@ use Rattle.pair_points.proofs.format1.compute_format1_split_points.Stat
 use Rattle.pair_points.proofs.format1.compute_format1_split_points.Tie as tie
 
 abbrev Inv-loop : tie.InvT-loop
-Inv-loop objects links info walk₀ cuts₀ counts count sets₀ i₀ walk cuts sets i = Going1 objects links counts info walk₀ cuts₀ i sets walk cuts
+Inv-loop objects links info settings walk₀ cuts₀ counts count sets₀ i₀ walk cuts sets i = Going1 settings objects links counts info walk₀ cuts₀ i sets walk cuts
 
 abbrev μ-loop : tie.MeasureT-loop
-μ-loop objects links info walk₀ cuts₀ counts count sets₀ i₀ walk cuts sets i = info .count - i
+μ-loop objects links info settings walk₀ cuts₀ counts count sets₀ i₀ walk cuts sets i = info .count - i
 
 cast-count : tie.Need-cast-count Inv-loop μ-loop
 cast-count c = omega (arith, sound-fits _ (c .before .before .before .before .pre .1 .table .described .is-sound) .linksMost)
@@ -27,7 +27,7 @@ loop-holds c =
       within = search needs;
       walk = refl;
       long = refl;
-      below = λ b r. sets-start r (c .before .new .ensures) (c .first-row .ensures);
+      below = λ b r. sets-start _ r (c .before .new .ensures) (c .first-row .ensures);
     }
 
 weigh-set-requires : tie.Need-weigh-set-requires Inv-loop μ-loop

@@ -1,4 +1,4 @@
--- `pair_points::format2::compute_format2_split_points` meets its contract: after each row the code stands where document 01 does. Assumes nothing.
+-- `pair_points::format2::compute_format2_split_points` meets its contract: after each row the code stands where the cut rule does. Assumes nothing.
 use Prim.Native.Nat.{_-_}
 use mathlib.Core.Path.{refl}
 use native.Mathlib.Omega.{arith}
@@ -10,10 +10,10 @@ use Rattle.pair_points.proofs.format2.compute_format2_split_points.Stat
 use Rattle.pair_points.proofs.format2.compute_format2_split_points.Tie as tie
 
 abbrev Inv-loop : tie.InvT-loop
-Inv-loop objects links info glyphs classes walk₀ set₀ cuts₀ counts count rows₀ i₀ walk set cuts rows i = Going2 objects links counts info glyphs classes walk₀ set₀ cuts₀ i rows walk set cuts
+Inv-loop objects links info settings glyphs classes walk₀ set₀ cuts₀ counts count rows₀ i₀ walk set cuts rows i = Going2 settings objects links counts info glyphs classes walk₀ set₀ cuts₀ i rows walk set cuts
 
 abbrev μ-loop : tie.MeasureT-loop
-μ-loop objects links info glyphs classes walk₀ set₀ cuts₀ counts count rows₀ i₀ walk set cuts rows i = info .count - i
+μ-loop objects links info settings glyphs classes walk₀ set₀ cuts₀ counts count rows₀ i₀ walk set cuts rows i = info .count - i
 
 cast-count : tie.Need-cast-count Inv-loop μ-loop
 cast-count c =
@@ -32,7 +32,7 @@ loop-holds c =
       walk = refl;
       glyphs = refl;
       long = refl;
-      below = λ b r. rows-start r (c .before .before .new .ensures) (c .before .first-row .ensures) (c .new2 .ensures);
+      below = λ b r. rows-start _ r (c .before .before .new .ensures) (c .before .first-row .ensures) (c .new2 .ensures);
     }
 
 weigh-row-requires : tie.Need-weigh-row-requires Inv-loop μ-loop
