@@ -7,5 +7,6 @@ pub mod ViewPairs
 pub mod LinksCounted
 pub mod Taken
 pub mod SoundThen
+pub mod ViewReach
 pub mod SameReach
 pub mod SplitLinks
