@@ -8,5 +8,7 @@ pub mod LinksCounted
 pub mod Taken
 pub mod SoundThen
 pub mod ViewReach
+pub mod ViewParts
+pub mod Resulting
 pub mod SameReach
 pub mod SplitLinks

@@ -1,23 +1,17 @@
 -- What the items of a range reach together: no items reach nothing, fewer items no more, and S of an item is what it adds. Assumes nothing.
-use Prim.Native.Nat.{ℕ, zero, suc, _+_, _<_, _≤_}
+use Prim.Native.Nat.{ℕ, _+_, _<_, _≤_}
 use mathlib.Core.Path.{_≡_, ap}
 use mathlib.Core.Bool.{Bool, true, false, cond, _&&_}
 use native.Mathlib.Omega.{arith}
 use lib.Dec.{eqb, leb, ltb}
 use borrow.Author.Tests.{leb-true, ltb-true, le-leb, lt-ltb}
-use Rattle.folds.specs.Folds.{sum}
 use Rattle.folds.proofs.Joined.{and-three, three-hold}
-use Rattle.folds.proofs.Sums.{sum-zero}
+use Rattle.folds.proofs.Sums.{sum-zero, sum-less}
 use Rattle.folds.proofs.Tests.{by-test}
 use Rattle.store_rules.specs.Store.{Store, Link, linkAt, sizeOf, ofSpan}
 use Rattle.store_rules.specs.Reach.{marked, reached, reachSize, reachOf, itemSize}
 use Rattle.store_rules.proofs.Sound.{Fits}
 use Rattle.store_rules.proofs.Reaching.{reached-more, reached-none}
-
-sum-less : (f g : ℕ → ℕ) (n : ℕ) → ((k : ℕ) → k < n → f k ≤ g k) → sum f n ≤ sum g n
-unfolding sum
-sum-less f g zero h = omega arith
-sum-less f g (suc n) h = omega (arith, sum-less f g n (λ k l. h k (omega arith)), h n (omega arith))
 
 module _ (s : Store) (f : Fits s) where
   -- the size of object i, where it is reached
