@@ -18,11 +18,12 @@ use Rattle.store_rules.specs.Store.{Store, bytesOf, sizeOf, linkedAt}
 use Rattle.store_rules.specs.Reach.{reachOf, itemSize}
 use Rattle.store_rules.proofs.Sound.{Fits}
 use Rattle.store_rules.proofs.ReachTogether.{span-less, span-none, size-adds}
-use Rattle.cut_rules.specs.Cuts.{looked, cutsOf}
+use Rattle.cut_rules.specs.Cuts.{looked}
 use Rattle.cut_rules.specs.Measure.{withinLimit}
 use Rattle.cut_rules.specs.Places.{ascending}
 use Rattle.cut_rules.proofs.FewestCuts.{LaterFits, fewest}
 use Rattle.cut_rules.proofs.Totals.{Totals, later-fits}
+use Rattle.cut_rules.proofs.WithinLimit.{cuts-within}
 use Rattle.glyph_rules.specs.Entries.{within}
 use Rattle.glyph_rules.specs.Estimates.{estimate, besideRows}
 use Rattle.call_rules.specs.declared.Settings.{Settings}
@@ -82,6 +83,11 @@ module _ (s : Store) (t a i : ℕ) where
       → ruleOf secondEdition s t .beside a i ≡ besideRows (sizeOf s (linkedAt s t class2At)) (estimate (within a (i + 1) (entriesOf s t)))
   unfolding ruleOf rule2
   beside-rows e = rw e
+
+-- edition 2's own cuts are within the limit
+pub own-within : (s : Store) (t : ℕ) → withinLimit (ruleOf secondEdition s t) (cutsBy secondEdition s t) ≡ true
+unfolding cutsBy
+own-within s t = cuts-within (ruleOf secondEdition s t) (rule-edition secondEdition s t)
 
 -- ---- what items take together
 

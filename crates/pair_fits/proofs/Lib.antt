@@ -1,0 +1,5 @@
+pub mod PartRule
+pub mod AgainUncut
+pub mod WholeFits
+pub mod SetsFit
+pub mod RowsFit
