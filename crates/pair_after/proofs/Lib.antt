@@ -11,4 +11,5 @@ pub mod ViewReach
 pub mod ViewParts
 pub mod Resulting
 pub mod SameReach
+pub mod KeptUncut
 pub mod SplitLinks
