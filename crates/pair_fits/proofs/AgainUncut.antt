@@ -2,25 +2,22 @@
 use Prim.Native.Nat.{ℕ}
 use mathlib.Core.Path.{_≡_, sym, subst}
 use mathlib.Core.Bool.{true}
-use mathlib.Core.List.{List, [], _∷_}
+use mathlib.Core.List.{List}
 use lib.ListN.{getD}
-use Rattle.folds.specs.Lists.{among}
 use Rattle.store_rules.specs.Store.{Store}
-use Rattle.cut_rules.specs.Measure.{withinLimit}
 use Rattle.cut_rules.proofs.CutPlaces.{loAt}
 use Rattle.cut_rules.proofs.TablesUncut.{Restricts, ranges-uncut}
 use Rattle.call_rules.specs.Settings.{secondEdition}
 use Rattle.pair_rules.specs.Table.{ruleOf, cutsBy}
-use Rattle.pair_rules.specs.Written.{splitStore, newTables}
+use Rattle.pair_rules.specs.Written.{splitStore}
 use Rattle.pair_rules.proofs.TableCuts.{rule-count}
 use Rattle.pair_after.proofs.Ready.{Ready}
 use Rattle.pair_after.proofs.Resulting.{resulting-table}
+use Rattle.pair_fits.specs.Guaranteed.{withinBy2, AgainUncut}
 use Rattle.pair_fits.proofs.PartRule.{restricts}
 
--- "in both PairPos formats, splitting any of the resulting tables again, scratch being enough, adds nothing": there is no place to cut at
-pub again-uncut : (s : Store) (t : ℕ) (cs : List ℕ) → Ready s t cs → withinLimit (ruleOf secondEdition s t) cs ≡ true → (u : ℕ) → among u (t ∷ newTables s t cs) ≡ true
-    → cutsBy secondEdition (splitStore s t cs) u ≡ []
-unfolding cutsBy
+pub again-uncut : (s : Store) (t : ℕ) (cs : List ℕ) → Ready s t cs → withinBy2 s t cs ≡ true → AgainUncut s t cs
+unfolding cutsBy withinBy2
 again-uncut s t cs g within u h =
     let w = resulting-table s t cs g u h in
     let old = ruleOf secondEdition s t in

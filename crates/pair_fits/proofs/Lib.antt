@@ -1,3 +1,4 @@
+pub mod FewestCuts
 pub mod PartRule
 pub mod AgainUncut
 pub mod WholeFits

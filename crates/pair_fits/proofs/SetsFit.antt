@@ -2,28 +2,24 @@
 use Prim.Native.Nat.{ℕ, _+_, _-_, _*_, _≤_, min}
 use mathlib.Core.Path.{_≡_, ap, _∙_}
 use mathlib.Core.Bool.{true}
-use mathlib.Core.List.{List, _∷_}
+use mathlib.Core.List.{List}
 use native.Mathlib.Omega.{arith}
 use lib.Dec.{eqb}
-use Rattle.folds.specs.Lists.{among}
 use Rattle.store_rules.specs.Store.{Store, sizeOf, linkedAt}
-use Rattle.cut_rules.specs.Measure.{withinLimit}
 use Rattle.call_rules.specs.Settings.{secondEdition}
 use Rattle.pair_rules.specs.Table.{shape, ruleOf}
-use Rattle.pair_rules.specs.Written.{splitStore, newTables}
 use Rattle.pair_rules.proofs.Measured.{beside-sets}
 use Rattle.pair_after.proofs.Ready.{Ready}
 use Rattle.pair_after.proofs.ViewParts.{cover-most, cover-less}
 use Rattle.pair_after.proofs.Resulting.{resulting-table}
-use Rattle.pair_fits.specs.Together.{setsTogether, FitsBy}
+use Rattle.pair_fits.specs.Together.{setsTogether}
+use Rattle.pair_fits.specs.Guaranteed.{withinBy2, SetsFit}
 use Rattle.pair_fits.proofs.WholeFits.{lo, hi, count-then, whole-fits}
 
 le-min : {n : ℕ} (a b : ℕ) → n ≤ a → n ≤ b → n ≤ min a b
 le-min a b x y = omega arith
 
--- "each resulting table with two or more items, together with its coverage and all that its pair sets reach, is at most 65,535 bytes"
-pub sets-fit : (s : Store) (t : ℕ) (cs : List ℕ) → Ready s t cs → withinLimit (ruleOf secondEdition s t) cs ≡ true → eqb (shape s t .format) 1 ≡ true
-    → (u : ℕ) → among u (t ∷ newTables s t cs) ≡ true → FitsBy setsTogether (splitStore s t cs) u
+pub sets-fit : (s : Store) (t : ℕ) (cs : List ℕ) → Ready s t cs → withinBy2 s t cs ≡ true → eqb (shape s t .format) 1 ≡ true → SetsFit s t cs
 unfolding setsTogether
 sets-fit s t cs g within one u h two =
     let w = resulting-table s t cs g u h in

@@ -8,7 +8,7 @@ use lib.ListN.{length, getD}
 use Rattle.ot_layouts.specs.PairPos.{Shape}
 use Rattle.store_rules.specs.Store.{Store, sizeOf}
 use Rattle.store_rules.proofs.Sound.{size-bytes}
-use Rattle.cut_rules.specs.Measure.{tableFits, withinLimit}
+use Rattle.cut_rules.specs.Measure.{tableFits}
 use Rattle.cut_rules.proofs.CutPlaces.{loAt}
 use Rattle.cut_rules.proofs.TablesUncut.{range-fits}
 use Rattle.cut_rules.proofs.Totals.{table-total}
@@ -23,6 +23,7 @@ use Rattle.pair_after.proofs.ViewReach.{reach-same}
 use Rattle.pair_after.proofs.Resulting.{TableOf}
 use Rattle.pair_after.proofs.SoundThen.{fits-then}
 use Rattle.pair_fits.specs.Together.{reachedByItems}
+use Rattle.pair_fits.specs.Guaranteed.{withinBy2}
 
 module _ (s : Store) (t : ℕ) (cs : List ℕ) (g : Ready s t cs) {u : ℕ} (w : TableOf s t cs u) where
   abbrev s′ : Store
@@ -49,8 +50,9 @@ module _ (s : Store) (t : ℕ) (cs : List ℕ) (g : Ready s t cs) {u : ℕ} (w :
       let y : lo + (hi - lo) ≡ hi = omega arith in
       ap (itemsReach s′ u 0) count-then ∙ reach-same s t cs g (w .view) 0 (hi - lo) (omega arith) ∙ ap₂ (itemsReach s t) z y
 
-  module _ (within : withinLimit (ruleOf secondEdition s t) cs ≡ true) where
+  module _ (within : withinBy2 s t cs ≡ true) where
     range-within : tableFits (ruleOf secondEdition s t) lo hi ≡ true
+    unfolding withinBy2
     range-within =
         subst (λ (n : ℕ). tableFits (ruleOf secondEdition s t) lo (getD cs (w .j) n) ≡ true) (rule-count secondEdition s t)
         (range-fits (ruleOf secondEdition s t) cs within (w .j) (w .some))

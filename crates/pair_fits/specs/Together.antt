@@ -1,5 +1,5 @@
 -- What a pair table of a store takes together with its parts and all that its items reach. Assumes nothing.
-use Prim.Native.Nat.{ℕ, _+_, _≤_}
+use Prim.Native.Nat.{ℕ, _+_}
 use Rattle.ot_layouts.specs.PairPos.{coverAt, class1At, class2At}
 use Rattle.store_rules.specs.Store.{Store, sizeOf, linkedAt}
 use Rattle.store_rules.specs.Reach.{reachOf}
@@ -18,10 +18,6 @@ setsTogether s u = sizeOf s u + sizeOf s (linkedAt s u coverAt) + reachedByItems
 unfoldable pub rowsTogether : Store → ℕ → ℕ
 rowsTogether s u =
     sizeOf s u + butLargest (sizeOf s (linkedAt s u coverAt)) (sizeOf s (linkedAt s u class1At)) (sizeOf s (linkedAt s u class2At)) + reachedByItems s u
-
--- a "table with two or more items .. is at most 65,535 bytes" by this count
-abbrev pub FitsBy : (Store → ℕ → ℕ) → Store → ℕ → Type 0
-FitsBy together s u = 2 ≤ shape s u .count → together s u ≤ 65535
 
 -- all of this file's definitions, for checks that compute
 unfoldable pub computes : Unit {0}

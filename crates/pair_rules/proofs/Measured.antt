@@ -2,12 +2,10 @@
 use Prim.Native.Nat.{ℕ, zero, suc, _+_, _-_, _*_, _≤_, min}
 use mathlib.Core.Path.{_≡_, refl, ap, _∙_}
 use mathlib.Core.Bool.{Bool, true, false, cond, _&&_}
-use mathlib.Core.List.{List}
 use mathlib.Core.Logic.{⊎-elim}
 use native.Mathlib.Numerals.{add-one}
 use native.Mathlib.Nat.{mul-add, mul-le-mul-left}
 use native.Mathlib.Omega.{arith}
-use lib.ListN.{length}
 use lib.Dec.{eqb, leb}
 use borrow.Author.Tests.{le-leb, lt-leb}
 use Rattle.folds.specs.Folds.{sum}
@@ -19,18 +17,14 @@ use Rattle.store_rules.specs.Reach.{reachOf, itemSize}
 use Rattle.store_rules.proofs.Sound.{Fits}
 use Rattle.store_rules.proofs.ReachTogether.{span-less, span-none, size-adds}
 use Rattle.cut_rules.specs.Cuts.{looked}
-use Rattle.cut_rules.specs.Measure.{withinLimit}
-use Rattle.cut_rules.specs.Places.{ascending}
-use Rattle.cut_rules.proofs.FewestCuts.{LaterFits, fewest}
+use Rattle.cut_rules.proofs.FewestCuts.{LaterFits}
 use Rattle.cut_rules.proofs.Totals.{Totals, later-fits}
-use Rattle.cut_rules.proofs.WithinLimit.{cuts-within}
 use Rattle.glyph_rules.specs.Entries.{within}
 use Rattle.glyph_rules.specs.Estimates.{estimate, besideRows}
 use Rattle.call_rules.specs.declared.Settings.{Settings}
 use Rattle.call_rules.specs.Settings.{secondEdition}
 use Rattle.pair_rules.specs.Rules.{partialCover, rule1, rule2}
-use Rattle.pair_rules.specs.Table.{shape, entriesOf, ofItems, ruleOf, cutsBy}
-use Rattle.pair_rules.proofs.TableCuts.{rule-edition}
+use Rattle.pair_rules.specs.Table.{shape, entriesOf, ofItems, ruleOf}
 
 -- what items a up to b reach, b left out
 abbrev pub itemsReach : Store → ℕ → ℕ → ℕ → ℕ
@@ -84,11 +78,6 @@ module _ (s : Store) (t a i : ℕ) where
   unfolding ruleOf rule2
   beside-rows e = rw e
 
--- edition 2's own cuts are within the limit
-pub own-within : (s : Store) (t : ℕ) → withinLimit (ruleOf secondEdition s t) (cutsBy secondEdition s t) ≡ true
-unfolding cutsBy
-own-within s t = cuts-within (ruleOf secondEdition s t) (rule-edition secondEdition s t)
-
 -- ---- what items take together
 
 module _ (s : Store) (t : ℕ) (f : Fits s) where
@@ -119,16 +108,10 @@ module _ (s : Store) (t : ℕ) (f : Fits s) where
   -- ---- format 1
 
   -- what fits still fits without its first pair sets
-  sets-later : eqb (shape s t .format) 1 ≡ true → LaterFits (ruleOf secondEdition s t)
+  pub sets-later : eqb (shape s t .format) 1 ≡ true → LaterFits (ruleOf secondEdition s t)
   sets-later e =
       later-fits (ruleOf secondEdition s t) (itemsTake s t) (totals secondEdition)
       (λ a b i x y.
       let item = shape s t .item in
       let wide : item * (i + 1 - b) ≤ item * (i + 1 - a) = mul-le-mul-left {m = i + 1 - b} {n = i + 1 - a} item (omega arith) in
       omega (arith, reach-less b (i + 1) a (i + 1) x (omega arith), beside-sets s t a i e, beside-sets s t b i e))
-
-  -- "No choice of fewer cuts has that property by edition 2's estimate."
-  pub sets-fewest : eqb (shape s t .format) 1 ≡ true → (cs : List ℕ) → ascending 0 (ruleOf secondEdition s t .count) cs ≡ true
-      → withinLimit (ruleOf secondEdition s t) cs ≡ true → length (cutsBy secondEdition s t) ≤ length cs
-  unfolding cutsBy
-  sets-fewest e cs = fewest (ruleOf secondEdition s t) (rule-edition secondEdition s t) (sets-later e) cs
