@@ -4,3 +4,4 @@ pub mod AgainUncut
 pub mod WholeFits
 pub mod SetsFit
 pub mod RowsFit
+pub mod Pinned
