@@ -6,5 +6,6 @@ pub mod Measures
 pub mod SumMeasured
 pub mod WithinLimit
 pub mod FewestCuts
+pub mod Totals
 pub mod TablesUncut
 pub mod Pinned

@@ -34,9 +34,13 @@ coverSize e = min (4 + 2 * e .glyphs) (4 + 6 * e .runs)
 abbrev pub classSize : Estimate → ℕ
 classSize e = min (e .listed) (e .ranged)
 
+-- three lengths, "minus the largest of these three"
+abbrev pub butLargest : ℕ → ℕ → ℕ → ℕ
+butLargest a b c = a + b + c - max a (max b c)
+
 -- "plus the estimates of coverage and class definition 1 .., plus class definition 2's length, minus the largest of these three"
 unfoldable pub besideRows : ℕ → Estimate → ℕ
-besideRows class2 e = coverSize e + classSize e + class2 - max (coverSize e) (max (classSize e) class2)
+besideRows class2 e = butLargest (coverSize e) (classSize e) class2
 
 -- all of this file's definitions, for checks that compute
 unfoldable pub computes : Unit {0}

@@ -1,4 +1,4 @@
--- How long a written Coverage is: as the shorter of its formats, and no longer than one that covers these glyphs and more. Assumes nothing.
+-- How long a written Coverage is: as the shorter of its formats, and no longer than one that covers these glyphs among others. Assumes nothing.
 use Prim.Native.Nat.{ℕ, _+_, _*_, _<_, _≤_}
 use mathlib.Core.Path.{_≡_, refl, ap}
 use mathlib.Core.Bool.{true}
@@ -14,7 +14,7 @@ use Rattle.ot_layouts.specs.Coverage.{Run, runs, plain, glyphAt, startAt
 use Rattle.ot_layouts.proofs.Numbers.{length-words}
 use Rattle.ot_layouts.proofs.Head.{head-length}
 use Rattle.ot_layouts.proofs.Runs.{runSize}
-use Rattle.ot_layouts.proofs.RunCount.{many, alone, many-first, many-run, many-flat}
+use Rattle.ot_layouts.proofs.RunCount.{many, alone, many-first, many-last, many-run, many-flat}
 use Rattle.ot_layouts.proofs.CoverageRead.{Listed, Ranged, rangeAt, either-format}
 
 pub length-cover-ranges : (i : ℕ) (rs : List Run) → length (coverRanges i rs) ≡ 6 * length rs
@@ -45,12 +45,13 @@ cover-length gs =
     ⊎-elim (λ h. let l = ranges-long gs h in (omega arith, omega arith)) (λ h. let l = list-long gs h in (omega arith, omega arith))
     (either (3 * many (plain gs)) (length gs))
 
-pub cover-shorter : (b gs rest : List ℕ) → coverReadable b ≡ true → coverGlyphs b ≡ gs ++ rest → length (coverageBytes gs) ≤ length b
-cover-shorter b gs rest h e =
+pub cover-within : (b front gs rest : List ℕ) → coverReadable b ≡ true → coverGlyphs b ≡ front ++ gs ++ rest → length (coverageBytes gs) ≤ length b
+cover-within b front gs rest h e =
     let (p, q) = cover-length gs in
     let n = u16At b 2 in
     ⊎-elim
-    (λ (r : Listed b n). omega (arith, r .read .long, length-upto (glyphAt b) n, ap length (r .glyphs), ap length e, length-append gs rest))
+    (λ (r : Listed b n).
+    omega (arith, r .read .long, length-upto (glyphAt b) n, ap length (r .glyphs), ap length e, length-append (front ++ gs) rest, length-append front gs))
     (λ (r : Ranged b n).
     omega (
       arith,
@@ -58,7 +59,12 @@ cover-shorter b gs rest h e =
       many-flat (rangeAt b) n (λ k l. many-run (startAt b k) (sizeAt b k)),
       ap (λ (x : List ℕ). many (plain x)) (r .glyphs),
       ap (λ (x : List ℕ). many (plain x)) e,
-      ap many (map-append alone gs rest),
-      many-first (plain gs) (plain rest),
+      ap many (map-append alone (front ++ gs) rest),
+      many-first (plain (front ++ gs)) (plain rest),
+      ap many (map-append alone front gs),
+      many-last (plain front) (plain gs),
     ))
     (either-format b h)
+
+pub cover-shorter : (b gs rest : List ℕ) → coverReadable b ≡ true → coverGlyphs b ≡ gs ++ rest → length (coverageBytes gs) ≤ length b
+cover-shorter b gs rest = cover-within b [] gs rest

@@ -11,6 +11,7 @@ pub mod CoverageGlyphs
 pub mod CoverageRoundTrip
 pub mod CoverageLength
 pub mod Classes
+pub mod ClassDefLength
 pub mod ClassDefRoundTrip
 pub mod Named
 pub mod Values

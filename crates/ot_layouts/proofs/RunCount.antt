@@ -1,15 +1,17 @@
 -- How many runs there are: with one entry more, with entries behind, and against the number of glyphs. Assumes nothing.
 use Prim.Native.Nat.{ℕ, zero, suc, _+_, _<_, _≤_}
-use mathlib.Core.Path.{_≡_, refl, ap}
-use mathlib.Core.Bool.{cond}
-use mathlib.Core.List.{List, [], _∷_, _++_, map-append}
+use mathlib.Core.Path.{_≡_, refl, sym, ap, _∙_}
+use mathlib.Core.Bool.{Bool, true, false, cond}
+use mathlib.Core.List.{List, [], _∷_, _++_, map, map-append}
 use mathlib.Core.Logic.{⊎-elim}
 use native.Mathlib.Nat.{not-suc-le-zero}
 use native.Mathlib.Omega.{arith}
 use lib.ListN.{length, getD}
-use borrow.Author.Tests.{eq-eqb}
+use lib.Dec.{eqb}
+use borrow.Author.Tests.{eq-eqb, eqb-true}
 use Rattle.folds.specs.Folds.{flat, run}
-use Rattle.folds.proofs.Tests.{by-test, either}
+use Rattle.folds.specs.Lists.{sift}
+use Rattle.folds.proofs.Tests.{by-test, true-false, and-both, and-intro, either}
 use Rattle.folds.proofs.FromTheFront.{run-none, run-cons}
 use Rattle.ot_layouts.specs.Coverage.{Entry, Run, runs, plain, Ascends, Under}
 use Rattle.ot_layouts.proofs.Runs.{follows, startingAt, runs-join, runs-part, runs-none, runs-one}
@@ -74,6 +76,59 @@ pub many-first : (xs ys : List Entry) → many xs ≤ many (xs ++ ys)
 many-first [] ys = omega (arith, many-none)
 many-first (x ∷ []) ys = omega (arith, many-one x, some-run x ys)
 many-first (x ∷ y ∷ xs) ys = let i = many-first (y ∷ xs) ys in omega (arith, many-step x y (xs ++ ys), many-step x y xs)
+
+many-rest : (e : Entry) (es : List Entry) → many es ≤ many (e ∷ es)
+many-rest e [] = omega (arith, many-none)
+many-rest e (f ∷ es) = omega (arith, many-step e f es)
+
+-- and neither have the last ones
+pub many-last : (xs ys : List Entry) → many ys ≤ many (xs ++ ys)
+many-last [] ys = omega arith
+many-last (x ∷ xs) ys = omega (arith, many-last xs ys, many-rest x (xs ++ ys))
+
+-- ---- fewer classes
+
+-- those of some classes have no more runs than all
+pub many-sift : (p : ℕ → Bool) (es : List Entry) → many (sift (λ e. p (e .class)) es) ≤ many es
+unfolding sift
+many-sift p [] = omega arith
+many-sift p (e ∷ []) = by-test (p (e .class)) (λ y. rw y (omega arith)) (λ n. rw n (omega (arith, many-none)))
+many-sift p (e ∷ f ∷ es) = go (p (e .class)) refl (p (f .class)) refl (many-sift p (f ∷ es))
+  where
+    rest : List Entry
+    rest = sift (λ e. p (e .class)) es
+
+    -- a run ends where the one is left out that would follow
+    apart : p (e .class) ≡ true → p (f .class) ≡ false → follows e f ≡ false
+    apart y n =
+        by-test (follows e f)
+        (λ h. true-false (sym y ∙ ap p (eqb-true (e .class) (f .class) (and-both (eqb (e .glyph + 1) (f .glyph)) (eqb (e .class) (f .class)) h .1)) ∙ n))
+        (λ h. h)
+
+    go : (b : Bool) → p (e .class) ≡ b → (c : Bool) → p (f .class) ≡ c → many (cond c (f ∷ rest) rest) ≤ many (f ∷ es)
+        → many (cond b (e ∷ cond c (f ∷ rest) rest) (cond c (f ∷ rest) rest)) ≤ many (e ∷ f ∷ es)
+    go false x c y i = omega (arith, many-rest e (f ∷ es))
+    go true x true y i = omega (arith, many-step e f rest, many-step e f es)
+    go true x false y i = omega (arith, many-cons e rest, many-step e f es, ap (λ (z : Bool). cond {A = ℕ} z 0 1) (apart x y))
+
+-- the entry with its class changed
+abbrev classed : (ℕ → ℕ) → Entry → Entry
+classed h e = record { glyph = e .glyph; class = h (e .class) }
+
+-- where classes become one there are no more runs
+pub many-merged : (h : ℕ → ℕ) (es : List Entry) → many (map (λ e. record { glyph = e .glyph; class = h (e .class) }) es) ≤ many es
+many-merged h [] = omega arith
+many-merged h (e ∷ []) = omega (arith, many-one e, many-one (classed h e))
+many-merged h (e ∷ f ∷ es) =
+    let rest = map (classed h) es in
+    let i : many (classed h f ∷ rest) ≤ many (f ∷ es) = many-merged h (f ∷ es) in
+    by-test (follows e f)
+    (λ y.
+    let (a, b) = and-both (eqb (e .glyph + 1) (f .glyph)) (eqb (e .class) (f .class)) y in
+    let c : eqb (h (e .class)) (h (f .class)) ≡ true = eq-eqb (h (e .class)) (h (f .class)) (ap h (eqb-true (e .class) (f .class) b)) in
+    let z : follows (classed h e) (classed h f) ≡ true = and-intro (eqb (e .glyph + 1) (f .glyph)) (eqb (h (e .class)) (h (f .class))) a c in
+    omega (arith, many-step (classed h e) (classed h f) rest, many-step e f es, ap (λ (x : Bool). cond {A = ℕ} x 0 1) z))
+    (λ n. omega (arith, many-step (classed h e) (classed h f) rest, many-step e f es, gap-le (classed h e) (classed h f), ap (λ (x : Bool). cond {A = ℕ} x 0 1) n))
 
 -- ---- glyphs alone
 

@@ -8,5 +8,9 @@ pub mod LinksCounted
 pub mod Taken
 pub mod SoundThen
 pub mod SortedThen
+pub mod ViewReach
+pub mod ViewParts
+pub mod Resulting
 pub mod SameReach
+pub mod KeptUncut
 pub mod SplitLinks

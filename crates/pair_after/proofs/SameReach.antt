@@ -1,44 +1,37 @@
 -- What the kept table's items reach is what they reached, and check 7 does not apply to it. Assumes nothing.
 use Prim.Native.Nat.{ℕ, _+_, _-_, _<_, _≤_}
-use mathlib.Core.Path.{_≡_, refl, sym, ap, ap₂, subst, _∙_}
+use mathlib.Core.Path.{_≡_, refl, sym, ap, subst, _∙_}
 use mathlib.Core.Bool.{Bool, true, false, not}
 use mathlib.Core.List.{List, _++_, map}
 use mathlib.Core.Logic.{_⊎_, inl, inr, ⊎-elim}
 use native.Mathlib.Omega.{arith}
 use native.Mathlib.Nat.{mul-le-mul-left, mul-add}
-use lib.ListN.{length, getD, length-append, List·getD-append}
-use borrow.Author.Tests.{eqb-true, eq-eqb, ne-eqb}
-use Rattle.folds.specs.Folds.{flat, upto}
+use lib.ListN.{length}
+use borrow.Author.Tests.{eqb-true, eq-eqb}
+use Rattle.folds.specs.Folds.{flat}
 use Rattle.folds.specs.Lists.{sift}
 use Rattle.folds.proofs.Tests.{by-test, true-false}
-use Rattle.folds.proofs.Folds.{length-upto}
-use Rattle.folds.proofs.FromTheFront.{upto-at}
 use Rattle.folds.proofs.Each.{Each, each-upto, each-append, each-moved, each-flat, each-at}
-use Rattle.folds.proofs.Moved.{has-moved}
 use Rattle.ot_layouts.specs.PairPos.{Shape, heads, isSlot}
-use Rattle.ot_layouts.proofs.Shapes.{items-rise}
 use Rattle.store_rules.specs.Store.{Store, Link, linkAt, linksOf, parentOf, childOf, positionOf, bytesOf, linkedAt, ofParent}
 use Rattle.pair_rules.specs.Table.{ofItems, shape, allAtSlots}
-use Rattle.store_rules.specs.Reach.{itemSize, onCycle, marked, reached, reachOf, Reach}
+use Rattle.store_rules.specs.Reach.{itemSize, onCycle, marked, reached, Reach}
 use Rattle.pair_rules.specs.Written.{splitStore, tableLinks, moved, headLinks, perTable}
 use Rattle.cut_rules.specs.Ranges.{from, to}
 use Rattle.store_rules.proofs.Reached.{reached-all, reached-only}
 use Rattle.store_rules.proofs.LinksFit.{rows-many}
-use Rattle.store_rules.proofs.SameReach.{Seed, Leads, SameWays, reach-used, reach-size-same}
-use Rattle.pair_rules.proofs.ItemLinks.{items-from, items-in, items-out}
 use Rattle.store_rules.proofs.LinkRows.{row-is, noLink}
 use Rattle.store_rules.specs.Appended.{newNumber}
 use Rattle.pair_rules.proofs.Checks.{all-at-slots, at-slot}
 use Rattle.pair_rules.proofs.NewCounts.{per-two}
-use Rattle.pair_rules.proofs.TableLinks.{kept-item}
 use Rattle.store_rules.specs.Header.{kept}
 use Rattle.store_rules.proofs.Header.{header-each, kept-parent, kept-position, kept-any, kept-other}
 use Rattle.pair_after.proofs.Ready.{Ready, objects-then}
 use Rattle.pair_after.proofs.NewLinks.{stays, piece, stayed, links-then}
-use Rattle.pair_after.proofs.NewBytes.{other-size}
 use Rattle.pair_after.proofs.View.{View, view-shape}
 use Rattle.pair_after.proofs.KeptAndNew.{view-kept}
 use Rattle.pair_after.proofs.SoundThen.{fits-then}
+use Rattle.pair_after.proofs.ViewReach as ViewReach
 
 module _ (s : Store) (t : ℕ) (cs : List ℕ) (g : Ready s t cs) where
   abbrev sh : Shape
@@ -85,17 +78,6 @@ module _ (s : Store) (t : ℕ) (cs : List ℕ) (g : Ready s t cs) where
   row-kind k h =
       let ls = stayed s t cs ++ flat (piece s t cs) (length cs) in
       subst Kind (sym (row-is s′ ls (links-then s t cs) k h noLink)) (each-at Kind ls kinds k (omega (arith, many-rows)) noLink)
-
-  -- an old row that stays is a row
-  row-stays : (k : ℕ) → k < s .linkCount → stays s t cs (linkAt s k) ≡ true → (j : ℕ) × (j < s′ .linkCount) × (linkAt s′ j ≡ kept (sh .own) t v (linkAt s k))
-  unfolding linksOf
-  row-stays k h e =
-      let n : length (upto (linkAt s) (s .linkCount)) ≡ s .linkCount = length-upto (linkAt s) (s .linkCount) in
-      let a : getD (upto (linkAt s) (s .linkCount)) k noLink ≡ linkAt s k = upto-at (linkAt s) (s .linkCount) k noLink h in
-      let (j, b, c) = has-moved (kept (sh .own) t v) (stays s t cs) noLink noLink (upto (linkAt s) (s .linkCount)) k (omega arith) (ap (stays s t cs) a ∙ e) in
-      let rest = flat (piece s t cs) (length cs) in
-      let lt : j < s′ .linkCount = omega (arith, many-rows, length-append (stayed s t cs) rest) in
-      (j, lt, row-is s′ (stayed s t cs ++ rest) (links-then s t cs) j lt noLink ∙ List·getD-append (stayed s t cs) rest noLink j b ∙ c ∙ ap (kept (sh .own) t v) a)
 
   -- a row from an old object is an old row
   old-row : (k i : ℕ) → k < s′ .linkCount → parentOf s′ k ≡ i → i < s .objectCount
@@ -166,68 +148,7 @@ module _ (s : Store) (t : ℕ) (cs : List ℕ) (g : Ready s t cs) where
       (λ e. absurd (⊎-elim (λ x. omega (arith, g .reads .used)) (λ (x, y). not-back y) (leads (reached-only s′ (ofT s′) (fits-then s t cs g) t (omega (arith, g .reads .used, objects-then s t cs g)) e))))
       (λ e. e)
 
-  -- ---- what the items below j reach, j at most the first cut
+  -- ---- S of the kept table's items is what it was
 
-  module _ (j : ℕ) (small : j ≤ from cs 0) where
-    -- rows of these items
-    abbrev ofI : Store → ℕ → Bool
-    ofI x k = ofItems t (shape s t) 0 j (linkAt x k)
-
-    -- what the items reach, the table reaches
-    items-table : {i : ℕ} → Reach s (ofI s) i → Reach s (ofT s) i
-    items-table (Reach.seed k l a e) = let (p, q, r) = items-from t sh 0 j (linkAt s k) a in Reach.seed k l (eq-eqb (parentOf s k) t p) e
-    items-table (Reach.step r k l p e) = Reach.step (items-table r) k l p e
-
-    -- no row of the table itself leads on from what they reach
-    other : {i : ℕ} → Reach s (ofI s) i → (k : ℕ) → parentOf s k ≡ i → parentOf s k ≡ t → ⊥
-    other r k p z = not-back (subst (Reach s (ofT s)) (sym p ∙ z) (items-table r))
-
-    -- then as before, they lead the same ways
-    same-ways : SameWays s s′ (ofI s) (ofI s′)
-    same-ways = record { starts = starts; started = started; goes = goes; went = went }
-      where
-        starts : (c : ℕ) → Seed s (ofI s) c → Seed s′ (ofI s′) c
-        starts c (k, l, a, e) =
-            let old = linkAt s k in
-            let (p, lo, hi) = items-from t sh 0 j old a in
-            let z = items-rise sh j (from cs 0) small in
-            let (m, b, q) = row-stays k l (ap not (items-out t sh (from cs 0) (sh .count) old (inl (omega arith)))) in
-            let position : positionOf s′ m ≡ positionOf s k = ap (λ (x : Link). x .position) q ∙ kept-position (sh .own) t v old in
-            let parent : parentOf s′ m ≡ t = ap (λ (x : Link). x .parent) q ∙ kept-parent (sh .own) t v old ∙ p in
-            let child : childOf s′ m ≡ c = child-is m (kept (sh .own) t v old) q ∙ kept-item (bytesOf s t) t v old (omega arith) ∙ e in
-            (m, b, items-in t sh 0 j (linkAt s′ m) parent (omega arith) (omega arith), child)
-
-        started : (c : ℕ) → Seed s′ (ofI s′) c → Seed s (ofI s) c
-        started c (k, l, a, e) =
-            let (p, lo, hi) = items-from t sh 0 j (linkAt s′ k) a in
-            let (m, b, parent, q, st) = old-row k t l p (g .reads .used) in
-            let old = linkAt s m in
-            let position : positionOf s′ k ≡ positionOf s m = ap (λ (x : Link). x .position) q ∙ kept-position (sh .own) t v old in
-            let child : childOf s m ≡ c = sym (kept-item (bytesOf s t) t v old (omega arith)) ∙ sym (child-is k (kept (sh .own) t v old) q) ∙ e in
-            (m, b, items-in t sh 0 j old parent (omega arith) (omega arith), child)
-
-        goes : (p c : ℕ) → Reach s (ofI s) p → Leads s p c → Leads s′ p c
-        goes p c r (k, l, a, e) =
-            let old = linkAt s k in
-            let ne = other r k a in
-            let (m, b, q) = row-stays k l (rw (ne-eqb (parentOf s k) t ne)) in
-            (m, b, ap (λ (x : Link). x .parent) q ∙ kept-parent (sh .own) t v old ∙ a, child-is m (kept (sh .own) t v old) q ∙ kept-other (sh .own) t v old ne ∙ e)
-
-        went : (p c : ℕ) → Reach s (ofI s) p → Leads s′ p c → Leads s p c
-        went p c r (k, l, a, e) =
-            let (m, b, parent, q, st) = old-row k p l a (reach-used s (g .fit) (ofI s) r) in
-            let old = linkAt s m in
-            (m, b, parent, sym (kept-other (sh .own) t v old (other r m parent)) ∙ sym (child-is k (kept (sh .own) t v old) q) ∙ e)
-
-    reach-same : reachOf s′ (ofItems t sh 0 j) ≡ reachOf s (ofItems t sh 0 j)
-    reach-same =
-        reach-size-same same-ways (g .fit) (fits-then s t cs g) (omega (arith, objects-then s t cs g))
-        (λ i h r. other-size s t cs g i h (λ z. not-back (subst (Reach s (ofT s)) z (items-table r))))
-
-  -- S of the kept table's items is what it was
   pub size-same : (i : ℕ) → i < from cs 0 → itemSize s′ (ofItems t (shape s′ t)) 0 i ≡ itemSize s (ofItems t sh) 0 i
-  unfolding itemSize
-  size-same i h =
-      ap₂ (λ (a b : ℕ). a - b)
-      (ap (λ (x : Shape). reachOf s′ (ofItems t x 0 (i + 1))) (view-shape view) ∙ reach-same (i + 1) (omega arith))
-      (ap (λ (x : Shape). reachOf s′ (ofItems t x 0 i)) (view-shape view) ∙ reach-same i (omega arith))
+  size-same i h = let z : 0 + i ≡ i = omega arith in ViewReach.size-same s t cs g view i (omega arith) ∙ ap (itemSize s (ofItems t sh) 0) z

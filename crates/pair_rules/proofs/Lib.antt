@@ -1,6 +1,7 @@
 pub mod Pinned
 pub mod SecondEdition
 pub mod TableCuts
+pub mod Measured
 pub mod ItemLinks
 pub mod Entries
 pub mod PairByItem

@@ -16,6 +16,8 @@ pub mod AppendedFits
 pub mod Changed
 pub mod RowChild
 pub mod SameReach
+pub mod SameChildren
 pub mod ItemSize
+pub mod ReachTogether
 pub mod SlotsCounted
 pub mod SlotLinks
