@@ -56,6 +56,7 @@
 
 #![deny(missing_docs, unsafe_code)]
 
+pub mod explain;
 pub mod font;
 mod kind;
 mod mark;
@@ -69,6 +70,7 @@ mod split;
 mod store;
 pub mod store_file;
 
+pub use explain::{explain, explain_marks, Explanation};
 pub use kind::Kind;
 pub use mark::{read_mark, Attachment};
 pub use pair::{read_pair, PairValues, Values};
