@@ -98,12 +98,12 @@ impl<'a> StoreRef<'a> {
     }
 
     /// The rows of objects in use: head and tail.
-    pub(crate) fn object_rows(self) -> &'a [[u32; 2]] {
+    pub fn object_rows(self) -> &'a [[u32; 2]] {
         in_use(self.objects.as_chunks().0, self.counts[1])
     }
 
     /// The rows of links in use: parent, position, width and child.
-    pub(crate) fn link_rows(self) -> &'a [[u32; 4]] {
+    pub fn link_rows(self) -> &'a [[u32; 4]] {
         in_use(self.links.as_chunks().0, self.counts[2])
     }
 }
