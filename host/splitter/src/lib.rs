@@ -63,6 +63,7 @@ mod mark;
 mod need;
 mod pair;
 mod plan;
+pub mod provenance;
 pub mod raw;
 mod refusal;
 mod scratch;

@@ -530,8 +530,17 @@ fn help_and_version() {
         assert!(text.starts_with(&format!("splitter {name} ")));
         assert_eq!(done(run!(name, "--help")), text);
     }
-    let version = concat!("splitter ", env!("CARGO_PKG_VERSION"), "\n");
-    assert_eq!(done(run!("--version")), version);
+    let version = done(run!("--version"));
+    let lines: Vec<&str> = version.lines().collect();
+    assert_eq!(lines[0], concat!("splitter ", env!("CARGO_PKG_VERSION")));
+    assert_eq!(lines[1], "interface 1");
+    for (line, start) in lines[2..]
+        .iter()
+        .zip(["kit ", "archive sha256 ", "commit "])
+    {
+        assert!(line.starts_with(start), "{line}");
+    }
+    assert_eq!(lines.len(), 5);
 }
 
 #[test]

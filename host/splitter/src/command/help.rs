@@ -1,10 +1,19 @@
 //! How the command is used.
 
 use super::arguments::Name;
+use splitter::{provenance, raw::INTERFACE};
 
 /// Which version this is.
 pub fn version() -> String {
-    concat!("splitter ", env!("CARGO_PKG_VERSION"), "\n").into()
+    let known = |what: Option<&'static str>| what.unwrap_or("not known");
+    format!(
+        "splitter {}\ninterface {}\nkit {}\narchive sha256 {}\ncommit {}\n",
+        provenance::VERSION,
+        INTERFACE,
+        known(provenance::KIT),
+        known(provenance::ARCHIVE_SHA256),
+        known(provenance::COMMIT),
+    )
 }
 
 /// How a command is used, or all of them.

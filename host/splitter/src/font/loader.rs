@@ -12,7 +12,9 @@ pub(super) struct Budget(Cell<usize>);
 
 impl Budget {
     /// Enough for any one table, which its store limits.
-    pub const ONE_TABLE: Self = Self(Cell::new(usize::MAX));
+    pub const fn for_table() -> Self {
+        Self(Cell::new(usize::MAX))
+    }
 
     /// Enough for a font of so many bytes: each is loaded several times over, and small ones more often.
     pub const fn for_font(len: usize) -> Self {

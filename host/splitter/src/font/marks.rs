@@ -13,7 +13,7 @@ const WHAT: &str = "a mark table";
 
 /// A MarkBasePos table with all that it leads to, as object [`TABLE`](super::TABLE) of a store.
 pub fn load_marks(gpos: Bytes, start: usize) -> Result<Store, FontError> {
-    load_marks_within(gpos, start, &Budget::ONE_TABLE)
+    load_marks_within(gpos, start, &Budget::for_table())
 }
 
 pub(super) fn load_marks_within(

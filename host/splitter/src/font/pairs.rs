@@ -13,7 +13,7 @@ const WHAT: &str = "a pair table";
 
 /// A PairPos table with all that it leads to, as object [`TABLE`](super::TABLE) of a store.
 pub fn load_pairs(gpos: Bytes, start: usize) -> Result<Store, FontError> {
-    load_pairs_within(gpos, start, &Budget::ONE_TABLE)
+    load_pairs_within(gpos, start, &Budget::for_table())
 }
 
 pub(super) fn load_pairs_within(
