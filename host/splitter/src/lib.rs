@@ -58,6 +58,7 @@
 
 pub mod explain;
 pub mod font;
+mod graph;
 mod kind;
 mod mark;
 mod need;
@@ -72,6 +73,7 @@ mod store;
 pub mod store_file;
 
 pub use explain::{explain, explain_marks, Explanation};
+pub use graph::{split_graph, split_marks_graph, GraphStore, ObjectGraph};
 pub use kind::Kind;
 pub use mark::{read_mark, Attachment};
 pub use pair::{read_pair, PairValues, Values};
