@@ -13,6 +13,9 @@ use splitter::{GraphStore, Kind, ObjectGraph, Refusal, Scratch};
 
 const STORES: u64 = 300;
 
+/// An object's bytes and links.
+type Object = (Vec<u8>, Vec<(u32, ObjIdx)>);
+
 /// The graph as a host's.
 struct Host(Graph);
 
@@ -45,8 +48,8 @@ impl Host {
         Self(Graph::load(store).unwrap())
     }
 
-    /// All objects with their bytes and links, as they are numbered.
-    fn objects(&self) -> Vec<(Vec<u8>, Vec<(u32, ObjIdx)>)> {
+    /// All objects, as they are numbered.
+    fn objects(&self) -> Vec<Object> {
         let objects = 0..self.0.num_vertices();
         let object = |object| (self.bytes(object).to_vec(), self.links(object));
         objects.map(object).collect()

@@ -97,13 +97,13 @@ const BY_COUNT: &str = "by its count";
 /// Fewer bytes than its header has.
 fn short(bytes: &[u8], header: usize) -> Option<Bad> {
     let wanted = Wanted::AtLeast(header as u64);
-    (bytes.len() < header).then(|| Bad::Length(bytes.len(), wanted, "to have a header"))
+    (bytes.len() < header).then_some(Bad::Length(bytes.len(), wanted, "to have a header"))
 }
 
 /// Not as many bytes as there must be.
 fn not_exactly(bytes: &[u8], wanted: usize, because: &'static str) -> Option<Bad> {
     let exactly = Wanted::Exactly(wanted as u64);
-    (bytes.len() != wanted).then(|| Bad::Length(bytes.len(), exactly, because))
+    (bytes.len() != wanted).then_some(Bad::Length(bytes.len(), exactly, because))
 }
 
 fn other_format(bytes: &[u8]) -> Bad {
