@@ -2,8 +2,8 @@
 //!
 //! All of it is done in cargo's own output folder: what is proved is copied there, so the repository
 //! may be read-only, and what was linked stays what it was, whatever happens to the repository. Where
-//! nothing has changed since, nothing is proved. Proofs that are there already, of the repository's own
-//! `rt check` or `rt ci` or of another profile's build, are taken over.
+//! nothing has changed since, nothing is proved. What is there already is taken over: another profile's
+//! archive of the same sources, or proofs of the repository's own `rt check` or `rt ci`.
 
 mod commit;
 mod kit;
@@ -25,6 +25,11 @@ use tell::{done, fail};
 /// The crate whose functions are exported.
 const CRATE: &str = "splitter";
 const ARCHIVE: &str = "libsplitter.a";
+
+/// In the output folder: the identity of the kit that made the archive.
+const MADE_BY: &str = "made-by";
+/// In the output folder: the sources of the archive, and what was proved of them.
+const PROOF: &str = "proof";
 
 fn main() {
     let root = root();
@@ -70,27 +75,32 @@ fn ensure_target() {
 
 /// Makes the archive, unless there is one of the same sources by the same kit.
 fn make(root: &Path, out: &Path, kit: &Kit, archive: &Path) {
-    let made_by = out.join("made-by");
-    let folder = out.join("proof");
-    let changes = sources::changes(root, &folder);
-    let is_made = fs::read_to_string(&made_by).is_ok_and(|by| by == kit.identity);
-    if changes.is_empty() && is_made && archive.is_file() {
+    if is_made(root, out, kit) {
         return;
     }
+    let [made_by, folder] = [MADE_BY, PROOF].map(|name| out.join(name));
     remove(&made_by);
-    changes.apply();
+    sources::changes(root, &folder).apply();
     // Builds of two profiles take turns: the second takes over what the first has proved.
     let turn = File::open(root.join("crates.txt"));
     let turn = turn.and_then(|file| file.lock().map(|()| file));
-    let crates = sources::crates_of(root, CRATE);
-    seeds::take_over(root, out, &folder, &crates);
-    let made = proof::prove(&folder, kit, crates.len());
+    let made = seeds::archive(root, out, kit).unwrap_or_else(|| {
+        let crates = sources::crates_of(root, CRATE);
+        seeds::take_over(root, out, &folder, &crates);
+        proof::prove(&folder, kit, crates.len())
+    });
     drop(turn);
     done(fs::copy(&made, archive), "copying the archive");
-    done(
-        fs::write(&made_by, &kit.identity),
-        "keeping the kit's identity",
-    );
+    let kept = fs::write(&made_by, &kit.identity);
+    done(kept, "keeping the kit's identity");
+}
+
+/// Whether an output folder has an archive of the repository's sources by a kit.
+fn is_made(root: &Path, out: &Path, kit: &Kit) -> bool {
+    let made_by = fs::read_to_string(out.join(MADE_BY));
+    made_by.is_ok_and(|by| by == kit.identity)
+        && out.join(ARCHIVE).is_file()
+        && sources::changes(root, &out.join(PROOF)).is_empty()
 }
 
 /// Removes a file, if it is there.

@@ -20,7 +20,8 @@ pub fn prove(folder: &Path, kit: &Kit, crates: usize) -> PathBuf {
     let archive = folder.join("target/staticlib").join(ARCHIVE);
     remove(&archive);
     let mut count = 0;
-    let mut show = |line: &str| {
+    // Crates that need nothing of each other are proved side by side.
+    run(folder, kit, "check", &mut |line| {
         let Some((name, how)) = proved(line) else {
             return;
         };
@@ -28,9 +29,8 @@ pub fn prove(folder: &Path, kit: &Kit, crates: usize) -> PathBuf {
         if !how.contains("unchanged") {
             teller.say("Proved", &format!("{name} {how}, {count} of {crates}"));
         }
-    };
-    // Crates that need nothing of each other are proved side by side.
-    run(folder, kit, "check", &mut show);
+    });
+    teller.say("Writing", ARCHIVE);
     run(folder, kit, "staticlib", &mut |_| {});
     archive
 }

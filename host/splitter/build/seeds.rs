@@ -1,8 +1,9 @@
-//! Proofs that are there already, taken over.
+//! Archives and proofs that are there already, taken over.
 //!
 //! `rt` keeps a stamp of each crate that it proved, which says of which sources and by which kit. What is
 //! taken over counts for it only where the stamp is that of the copy; otherwise it proves the crate.
 
+use crate::{is_made, kit::Kit, ARCHIVE, PROOF};
 use std::{
     collections::BTreeSet,
     fs, io,
@@ -10,11 +11,19 @@ use std::{
     time::SystemTime,
 };
 
+/// The archive of another profile's build, of the same sources and by the same kit.
+pub fn archive(root: &Path, out: &Path, kit: &Kit) -> Option<PathBuf> {
+    let mut others = other_builds(out).into_iter();
+    let other = others.find(|other| is_made(root, other, kit))?;
+    Some(other.join(ARCHIVE))
+}
+
 /// Takes over what the repository or another build has proved of some crates.
 pub fn take_over(root: &Path, out: &Path, copy: &Path, crates: &BTreeSet<String>) {
     let own = copy.join("target");
-    let mut seeds = vec![root.join("target")];
-    seeds.extend(other_builds(out).into_iter().filter(|seed| *seed != own));
+    let others = other_builds(out).into_iter();
+    let others = others.map(|other| other.join(PROOF).join("target"));
+    let seeds: Vec<PathBuf> = [root.join("target")].into_iter().chain(others).collect();
     for name in crates {
         for seed in &seeds {
             if is_newer(&stamp(seed, name), &stamp(&own, name)) {
@@ -69,15 +78,17 @@ fn copy_folder(from: &Path, to: &Path) -> io::Result<()> {
     Ok(())
 }
 
-/// Where builds of other profiles have proved: `PROFILE/build/splitter-HASH/out` of cargo's folder.
+/// The output folders of other builds: `PROFILE/build/splitter-HASH/out` of cargo's folder.
 fn other_builds(out: &Path) -> Vec<PathBuf> {
     let Some(top) = out.ancestors().nth(4) else {
         return Vec::new();
     };
     let profiles = children(top).into_iter();
     let builds = profiles.flat_map(|profile| children(&profile.join("build")));
-    let builds = builds.map(|build| build.join("out/proof/target"));
-    builds.filter(|target| target.is_dir()).collect()
+    let others = builds.map(|build| build.join("out"));
+    others
+        .filter(|other| other != out && other.join(PROOF).is_dir())
+        .collect()
 }
 
 fn children(folder: &Path) -> Vec<PathBuf> {

@@ -83,12 +83,17 @@ impl Repository {
     }
 
     fn build(&self) -> Built {
+        self.build_with(&[])
+    }
+
+    fn build_with(&self, words: &[&str]) -> Built {
         let _ = fs::remove_file(self.top.join("asked"));
         let path = env::var_os("PATH").unwrap();
         let others = env::split_paths(&path).filter(|folder| !folder.join("rt").exists());
         let path = [self.top.join("bin")].into_iter().chain(others);
         let output = Command::new(env::var_os("CARGO").unwrap_or("cargo".into()))
             .args(["check", "--offline", "--locked", "--lib"])
+            .args(words)
             .current_dir(self.top.join("tree/host"))
             .env("PATH", env::join_paths(path).unwrap())
             .env("CARGO_TARGET_DIR", self.top.join("target"))
@@ -158,6 +163,7 @@ fn what_is_proved_and_when() {
         "     Proving splitter by rattle-kit-test logic 1\n",
         "      Proved base (3 s), 1 of 2\n",
         "      Proved splitter (3 s), 2 of 2\n",
+        "     Writing libsplitter.a\n",
     ] {
         assert!(built.said.contains(line), "{}", built.said);
     }
@@ -171,6 +177,14 @@ fn what_is_proved_and_when() {
     repository.write("tree/crates/base/src/lib.rt", "// something\n");
     assert_eq!(repository.build().asked, PROVES);
     assert_eq!(repository.build().asked, "");
+
+    // Another profile takes over the archive, until the sources change.
+    let other = repository.build_with(&["--release"]);
+    assert!(other.succeeded, "{}", other.said);
+    assert_eq!(other.asked, "version; ");
+    repository.write("tree/crates/base/src/lib.rt", "// something more\n");
+    assert_eq!(repository.build_with(&["--release"]).asked, PROVES);
+    assert_eq!(repository.build().asked, "version; ");
 }
 
 /// What `rt` has proved in the repository is taken over.
