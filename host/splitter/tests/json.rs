@@ -406,7 +406,14 @@ fn a_dump() {
     ];
     assert_eq!(lines[2..], expected);
     let one = done(run!("dump", file, "5"));
-    assert!(one.contains("Object 5: anchor, 6 bytes") && one.contains("00 01 00 64 00 C8"));
+    assert!(one.contains("\n5: anchor, 6 bytes\n") && one.contains("00 01 00 64 00 C8"));
+    let array = done(run!("dump", file, "4"));
+    assert!(array.contains("\n4: base array, 14 bytes\n  at 2 to 6: anchor, 6 bytes\n"));
+    // A table that the file does not list.
+    let unlisted = directory.store("b.krns", format1(&[100]), &[]);
+    let tree = "\n0: pair table, 12 bytes\n  at 2 to 1: coverage, 6 bytes\n  at 10 to 2: pair set";
+    assert!(done(run!("dump", unlisted, "0")).contains(tree));
+    assert!(done(run!("dump", unlisted)).contains("The file lists no table. Its objects: 3"));
     assert!(one.contains("To it there are 4 links:\n  at       4 of 3: mark array"));
     let told = parse(&done(run!("dump", file, "--json")));
     let objects = told.at("objects");

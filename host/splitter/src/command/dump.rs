@@ -27,7 +27,10 @@ const MOST: usize = 24;
 pub fn run(request: &Dump, screen: &mut Screen) -> Result<Outcome, Failure> {
     let file = files::read_raw(&request.file)?;
     let tables = request.tables(&file)?;
-    let store = Dumped::new(file.view(), &tables, request.all);
+    let mut store = Dumped::new(file.view(), &tables, request.all);
+    if let Some(object) = request.object {
+        store.take_for_table(object, request.marks);
+    }
     let fault = (!store.view.is_sound()).then(|| explain(store.view, 0));
     let refused = fault
         .as_ref()
@@ -83,7 +86,7 @@ fn not_there(request: &Dump, object: u32, objects: u32) -> Failure {
 }
 
 impl Dump {
-    /// The tables that the file lists; where there are none, those objects that nothing leads to.
+    /// The tables that the file lists.
     fn tables(&self, file: &RawFile) -> Result<Vec<Table>, Failure> {
         let listed = file.tables();
         let mut tables = listed.map_err(|error| files::about(&self.file, error))?;
@@ -99,7 +102,8 @@ struct Dumped<'a> {
     view: StoreRef<'a>,
     tables: &'a [Table],
     kinds: Kinds,
-    /// The links to each object.
+    /// The links of each object, and those to each. In a store that is not sound they stand anywhere.
+    links: Vec<Vec<Link>>,
     from: Vec<Vec<Link>>,
     /// Whether long lists are shown whole.
     all: bool,
@@ -107,8 +111,12 @@ struct Dumped<'a> {
 
 impl<'a> Dumped<'a> {
     fn new(view: StoreRef<'a>, tables: &'a [Table], all: bool) -> Self {
-        let mut from = vec![Vec::new(); view.counts()[1] as usize];
+        let objects = view.counts()[1] as usize;
+        let [mut links, mut from] = [vec![Vec::new(); objects], vec![Vec::new(); objects]];
         for link in view.links() {
+            if let Some(links) = links.get_mut(link.parent as usize) {
+                links.push(link);
+            }
             if let Some(from) = from.get_mut(link.child as usize) {
                 from.push(link);
             }
@@ -116,9 +124,22 @@ impl<'a> Dumped<'a> {
         Self {
             view,
             tables,
-            kinds: Kinds::of(view, tables),
+            kinds: Kinds::of(view, &links, tables),
+            links,
             from,
             all,
+        }
+    }
+
+    /// Takes an object that no table leads to for a table, so that what it leads to has names.
+    fn take_for_table(&mut self, number: u32, is_marks: bool) {
+        if self.kinds.names(number).is_empty() {
+            let kind = match is_marks {
+                true => Kind::Marks,
+                false => Kind::Pairs,
+            };
+            let table = Table { number, kind };
+            self.kinds.add_table(self.view, &self.links, table);
         }
     }
 
@@ -131,16 +152,9 @@ impl<'a> Dumped<'a> {
         self.view.object(object).unwrap_or_default()
     }
 
-    /// An object's links. In a store that is not sound they may stand anywhere.
-    fn links_of(&self, object: u32) -> Vec<Link> {
-        match self.kinds.is_sorted {
-            true => self.view.links_of(object).collect(),
-            false => self
-                .view
-                .links()
-                .filter(|link| link.parent == object)
-                .collect(),
-        }
+    fn links_of(&self, object: u32) -> &[Link] {
+        let links = self.links.get(object as usize);
+        links.map_or(&[], Vec::as_slice)
     }
 
     fn told_tables(&self) -> Json {
@@ -158,7 +172,7 @@ impl<'a> Dumped<'a> {
     }
 
     fn told(&self, object: u32) -> Json {
-        let links = self.links_of(object).into_iter().map(|link| {
+        let links = self.links_of(object).iter().map(|link| {
             Json::object([
                 ("position", link.position.into()),
                 ("child", link.child.into()),
@@ -208,26 +222,19 @@ impl<'a> Dumped<'a> {
     fn show_object(&self, object: u32, screen: &mut Screen) -> Result<(), Failure> {
         let [head, tail] = self.kinds.rows[object as usize];
         screen.line("")?;
+        self.show_from(object, &mut vec![false; self.objects() as usize], screen)?;
+        screen.line("")?;
         screen.line(&format!(
-            "Object {}, {} to {} of the data",
-            self.in_words(object),
+            "Object {object} is {} to {} of the data.",
             grouped(head as usize),
             grouped(tail as usize),
         ))?;
-        let links = self.links_of(object);
-        screen.line(&format!("It has {}:", counted(links.len(), "link")))?;
-        let shown = self.some(links.len());
-        for link in &links[..shown] {
-            let position = grouped(link.position as usize);
-            screen.line(&format!(
-                "  at {position:>7} to {}",
-                self.in_words(link.child)
-            ))?;
-        }
-        self.show_rest(links.len() - shown, "more link", screen)?;
         let from = &self.from[object as usize];
         let count = counted(from.len(), "link");
-        screen.line(&format!("To it there are {count}:"))?;
+        screen.line(&format!(
+            "To it there are {count}{}",
+            if from.is_empty() { "." } else { ":" }
+        ))?;
         let shown = self.some(from.len());
         for link in &from[..shown] {
             let position = grouped(link.position as usize);

@@ -147,11 +147,12 @@ splitter dump FILE [OBJECT] [--marks] [--all] [--json]
 Shows what is in a store file, also where its store is not sound: the objects as
 a tree from the tables that it lists, each with what it is, how long it is and
 at which positions it leads to others, and those that no table leads to. With
-OBJECT, that object alone: its links, who leads to it, and its bytes.
+OBJECT, a tree from that object, who leads to it, and its bytes; one that no
+table leads to is taken for a table.
 
-    --marks    the tables are mark-to-base, whatever the file says
+    --marks    tables are mark-to-base, whatever the file says
     --all      show long lists whole
-    --json     write all objects as JSON, for programs
+    --json     write all objects, or that one, as JSON, for programs
 
 Where the store is not sound it is said what is at fault; the exit code is 1.
 ";

@@ -1,6 +1,6 @@
 //! What objects are to the tables that lead to them.
 
-use splitter::{store_file::Table, Kind, StoreRef};
+use splitter::{store_file::Table, Kind, Link, StoreRef};
 
 /// What an object is.
 #[derive(Clone, Copy, Debug, PartialEq, Eq)]
@@ -22,33 +22,35 @@ pub struct Kinds {
     kinds: Vec<Vec<Is>>,
     /// Where each object starts and ends.
     pub rows: Vec<[u32; 2]>,
-    /// Whether the links of an object stand together.
-    pub is_sorted: bool,
 }
 
 impl Kinds {
     /// Goes from the tables along the links of what is known. An object may be several things.
-    pub fn of(view: StoreRef, tables: &[Table]) -> Self {
+    pub fn of(view: StoreRef, links: &[Vec<Link>], tables: &[Table]) -> Self {
         let objects = view.counts()[1] as usize;
         let mut kinds = Self {
             kinds: vec![Vec::new(); objects],
             rows: view.object_rows().to_vec(),
-            is_sorted: view.links().is_sorted_by_key(|link| link.parent),
         };
         kinds.rows.resize(objects, [0; 2]);
-        let mut next = Vec::new();
-        for table in tables {
-            kinds.add(table.number, Is::Table(table.kind), &mut next);
+        for &table in tables {
+            kinds.add_table(view, links, table);
         }
+        kinds
+    }
+
+    /// Goes from one more table.
+    pub fn add_table(&mut self, view: StoreRef, links: &[Vec<Link>], table: Table) {
+        let mut next = Vec::new();
+        self.add(table.number, Is::Table(table.kind), &mut next);
         while let Some((object, is)) = next.pop() {
             let bytes = view.object(object).unwrap_or_default();
-            for link in view.links_of(object) {
+            for link in links.get(object as usize).into_iter().flatten() {
                 if let Some(is) = is.child(bytes, link.position) {
-                    kinds.add(link.child, is, &mut next);
+                    self.add(link.child, is, &mut next);
                 }
             }
         }
-        kinds
     }
 
     fn add(&mut self, object: u32, is: Is, next: &mut Vec<(u32, Is)>) {

@@ -52,7 +52,12 @@ impl Dumped<'_> {
     }
 
     /// Shows an object, and below it what it leads to. What was shown above is only named.
-    fn show_from(&self, table: u32, seen: &mut [bool], screen: &mut Screen) -> Result<(), Failure> {
+    pub(super) fn show_from(
+        &self,
+        table: u32,
+        seen: &mut [bool],
+        screen: &mut Screen,
+    ) -> Result<(), Failure> {
         let mut levels = Vec::new();
         self.enter(None, table, &mut levels, seen, screen)?;
         while let Some(level) = levels.last_mut() {
@@ -71,11 +76,11 @@ impl Dumped<'_> {
         Ok(())
     }
 
-    fn enter(
-        &self,
+    fn enter<'s>(
+        &'s self,
         position: Option<u32>,
         object: u32,
-        levels: &mut Vec<Level>,
+        levels: &mut Vec<Level<'s>>,
         seen: &mut [bool],
         screen: &mut Screen,
     ) -> Result<(), Failure> {
@@ -97,19 +102,15 @@ impl Dumped<'_> {
         let shown = self.some(links.len());
         levels.push(Level {
             rest: links.len() - shown,
-            links: links
-                .into_iter()
-                .take(shown)
-                .collect::<Vec<_>>()
-                .into_iter(),
+            links: links[..shown].iter(),
         });
         Ok(())
     }
 }
 
 /// What is still to be shown of an object's links.
-struct Level {
-    links: std::vec::IntoIter<Link>,
+struct Level<'a> {
+    links: std::slice::Iter<'a, Link>,
     /// How many are left out.
     rest: usize,
 }
