@@ -73,6 +73,7 @@ fn failed(request: &Request, failure: &Failure) -> Json {
         ("command", request.name().map(|name| name.word()).into()),
         ("outcome", outcome.word().into()),
         ("exit", Json::Number(outcome.number().into())),
+        ("file", request.file().map(told::path).into()),
         ("error", Json::list(failure.sentences())),
         ("refused", failure.told()),
     ])

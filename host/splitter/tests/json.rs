@@ -263,7 +263,9 @@ fn a_refusal() {
         run!("pair", file, "1", "2", "--json"),
     ];
     for ran in [split, pair] {
-        assert_eq!(parse(&ran.out).at("refused"), refused);
+        let told = parse(&ran.out);
+        assert_eq!(told.at("refused"), refused);
+        assert_eq!(told.at("file"), &word(file.to_str().unwrap()));
     }
     let quiet = run!("plan", file, "--quiet");
     assert_eq!(quiet.out, "");

@@ -8,7 +8,7 @@ pub use name::Name;
 use super::{failure::Failure, files::is_standard, screen::Form, text::shown_word};
 use std::{
     ffi::{OsStr, OsString},
-    path::PathBuf,
+    path::{Path, PathBuf},
 };
 use words::Words;
 
@@ -162,6 +162,19 @@ impl Request {
             Self::Dump(request) => request.form,
             Self::Font(request) => request.form,
             Self::Sample(_) | Self::Help(_) | Self::Version => Form::Text,
+        }
+    }
+
+    /// The file that it reads.
+    pub fn file(&self) -> Option<&Path> {
+        match self {
+            Self::Plan(request) => Some(&request.file),
+            Self::Split(request) => Some(&request.plan.file),
+            Self::Pair(request) => Some(&request.file),
+            Self::Mark(request) => Some(&request.file),
+            Self::Dump(request) => Some(&request.file),
+            Self::Font(request) => Some(&request.file),
+            Self::Sample(_) | Self::Help(_) | Self::Version => None,
         }
     }
 
