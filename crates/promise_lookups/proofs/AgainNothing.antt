@@ -33,7 +33,9 @@ use Rattle.pair_after.proofs.SortedThen.{kept-sorted}
 use Rattle.pair_after.proofs.SameReach.{at-slots, still-acyclic}
 use Rattle.promise_pairs.proofs.GoesAhead.{splits-sorted}
 use Rattle.pair_after.proofs.SplitLinks.{NewOrOwn, row-leads}
-use Rattle.promise_pairs.proofs.AgainNothing.{nothing-to-split, no-cut}
+use Rattle.promise_pairs.proofs.AgainNothing.{nothing-to-split}
+use Rattle.call_rules.specs.Settings.{firstEdition}
+use Rattle.pair_after.proofs.KeptUncut.{kept-uncut}
 use Rattle.promise_lookups.specs.Demands.{AgainNoEntry}
 use Rattle.promise_lookups.proofs.Answered.{store-entered}
 use Rattle.lookup_after.proofs.Entering.{Entering}
@@ -147,5 +149,5 @@ again-no-entry s l t w list octets p v list′ =
       acyclic = acyclic-same x (still-acyclic s t cs g);
       sorted = pairs .sorted;
     } in
-    let o = nothing-to-split (lookupStore s l t cs) t v list′ checked (cuts-same x ∙ no-cut s t cs g refl) in
+    let o = nothing-to-split (lookupStore s l t cs) t v list′ checked (cuts-same x ∙ kept-uncut firstEdition s t cs g refl) in
     rw o (refl, record { noneNew = refl; sameStore = refl; sameList = refl; zeroScratch = refl }))
