@@ -1,2 +1,5 @@
 pub mod Deciding
+pub mod Lookups
+pub mod Measuring
 pub mod Entering
+pub mod Stub
