@@ -2,7 +2,7 @@
 use Prim.Native.Nat.{ℕ, _+_, _*_, _≤_, _<_}
 use mathlib.Core.Path.{_≡_, sym, ap, _∙_}
 use mathlib.Core.Bool.{Bool, true, false, not, _&&_}
-use mathlib.Core.List.{List}
+use mathlib.Core.List.{List, map}
 use native.Mathlib.Omega.{arith}
 use lib.ListN.{length}
 use lib.Dec.{eqb}
@@ -10,17 +10,19 @@ use borrow.Author.Tests.{eqb-true, not-true, not-false}
 use Rattle.folds.specs.Folds.{upto}
 use Rattle.folds.specs.Lists.{among}
 use Rattle.folds.proofs.Tests.{and-first}
+use Rattle.folds.proofs.Moved.{map-upto}
 use Rattle.ot_layouts.specs.Lookup.{lookupCount, listHeader, listExact, lookupType, pairType, lookupHeader, lookupExact}
-use Rattle.store_rules.specs.Store.{Store, bytesOf, allAt}
+use Rattle.store_rules.specs.Store.{Store, linkAt, bytesOf, positionOf, allAt}
 use Rattle.store_rules.proofs.Sound.{Fits, sound-fits}
 use Rattle.store_reader.specs.declared.LinkRows.{LinkRows}
 use Rattle.store_reader.specs.Rows.{Inside, InOrder, ParentRows}
 use Rattle.store_reader.proofs.Bytes.{inside}
-use Rattle.store_reader.proofs.Rows.{rows-in-order, position-most, parent-rows}
+use Rattle.store_reader.proofs.Rows.{rows-in-order}
+use Rattle.store_link_rows.proofs.OwnLinks.{own-links}
 use Rattle.lookup_rules.specs.Listed.{ofPairs, names, goodLookup}
 use Rattle.lookup_rules.proofs.NewLookup.{exact-long}
 use Rattle.lookup_rules.proofs.Listed.{good-exact}
-use Rattle.lookup_rules.proofs.Rows.{OwnRows, names-rows}
+use Rattle.lookup_rules.proofs.Linked.{childrenOf, names-linked}
 use Rattle.lookup_checks.specs.Objects.{InUse}
 use Rattle.lookup_checks.specs.Rows.{RowsIn, RowsUsed, rowCount, leadsAt}
 
@@ -40,13 +42,9 @@ module _ {s : Store} {p : ℕ} {r : LinkRows} (f : Fits s) (rows : ParentRows (s
   pub rows-in : RowsIn (s .links) r
   rows-in = record { rise = rows .rise; room = omega (arith, rows .after .within, f .linksIn) }
 
-  pub own-rows : OwnRows s p (r .first) (r .after)
-  own-rows =
-      record {
-        rise = rows .rise;
-        within = rows .after .within;
-        own = λ k l. parent-rows p (rows .first) (rows .after) k l (omega (arith, position-most s f k l));
-      }
+  -- they lead to its children
+  pub rows-lead : ((k : ℕ) → positionOf s k < 4294967296) → childrenOf s p ≡ upto (leadsAt (s .links) r) (rowCount r)
+  rows-lead small = ap (map (λ l. l .child)) (own-links s p rows small) ∙ map-upto (λ l. l .child) (λ i. linkAt s (r .first + i)) (rowCount r)
 
 -- the rows of an object in use
 pub rows-used : {s : Store} {p : ℕ} {r : LinkRows} → InUse s p → ParentRows (s .links) (s .linkCount) p r → RowsUsed s r
@@ -86,7 +84,7 @@ module _ (s : Store) (p t : ℕ) {b : List ℕ} (e : b ≡ bytesOf s p) where
     of-others h = sym (and-first (ofPairs s p) (names s t p) (ap (λ (x : List ℕ). eqb (lookupType x) pairType) (sym e) ∙ sym f ∙ not-true x h))
 
     pub rows-decide : not x ≡ false → Fits s → goodLookup s p ≡ true → {r : LinkRows} → ParentRows (s .links) (s .linkCount) p r
-        → {y : Bool} → y ≡ among t (upto (leadsAt (s .links) r) (rowCount r)) → y ≡ (ofPairs s p && names s t p)
-    rows-decide h fit good {r} rows {y} g =
+        → ((k : ℕ) → positionOf s k < 4294967296) → {y : Bool} → y ≡ among t (upto (leadsAt (s .links) r) (rowCount r)) → y ≡ (ofPairs s p && names s t p)
+    rows-decide h fit good {r} rows small {y} g =
         let pairs : ofPairs s p ≡ true = ap (λ (x : List ℕ). eqb (lookupType x) pairType) (sym e) ∙ sym f ∙ not-false x h in
-        g ∙ sym (names-rows s fit p (r .first) (r .after) (own-rows fit rows) good t) ∙ sym (ap (λ (x : Bool). x && names s t p) pairs)
+        g ∙ sym (names-linked s fit p good t ∙ ap (among t) (rows-lead fit rows small)) ∙ sym (ap (λ (x : Bool). x && names s t p) pairs)

@@ -1,7 +1,7 @@
 pub mod Pinned
 pub mod Slots
 pub mod Filled
-pub mod Rows
+pub mod Linked
 pub mod Once
 pub mod Listed
 pub mod Redirection

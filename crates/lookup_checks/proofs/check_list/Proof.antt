@@ -1,14 +1,15 @@
 -- `lookup_checks::check_list` meets its contract: the list, and then its lookups, by the list's own rows. Assumes nothing.
+use Prim.Native.Nat.{ℕ, _+_, _*_, _<_}
 use mathlib.Core.Path.{sym, _∙_}
 use native.Mathlib.Omega.{arith}
 use lib.ListN.{length-take}
 use borrow.Author.Tests.{not-true, not-false}
 use borrow.Author.Needs.{needs}
-use Rattle.store_rules.specs.Store.{lent}
-use Rattle.lookup_rules.proofs.Rows.{list-rows}
+use Rattle.store_rules.specs.Store.{lent, perLink, rowPosition, positionOf}
+use Rattle.lookup_rules.proofs.Linked.{list-linked}
 use Rattle.lookup_rules.proofs.Listed.{list-unfit, lookups-decide}
 use Rattle.lookup_checks.specs.Rows.{rowCount, leadsAt}
-use Rattle.lookup_checks.proofs.Objects.{use-fits, searchable, rows-used, own-rows}
+use Rattle.lookup_checks.proofs.Objects.{use-fits, searchable, rows-used, rows-lead}
 use Rattle.lookup_checks.proofs.check_list.Statement.{statement}
 use Rattle.lookup_checks.proofs.check_list.Tie as tie
 
@@ -38,10 +39,12 @@ returns-2 c =
     let s = lent (a .«data» .now) (a .objects .now) (a .links .now) (a .t4) in
     let fit = use-fits (begun .pre) in
     let rows = found .rows-of .result in
+    let small : (k : ℕ) → positionOf s k < 4294967296
+    = λ k. omega (arith, found .before .before .before .before .shared-slice-known3 .given (perLink * k + rowPosition)) in
     let good = sym (found .before .before .list-fits .ensures) ∙ not-false _ (found .before .if1 .left) in
     c .before .before .lookups-fit .ensures
     ∙ lookups-decide s (a .list) (a .table) good (leadsAt (s .links) rows) (rowCount rows)
-    (list-rows s fit (a .list) (rows .first) (rows .after) (own-rows fit (found .rows-of .ensures)) good)
+    (list-linked s fit (a .list) good ∙ rows-lead fit (found .rows-of .ensures) small)
 
 pub check-list-spec : {M : Type 1} → statement M
 check-list-spec =

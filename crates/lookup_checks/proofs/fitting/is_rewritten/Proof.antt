@@ -1,6 +1,8 @@
 -- `lookup_checks::fitting::is_rewritten` meets its contract: its type, and then its rows. Assumes nothing.
+use Prim.Native.Nat.{_+_, _*_}
+use native.Mathlib.Omega.{arith}
 use borrow.Author.Needs.{needs}
-use Rattle.store_rules.specs.Store.{lent}
+use Rattle.store_rules.specs.Store.{lent, perLink, rowPosition}
 use Rattle.lookup_checks.proofs.Objects.{use-fits, lies, searchable, rows-in, good-long, of-others, rows-decide}
 use Rattle.lookup_checks.proofs.fitting.is_rewritten.Statement.{statement}
 use Rattle.lookup_checks.proofs.fitting.is_rewritten.Tie as tie
@@ -36,7 +38,8 @@ returns-2 c =
     let a = start .args in
     let s = lent (a .«data» .now) (a .objects .now) (a .links .now) (a .t4) in
     rows-decide s (a .lookup) (a .table) (typed .before .bytes-of .ensures (a .links .now) (a .t4)) (typed .is-of-pairs .ensures) (c .before .before .if1 .left)
-    (use-fits (start .pre .0)) (start .pre .1) (c .before .rows-of .ensures) (c .rows-lead-to .ensures)
+    (use-fits (start .pre .0)) (start .pre .1) (c .before .rows-of .ensures)
+    (λ k. omega (arith, typed .before .before .shared-slice-known3 .given (perLink * k + rowPosition))) (c .rows-lead-to .ensures)
 
 pub is-rewritten-spec : {M : Type 1} → statement M
 is-rewritten-spec =

@@ -1,10 +1,11 @@
 -- `lookup_checks::order::order_lookups` meets its contract: the list's own rows, over cleared marks. Assumes nothing.
+use Prim.Native.Nat.{ℕ, _+_, _*_, _<_}
 use mathlib.Core.Path.{sym}
 use native.Mathlib.Omega.{arith}
 use lib.ListN.{length, take, getD}
 use lib.Seq.{length-take-le}
 use borrow.Author.Needs.{needs}
-use Rattle.store_rules.specs.Store.{lent}
+use Rattle.store_rules.specs.Store.{lent, perLink, rowPosition, positionOf}
 use Rattle.lookup_checks.proofs.Objects.{searchable, rows-used}
 use Rattle.lookup_checks.proofs.Listing.{ordered, orderable}
 use Rattle.lookup_checks.proofs.order.order_lookups.Statement.{statement}
@@ -23,9 +24,11 @@ order-rows-requires c κs =
     let begun = found .before .before .before .before .before in
     let a = begun .args in
     let s = lent (a .«data» .now) (a .objects .now) (a .links .now) (a .t4) in
+    let small : (k : ℕ) → positionOf s k < 4294967296
+    = λ k. omega (arith, found .before .before .shared-slice-known3 .given (perLink * k + rowPosition)) in
     let marks = take (getD (a .t4) 1 0) (a .walk .now) in (
       rows-used (begun .pre .0) (found .rows-of .ensures),
-      orderable s (a .list) (a .table) (begun .pre .0) (begun .pre .1 .0) (found .rows-of .ensures) (length marks) (a .walk .now)
+      orderable s (a .list) (a .table) (begun .pre .0) (begun .pre .1 .0) (found .rows-of .ensures) small (length marks) (a .walk .now)
           (c .before .before .before .clear-u32 .ensures) (length-take-le _ _ (omega (arith, begun .pre .1 .1))) (begun .pre .1 .1),
     )
 
@@ -35,7 +38,9 @@ returns c =
     let begun = found .before .before .before .before .before in
     let a = begun .args in
     let s = lent (a .«data» .now) (a .objects .now) (a .links .now) (a .t4) in
-    ordered s (a .list) (a .table) (begun .pre .0) (begun .pre .1 .0) (found .rows-of .ensures) (c .before .before .order-rows .ensures)
+    let small : (k : ℕ) → positionOf s k < 4294967296
+    = λ k. omega (arith, found .before .before .shared-slice-known3 .given (perLink * k + rowPosition)) in
+    ordered s (a .list) (a .table) (begun .pre .0) (begun .pre .1 .0) (found .rows-of .ensures) small (c .before .before .order-rows .ensures)
 
 pub order-lookups-spec : {M : Type 1} → statement M
 order-lookups-spec =

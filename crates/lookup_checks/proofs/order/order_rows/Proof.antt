@@ -36,27 +36,31 @@ is-rewritten-requires c κs =
 
 put-lookup-requires : tie.Need-put-lookup-requires Inv-loop μ-loop
 put-lookup-requires c κs =
-    let call = c .before .before .before .before .before .before in
+    let picked = c .before in
+    let fresh = picked .before .before in
+    let call = fresh .before .before .before in
     let turn = call .before .before .before in
     let begun = turn .before .before .before .before .before .before .before in
     let a = begun .args in
-    placed _ _ _ _ _ (turn .before .loop .inv) (turn .loop-test .taken) (call .was-marked .ensures) (c .before .before .before .if1 .left)
-    (c .before .before .is-rewritten .ensures) (c .before .if2 .taken)
+    placed _ _ _ _ _ (turn .before .loop .inv) (turn .loop-test .taken) (call .was-marked .ensures) (fresh .if1 .left)
+    (picked .before .is-rewritten .ensures) (picked .if2 .taken)
     (sound-fits (lent (a .«data» .now) (a .objects .now) (a .links .now) (a .t4)) (begun .pre .0 .sounds) .objectsMost)
 
 loop-again-2 : tie.Need-loop-again-2 Inv-loop μ-loop
 loop-again-2 c =
-    let call = c .before .before .before .before .before .before .before .before .before in
+    let picked = c .before .before .before .before in
+    let fresh = picked .before .before in
+    let call = fresh .before .before .before in
     let turn = call .before .before .before in
-    one-chosen _ _ _ _ _ (turn .before .loop .inv) (turn .loop-test .taken) (call .was-marked .ensures)
-    (c .before .before .before .before .before .before .if1 .left) (c .before .before .before .before .before .is-rewritten .ensures) (c .before .before .before .before .if2 .taken)
-    (c .before .before .put-lookup .ensures)
+    one-chosen _ _ _ _ _ (turn .before .loop .inv) (turn .loop-test .taken) (call .was-marked .ensures) (fresh .if1 .left)
+    (picked .before .is-rewritten .ensures) (picked .if2 .taken) (c .before .before .put-lookup .ensures)
 
 loop-again-3 : tie.Need-loop-again-3 Inv-loop μ-loop
 loop-again-3 c =
-    let call = c .before .before .before .before .before in
+    let fresh = c .before .before in
+    let call = fresh .before .before .before in
     let turn = call .before .before .before in
-    one-other _ _ _ _ _ (turn .before .loop .inv) (turn .loop-test .taken) (call .was-marked .ensures) (c .before .before .if1 .left)
+    one-other _ _ _ _ _ (turn .before .loop .inv) (turn .loop-test .taken) (call .was-marked .ensures) (fresh .if1 .left)
     (c .before .is-rewritten .ensures) (c .if2 .left)
 
 returns : tie.Need-returns Inv-loop μ-loop
