@@ -6,3 +6,4 @@ pub mod Steps
 pub mod CarryAll
 pub mod EnterAt
 pub mod Planned
+pub mod WholeCall

@@ -11,7 +11,7 @@ use Rattle.store_object_rows.specs.Objects.{Written}
 use Rattle.lookup_rules.specs.Written.{newLookups, newLookupLinks}
 use Rattle.lookup_links.specs.Entering.{Entering, EnteringLent}
 use Rattle.lookup_links.specs.Redirecting.{Redirecting}
-use Rattle.lookup_split.specs.Stub.{Writing}
+use Rattle.lookup_new_objects.specs.Written.{Writing}
 use Rattle.lookup_split.specs.Lookups.{LookupsReady}
 use Rattle.lookup_split.proofs.Entered.{many-new}
 

@@ -2,4 +2,3 @@ pub mod Deciding
 pub mod Lookups
 pub mod Measuring
 pub mod Entering
-pub mod Stub

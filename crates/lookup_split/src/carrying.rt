@@ -1,8 +1,8 @@
 // New tables entered in lookups: all that can refuse it has been asked, so nothing here fails.
-use crate::stub::write_lookups;
 use call_rules::Needs;
 use lookup_links::enter_links;
 use lookup_links::redirect_links;
+use lookup_new_objects::write_lookups;
 use pair_checks::PairTable;
 use pair_split::carrying::carry_out;
 ghost use mathlib.Core.Path.{_≡_};

@@ -3,7 +3,6 @@
 pub mod carrying;
 pub mod deciding;
 pub mod measuring;
-pub mod stub;
 
 use call_room::is_short_for_both;
 use call_rules::Answer;
