@@ -38,12 +38,12 @@ module _ (b o l c list : List ℕ) (n : Needs) {short : Bool} (e : short ≡ sho
 
 -- ---- what is left of the call
 
-is-empty : (cs : List ℕ) → length cs ≡ 0 → isEmpty cs ≡ true
+pub is-empty : (cs : List ℕ) → length cs ≡ 0 → isEmpty cs ≡ true
 unfolding isEmpty
 is-empty [] h = refl
 is-empty (c ∷ cs) h = absurd (omega arith)
 
-not-empty : (cs : List ℕ) → (length cs ≡ 0 → ⊥) → isEmpty cs ≡ false
+pub not-empty : (cs : List ℕ) → (length cs ≡ 0 → ⊥) → isEmpty cs ≡ false
 unfolding isEmpty
 not-empty [] h = absurd (h refl)
 not-empty (c ∷ cs) h = refl

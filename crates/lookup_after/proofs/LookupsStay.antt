@@ -8,6 +8,7 @@ use lib.ListN.{length, getD}
 use Rattle.folds.specs.Folds.{upto}
 use Rattle.folds.proofs.Tests.{and-both, and-intro}
 use Rattle.folds.proofs.Folds.{upto-same}
+use Rattle.folds.proofs.Failing.{all-same}
 use Rattle.folds.proofs.FromTheFront.{flat-same}
 use Rattle.ot_layouts.specs.Lookup.{subtableCount, lookupHeader, lookupExact, isSubtableSlot}
 use Rattle.store_rules.specs.Store.{Store, positionOf, childOf, bytesOf, childAt, allAt}
@@ -15,7 +16,7 @@ use Rattle.store_rules.proofs.Slots.{all-stand}
 use Rattle.store_rules.proofs.RowChild.{row-child}
 use Rattle.pair_rules.specs.Written.{splitStore}
 use Rattle.lookup_rules.specs.Listed.{slotsAt, subtableSlots, goodLookup}
-use Rattle.lookup_rules.specs.Written.{entered, newSlots, newLookup, newLookups, subtableLinks, newLookupLinks}
+use Rattle.lookup_rules.specs.Written.{entered, newSlots, newLookup, newLookups, subtableLinks, newLookupLinks, countFits, countsFit}
 use Rattle.lookup_rules.proofs.Listed.{stands-at}
 use Rattle.pair_after.proofs.Ready.{Ready}
 use Rattle.pair_after.proofs.NewBytes.{other-bytes}
@@ -58,6 +59,13 @@ module _ (s : Store) (t : ℕ) (cs : List ℕ) (g : Ready s t cs) where
     same-new : (m : ℕ) → m < length ps → newSlots s′ t us (getD ps m 0) ≡ newSlots s t us (getD ps m 0)
     unfolding newSlots
     same-new m k = let (used, other) = each m k in ap (entered t us) (same-slots (getD ps m 0) used other)
+
+    -- 10 is asked of the same
+    pub same-counts : countsFit s′ t us ps ≡ countsFit s t us ps
+    unfolding countsFit
+    same-counts =
+        all-same (λ m. countFits (newSlots s′ t us (getD ps m 0))) (λ m. countFits (newSlots s t us (getD ps m 0))) (length ps)
+        (λ m k. ap countFits (same-new m k))
 
     pub same-lookups : newLookups s′ t us ps ≡ newLookups s t us ps
     unfolding newLookups

@@ -1,17 +1,19 @@
 -- 9, test by test; and where it does not apply, what holds of the lookups of the list and of those that are rewritten. Assumes nothing.
-use Prim.Native.Nat.{ℕ, _+_, _*_, _<_}
+use Prim.Native.Nat.{ℕ, _+_, _*_, _<_, _≤_}
 use mathlib.Core.Path.{_≡_, refl, sym, ap, ap₂, subst, _∙_}
 use mathlib.Core.Bool.{Bool, true, false, not, _&&_, _||_}
+use mathlib.Core.List.{List}
 use mathlib.Core.Option.{Option, some, none}
 use native.Mathlib.Omega.{arith}
-use lib.ListN.{length}
+use lib.ListN.{length, getD}
 use borrow.Author.Tests.{not-false}
 use Rattle.folds.specs.Folds.{all, upto}
 use Rattle.folds.specs.Lists.{among, sift, isEmpty}
 use Rattle.folds.proofs.Tests.{and-both, and-intro, or-none}
 use Rattle.folds.proofs.Folds.{length-upto}
-use Rattle.folds.proofs.FromTheFront.{upto-at}
-use Rattle.folds.proofs.Each.{Each, each-among, each-sift, among-each}
+use Rattle.folds.proofs.FromTheFront.{upto-at, upto-getD}
+use Rattle.folds.proofs.Moved.{sift-both}
+use Rattle.folds.proofs.Each.{Each, each-at, each-among, each-sift, among-each}
 use Rattle.ot_layouts.specs.Lookup.{lookupCount, listHeader, listExact, isListSlot, subtableCount, lookupHeader, lookupExact, isSubtableSlot}
 use Rattle.store_rules.specs.Store.{Store, bytesOf, childAt, allAt}
 use Rattle.store_rules.proofs.Sound.{Fits}
@@ -33,7 +35,7 @@ use Rattle.lookup_rules.specs.Listed.{
   badList,
 }
 use Rattle.lookup_rules.proofs.Slots.{among-sift, among-once, each-once, each-linked, among-slots, leads-slot}
-use Rattle.lookup_rules.proofs.Once.{tested, tested-each, tested-once, tested-upto, none-picked}
+use Rattle.lookup_rules.proofs.Once.{once-few, tested, tested-each, tested-once, tested-upto, none-picked}
 
 -- a link of object p stands at one of its slots
 pub stands-at : (s : Store) (p q c : ℕ) (slot : ℕ → Bool) → allAt s p slot ≡ true → childAt s p q ≡ some c → slot q ≡ true
@@ -87,6 +89,19 @@ module _ (s : Store) (l t : ℕ) where
       both : (x y : Bool) → not (not (true && x) || y) ≡ (x && not y)
       both true y = refl
       both false y = refl
+
+  -- ---- those that are rewritten are few: each is an object in use
+
+  pub rewritten-few : Fits s → length (rewritten s l t) ≤ s .objectCount
+  unfolding rewritten lookupsOf listSlots slotsAt
+  rewritten-few fit =
+      let xs = linkedIn (listSlots s l) in
+      let used = each-linked (λ p. p < s .objectCount) (λ i. childAt s l (listHeader + 2 * i)) (lookupCount (bytesOf s l))
+      (λ i c k e. child-used s l fit (listHeader + 2 * i) c e) in
+      let few : length (eachOnce xs) ≤ s .objectCount
+      = subst (λ (x : List ℕ). length (eachOnce x) ≤ s .objectCount) (upto-getD xs 0)
+      (once-few (λ m. getD xs m 0) (s .objectCount) (length xs) (λ j h. each-at (λ p. p < s .objectCount) xs used j h 0)) in
+      omega (arith, sift-both (λ p. ofPairs s p && names s t p) (eachOnce xs))
 
   -- ---- it does not apply
 

@@ -30,6 +30,11 @@ put-under d b ys xs zs e f room =
     ∙ put-over (put d 0 xs) b ys zs (omega arith) (omega arith)
     ∙ put-put d 0 xs b zs (omega arith) (omega arith)
 
+-- a new lookup for each
+pub many-new : (s : Store) (t : ℕ) (us ps : List ℕ) → length (newLookups s t us ps) ≡ length ps
+unfolding newLookups
+many-new s t us ps = length-upto (λ m. newLookup (bytesOf s (getD ps m 0)) (length (newSlots s t us (getD ps m 0)))) (length ps)
+
 module _ (d o ls c : List ℕ) (t : ℕ) (us ps : List ℕ) where
   abbrev s : Store
   s = lent d o ls c
@@ -40,10 +45,6 @@ module _ (d o ls c : List ℕ) (t : ℕ) (us ps : List ℕ) where
 
   abbrev more : List Link
   more = newLookupLinks (lent d o ls c) t us ps (getD c 1 0)
-
-  pub many-new : length (newLookups s t us ps) ≡ length ps
-  unfolding newLookups
-  many-new = length-upto (λ m. newLookup (bytesOf s (getD ps m 0)) (length (newSlots s t us (getD ps m 0)))) (length ps)
 
   module _ (room : perLink * (getD c 2 0 + length more) ≤ length ls) {ls′ : List ℕ} {rows : ℕ} (k : Copied ls (getD c 2 0) more ls′ rows) where
     -- the links that are redirected
@@ -81,6 +82,6 @@ module _ (d o ls c : List ℕ) (t : ℕ) (us ps : List ℕ) where
           objects = w .rows i;
           links = links-then e i;
           byteCount = w .ends i;
-          objectCount = n + sym many-new i;
+          objectCount = n + sym (many-new s t us ps) i;
           linkCount = many i;
         }

@@ -12,6 +12,7 @@ use Rattle.call_rules.specs.Answers.{Case, case, firstCase}
 use Rattle.call_rules.specs.Needs.{together, roomShort}
 use Rattle.call_rules.specs.Scratch.{Scratch}
 use Rattle.call_rules.specs.Outcomes.{Outcome, done, settle}
+use Rattle.call_lists.specs.Split.{Carried}
 use Rattle.pair_rules.specs.Table.{allAtSlots}
 use Rattle.pair_rules.specs.Written.{needed, splitStore, newTables}
 use Rattle.pair_checks.specs.declared.PairTable.{PairTable}
@@ -20,6 +21,7 @@ use Rattle.pair_split.specs.Arranging.{Arranging}
 use Rattle.pair_split.specs.Carrying.{Carrying}
 use Rattle.pair_split.specs.Splitting.{PlanReady}
 use Rattle.lookup_rules.specs.Listed.{rewritten, badList}
+use Rattle.lookup_rules.specs.Calls.{enterCases, enterAhead}
 use Rattle.lookup_rules.specs.Marks.{Marked}
 use Rattle.lookup_rules.specs.Written.{enteredStore, countsFit, lookupsNeed}
 
@@ -28,6 +30,10 @@ use Rattle.lookup_rules.specs.Written.{enteredStore, countsFit, lookupsNeed}
 -- the store
 abbrev pub storeEntered : Store → ℕ → List ℕ → List ℕ → Store
 storeEntered s t cs ps = enteredStore s t (newTables s t cs) ps (splitStore s t cs)
+
+-- it is carried out
+abbrev pub EnteredAt : Store → ℕ → List ℕ → List ℕ → List ℕ → Store → List ℕ → Type 0
+EnteredAt s t cs ps list s′ list′ = Carried (storeEntered s t cs ps) (newTables s t cs) list s′ list′
 
 -- what it needs
 abbrev pub allNeeded : Store → ℕ → List ℕ → List ℕ → Needs
@@ -41,6 +47,10 @@ roomCases s t cs ps list =
 -- the outcome, if none of these cases applies
 abbrev pub enteredUnless : List Case → Store → ℕ → List ℕ → List ℕ → Scratch → List ℕ → Outcome
 enteredUnless cases s t cs ps w list = settle (firstCase cases) s list w (done (storeEntered s t cs ps) (newTables s t cs) list w)
+
+-- what is left of the call over list l once 1 to 9 do not apply
+abbrev pub enteredThen : Store → ℕ → ℕ → Scratch → List ℕ → Outcome
+enteredThen s l t w list = settle (firstCase (enterCases s l t list)) s list w (enterAhead s l t w list)
 
 -- ---- what is known of the table and the lookups
 
@@ -75,12 +85,14 @@ pub record EnterReady (s : Store) (l t : ℕ) (p : Plan) (gs ks cuts walk : List
 -- the table can be cut at cs
 pub record Placing (s : Store) (t : ℕ) (p : PairTable) (gs ks cs marks ps : List ℕ) : Type 0 where
   pub arranging : Arranging s t p gs ks cs
+  pub few : length cs ≤ 65536
   pub linked : WellLinked s t
   pub found : Found s t marks ps
 
 -- the split can be carried out, and there is room for both: n is what the split needs
 pub record CarryingAll (s : Store) (t : ℕ) (p : PairTable) (n : Needs) (gs ks cs list marks ps : List ℕ) : Type 0 where
   pub carrying : Carrying s t p n gs ks cs list
+  pub few : length cs ≤ 65536
   pub linked : WellLinked s t
   pub found : Found s t marks ps
   pub fits : countsFit s t (newTables s t cs) ps ≡ true

@@ -1,2 +1,4 @@
 pub mod Deciding
+pub mod Lookups
+pub mod Measuring
 pub mod Entering

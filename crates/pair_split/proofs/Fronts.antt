@@ -50,7 +50,7 @@ entries-long : (s : Store) (t : ℕ) → length (entriesOf s t) ≡ length (glyp
 entries-long s t = sym (length-map (entriesOf s t) (λ e. e .glyph)) ∙ ap length (entries-glyphs s t)
 
 -- 6 does not apply
-scratch-long : (s : Store) (t : ℕ) (w : Scratch) → firstCase (cutCases s t w) ≡ none
+pub scratch-long : (s : Store) (t : ℕ) (w : Scratch) → firstCase (cutCases s t w) ≡ none
     → LongEnough (lengthsOf w) (s .objectCount) (length (glyphsOf s t)) (shape s t .count)
 unfolding cutCases scratchShort
 scratch-long s t w h =

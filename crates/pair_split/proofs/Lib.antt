@@ -2,5 +2,5 @@ mod Keeping
 mod Counting
 mod StoreAfter
 mod ByTable
-mod SplitAt
-mod Fronts
+pub mod SplitAt
+pub mod Fronts

@@ -5,6 +5,7 @@ ghost use Rattle.pair_rules.specs.Calls.{splitCall, planCall, pairCall};
 ghost use Rattle.pair_reading.specs.Reading.{pairOutcome};
 ghost use Rattle.mark_rules.specs.Calls.{markSplitCall, markPlanCall, markCall};
 ghost use Rattle.mark_reading.specs.Reading.{markOutcome};
+ghost use Rattle.lookup_rules.specs.Calls.{lookupCall};
 ghost use Rattle.folds.specs.Moments.{came, left};
 ghost use Rattle.store_rules.specs.Moments.{storeCame, storeLeft};
 ghost use Rattle.call_rules.specs.Moments.{scratchCame, scratchLeft};
@@ -215,5 +216,46 @@ pub extern "C" fn read_mark(
         base,
         anchors,
         found,
+    )
+}
+
+// Splits a pair table of any store, and enters the new tables in the type 2 lookups of a lookup list that name it: the answer, the numbers of the new tables
+// at the front of their list, and how many there are. Scratch is zero after it.
+#[no_mangle]
+pub extern "C" fn split_in_lookups(
+    data: &mut [u8],
+    objects: &mut [u32],
+    links: &mut [u32],
+    counts: &mut [u32; 3],
+    list: u32,
+    table: u32,
+    walk: &mut [u32],
+    glyph_set: &mut [u8],
+    glyphs: &mut [u16],
+    classes: &mut [u16],
+    cuts: &mut [u16],
+    new_tables: &mut [u32],
+    new_count: &mut u32,
+) -> u32
+    ensures { λ r. ⌜
+        outcome r (left «new_count») (storeLeft «data» objects links counts) (left «new_tables»)
+        (scratchLeft walk «glyph_set» glyphs classes cuts)
+        ≡ lookupCall (storeCame «data» objects links counts) list table (scratchCame walk «glyph_set» glyphs classes cuts) (came «new_tables»)
+        ⌝ }
+{
+    lookup_split::split_in_lookups(
+        data,
+        objects,
+        links,
+        counts,
+        list,
+        table,
+        walk,
+        glyph_set,
+        glyphs,
+        classes,
+        cuts,
+        new_tables,
+        new_count,
     )
 }
