@@ -10,7 +10,7 @@ use lib.Seq.{drop-nil, getD-drop}
 use lib.Dec.{leb, eqb}
 use borrow.Author.Tests.{leb-true, eqb-true, eq-eqb, ne-eqb, le-leb, lt-leb}
 use Rattle.folds.specs.Folds.{before}
-use Rattle.folds.proofs.Tests.{and-both, and-first, and-second, by-index}
+use Rattle.folds.proofs.Tests.{and-both, and-first, by-index}
 use Rattle.folds.proofs.Folds.{before-none, before-more}
 use Rattle.folds.proofs.Halving.{Rising}
 use Rattle.ot_layouts.specs.Numbers.{u16At}
