@@ -12,7 +12,6 @@ use Rattle.folds.proofs.Folds.{length-upto, upto-same}
 use Rattle.folds.proofs.Picked.{length-picked, sift-upto}
 use Rattle.ot_layouts.specs.Lookup.{subtableCount, lookupHeader}
 use Rattle.store_rules.specs.Store.{Store, Link, linkAt, childAt, positionOf, bytesOf}
-use Rattle.store_rules.specs.SlotLinks.{linksFrom}
 use Rattle.store_rules.proofs.Sound.{Fits}
 use Rattle.store_reader.specs.declared.LinkRows.{LinkRows}
 use Rattle.store_reader.specs.Rows.{ParentRows}
@@ -26,10 +25,6 @@ use Rattle.lookup_new_objects.specs.Counted.{listedIn, countWith, lookup
 -- ---- by the rows of a lookup
 
 module _ (s : Store) (p : ℕ) {rows : LinkRows} (own : ParentRows (s .links) (s .linkCount) p rows) (small : (k : ℕ) → positionOf s k < 4294967296) where
-  pub rows-links : rows .after - rows .first ≡ linksFrom s p
-  unfolding linksFrom
-  rows-links = sym (ap length (own-links s p own small) ∙ length-upto (λ i. linkAt s (rows .first + i)) (rows .after - rows .first))
-
   pub rows-listings : Fits s → goodLookup s p ≡ true → (t : ℕ) → listedIn (s .links) rows t ≡ listings t (subtableSlots s p)
   unfolding listedIn
   rows-listings f good t =

@@ -16,11 +16,12 @@ use Rattle.store_reader.specs.declared.LinkRows.{LinkRows}
 use Rattle.store_reader.specs.Rows.{Inside, InOrder, ParentRows}
 use Rattle.store_reader.proofs.Rows.{in-order}
 use Rattle.store_reader.proofs.Bytes.{inside}
+use Rattle.store_link_rows.proofs.OwnLinks.{own-many}
 use Rattle.lookup_rules.specs.Listed.{subtableSlots, goodLookup}
 use Rattle.lookup_rules.specs.Written.{listings}
 use Rattle.lookup_rules.proofs.NewLookup.{exact-long, new-length}
 use Rattle.lookup_new_objects.specs.Counted.{listedIn, countWith, Sized, Sizing}
-use Rattle.lookup_new_objects.proofs.Counted.{rows-links, rows-listings}
+use Rattle.lookup_new_objects.proofs.Counted.{rows-listings}
 
 -- no more rows lead to the table than there are
 listed-few : (ls : List ℕ) (rows : LinkRows) (t : ℕ) → listedIn ls rows t ≤ rows .after - rows .first
@@ -74,7 +75,7 @@ module _ {s : Store} {k p : ℕ} (z : Sizing s k p) where
           let long : length b ≡ length old = ap length same in
           record {
             subtables-is = omega arith;
-            links-is = omega (arith, rows-links s p own small);
+            links-is = omega (arith, own-many s p own small);
             bytes-is = omega (arith, new-length old (countWith s t k p) bytes-long);
             links-few = omega (arith, rows-few, entered-few);
             bytes-few = omega (arith, bytes-most same, entered-few);

@@ -1,5 +1,4 @@
 mod ByTable
-mod LinkCounts
 mod Counting
 mod StillOpen
 mod LinksAfter

@@ -5,14 +5,16 @@ use mathlib.Core.Bool.{Bool, true, false}
 use mathlib.Core.List.{List, [], _∷_, _++_, append-nil}
 use mathlib.Core.Logic.{_⊎_, inl, inr, ⊎-elim}
 use native.Mathlib.Omega.{arith}
+use lib.ListN.{length}
 use lib.Dec.{eqb}
 use Rattle.folds.specs.Folds.{upto}
 use Rattle.folds.specs.Lists.{sift}
-use Rattle.folds.proofs.Folds.{flat-none, upto-cons, upto-same}
+use Rattle.folds.proofs.Folds.{flat-none, length-upto, upto-cons, upto-same}
 use Rattle.folds.proofs.Picked.{picked-none, picked-same, sift-append, sift-upto}
 use Rattle.folds.proofs.InRange.{is-between, below-range, above-range}
 use Rattle.folds.proofs.TwoParts.{upto-split}
 use Rattle.store_rules.specs.Store.{Store, Link, linkAt, linksOf, ofParent, parentOf, positionOf}
+use Rattle.store_rules.specs.SlotLinks.{linksFrom}
 use Rattle.store_reader.specs.declared.LinkRows.{LinkRows}
 use Rattle.store_reader.specs.Rows.{ParentRows}
 use Rattle.store_reader.proofs.Rows.{parent-rows}
@@ -79,3 +81,8 @@ module _ (s : Store) (p : ℕ) {r : LinkRows} (rows : ParentRows (s .links) (s .
       (sift-upto test (from hi) (n - hi)
       ∙ picked-none (λ k. test (from hi k)) (from hi) (n - hi) (λ k l. other (hi + k) (omega arith) (inr (omega arith))))
       ∙ append-nil mine
+
+  -- it has as many links as rows
+  pub own-many : r .after - r .first ≡ linksFrom s p
+  unfolding linksFrom
+  own-many = sym (ap length own-links ∙ length-upto (λ i. linkAt s (r .first + i)) (r .after - r .first))

@@ -3,7 +3,7 @@ use Prim.Native.Nat.{_*_, _+_}
 use native.Mathlib.Omega.{arith}
 use borrow.Author.Needs.{needs}
 use Rattle.store_rules.specs.Store.{lent, perLink, rowPosition}
-use Rattle.mark_split.proofs.LinkCounts.{rows-counted}
+use Rattle.store_link_rows.proofs.OwnLinks.{own-many}
 use Rattle.mark_split.proofs.measuring.links_from.Statement.{statement}
 use Rattle.mark_split.proofs.measuring.links_from.Tie as tie
 
@@ -16,7 +16,7 @@ returns c =
     let known = rows .before in
     let a = known .before .args in (
       omega (arith, rows .rows-of .ensures .after .within),
-      λ b o. rows-counted (lent b o (a .links .now) (a .t2)) (a .object) (rows .rows-of .ensures)
+      λ b o. own-many (lent b o (a .links .now) (a .t2)) (a .object) (rows .rows-of .ensures)
           (λ k. omega (arith, known .shared-slice-known .given (perLink * k + rowPosition))),
     )
 
