@@ -3,6 +3,7 @@
 //! All start from a call that is lent exactly what it needs and that no check refuses.
 
 mod links;
+mod lookups;
 mod marks;
 mod parts;
 mod room;
@@ -11,6 +12,7 @@ mod scratch;
 mod soundness;
 mod table;
 
+pub use lookups::scramble_lookups;
 pub use parts::{CLASS_DEFS, COVERAGES};
 pub use scramble::scramble;
 
@@ -63,9 +65,28 @@ pub fn marks() -> Vec<Damage> {
     ])
 }
 
+/// All damages of calls that enter new tables in lookups, in the order in which they are looked for. A cut
+/// plan and a pair reading do not look at lookups.
+pub fn lookups() -> Vec<Damage> {
+    damages(&[
+        ([1, 1, 1], soundness::DAMAGES),
+        ([2, 2, 2], table::NUMBERS),
+        ([2, 0, 0], lookups::NUMBERS),
+        ([9, 0, 0], lookups::LISTS),
+        ([3, 3, 3], table::LENGTHS),
+        ([4, 4, 4], parts::UNREADABLE),
+        ([5, 5, 5], parts::FEW_GLYPHS),
+        ([6, 6, 0], scratch::SHORT),
+        ([7, 7, 0], links::DAMAGES),
+        ([10, 0, 0], lookups::MANY),
+        ([8, 0, 0], room::STORE),
+        ([8, 8, 0], room::LIST),
+    ])
+}
+
 /// The damages of a kind of table, which 3, 4, 5 and 7 refuse, among those of every call.
 fn in_order([lengths, unreadable, few_glyphs, links]: [&'static [Named]; 4]) -> Vec<Damage> {
-    let groups: [([u32; 3], &[Named]); 9] = [
+    damages(&[
         ([1, 1, 1], soundness::DAMAGES),
         ([2, 2, 2], table::NUMBERS),
         ([3, 3, 3], lengths),
@@ -75,8 +96,12 @@ fn in_order([lengths, unreadable, few_glyphs, links]: [&'static [Named]; 4]) -> 
         ([7, 7, 0], links),
         ([8, 0, 0], room::STORE),
         ([8, 8, 0], room::LIST),
-    ];
-    let damages = groups.into_iter().flat_map(|(answers, group)| {
+    ])
+}
+
+/// Those of some groups, with what a split, a cut plan and a reading answer to each group.
+fn damages(groups: &[([u32; 3], &'static [Named])]) -> Vec<Damage> {
+    let damages = groups.iter().flat_map(|&(answers, group)| {
         group.iter().map(move |&(name, apply)| Damage {
             name,
             answers,

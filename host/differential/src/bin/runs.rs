@@ -1,16 +1,16 @@
 //! Runs of the splitter against the model and the oracle, over as many seeds as one likes.
 //!
 //! ```text
-//! runs --seeds A..B [--subject archive|model] [--kind pairs|marks] [--format 1|2]
+//! runs --seeds A..B [--subject archive|model] [--kind pairs|marks|lookups] [--format 1|2]
 //! ```
 //!
-//! Each seed makes a store of each format of PairPos, or one with a MarkBasePos table, which is split
-//! whole and damaged. The first difference ends the run, with the seed. Otherwise it ends with how
+//! Each seed makes a store of each format of PairPos, or one with a MarkBasePos table, or one with a
+//! PairPos table in lookups, by the model alone, which is split whole and damaged. The first difference ends the run, with the seed. Otherwise it ends with how
 //! often each case occurred.
 
 use differential::{
     check::Outcome,
-    generate::{self, Case},
+    generate::{self, Case, Listed},
     runs, Archive, MarkSubject, Model, Subject, Tally,
 };
 use std::{
@@ -22,7 +22,7 @@ use std::{
 };
 
 const USAGE: &str =
-    "runs --seeds A..B [--subject archive|model] [--kind pairs|marks] [--format 1|2]";
+    "runs --seeds A..B [--subject archive|model] [--kind pairs|marks|lookups] [--format 1|2]";
 
 /// How often it says how far it is.
 const PROGRESS: Duration = Duration::from_secs(5);
@@ -40,6 +40,7 @@ enum Kind {
     Format1,
     Format2,
     Marks,
+    Lookups,
 }
 
 fn main() -> ExitCode {
@@ -78,6 +79,7 @@ impl Args {
                 ("--subject", "model") => args.is_model = true,
                 ("--kind", "pairs") => args.kinds = &[Kind::Format1, Kind::Format2],
                 ("--kind", "marks") => args.kinds = &[Kind::Marks],
+                ("--kind", "lookups") => args.kinds = &[Kind::Lookups],
                 ("--format", "1") => args.kinds = &[Kind::Format1],
                 ("--format", "2") => args.kinds = &[Kind::Format2],
                 _ => return None,
@@ -123,6 +125,7 @@ fn check(
         Kind::Format1 => check_pairs(subject, &generate::format1(seed), seed, tally),
         Kind::Format2 => check_pairs(subject, &generate::format2(seed), seed, tally),
         Kind::Marks => check_marks(subject, &generate::marks(seed), seed, tally),
+        Kind::Lookups => check_lookups(&generate::lookups(seed), seed, tally),
     }));
     checked.unwrap_or(Err("panicked".into()))
 }
@@ -135,6 +138,12 @@ fn check_pairs(subject: &impl Subject, case: &Case, seed: u64, tally: &mut Tally
 fn check_marks(subject: &impl MarkSubject, case: &Case, seed: u64, tally: &mut Tally) -> Outcome {
     runs::marks_whole(subject, case, seed, tally)?;
     runs::marks_damaged(subject, case, seed, tally)
+}
+
+/// By the model: the archive enters no tables in lookups yet.
+fn check_lookups(case: &Listed, seed: u64, tally: &mut Tally) -> Outcome {
+    runs::lookups_whole(&Model, case, seed, tally)?;
+    runs::lookups_damaged(&Model, case, seed, tally)
 }
 
 fn rate(stores: u64, start: Instant) -> u64 {
