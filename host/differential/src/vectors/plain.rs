@@ -6,6 +6,7 @@ use crate::{
         answers,
         header::Format,
         marks::{MarkBasePos, OFFSETS},
+        reach::Seen,
         table::PairPos,
     },
     Call,
@@ -46,6 +47,21 @@ pub fn store(old: &Store, table: u32) -> Store {
         store.data[head..head + bytes.len()].copy_from_slice(&bytes);
     }
     store
+}
+
+/// The same, of objects that the table leads to alone: lookups and other subtables stay.
+pub fn below(old: &Store, table: u32) -> Store {
+    let mut plain = store(old, table);
+    let Ok(Some(pairpos)) = answers::open(old, table) else {
+        return plain;
+    };
+    let mut seen = Seen::nothing(pairpos.objects);
+    seen.count(pairpos.links());
+    for object in (0..old.counts[1]).filter(|&object| object != table && !seen.has(object)) {
+        let (head, bytes) = (edit::head(old, object), edit::bytes(old, object));
+        plain.data[head..head + bytes.len()].copy_from_slice(bytes);
+    }
+    plain
 }
 
 /// The same of a MarkBasePos table: no rule looks into anchors, or at offsets.

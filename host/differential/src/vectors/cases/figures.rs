@@ -1,6 +1,6 @@
 //! Stores made by hand: document 01's figures, limits, and shapes that seldom come by chance.
 
-use super::{super::plain, Case};
+use super::{super::plain, Case, PAIRS};
 use crate::{
     by_hand::{format1_slots, format2},
     edit, lend,
@@ -8,7 +8,6 @@ use crate::{
     Call, Random,
 };
 use oracle::Store;
-use splitter::Kind;
 
 /// The table of each of these stores.
 const TABLE: usize = 0;
@@ -21,7 +20,7 @@ pub fn all() -> Vec<Case> {
         let name = name.into();
         cases.push(Case {
             name,
-            kind: Kind::Pairs,
+            functions: PAIRS,
             call,
         });
     };

@@ -1,11 +1,10 @@
 //! Calls to which two neighbouring refusals apply at once: the first one answers.
 
-use super::{super::plain, Case};
+use super::{super::plain, Case, PAIRS};
 use crate::{
     by_hand::format1_slots, edit, lend, model::numbers::bytes, Call, Model, Random, Subject,
 };
 use oracle::Store;
-use splitter::Kind;
 
 /// Two neighbours in the order of document 01's table.
 pub struct Neighbours {
@@ -165,7 +164,7 @@ impl Neighbours {
         let name = self.name.into();
         Case {
             name,
-            kind: Kind::Pairs,
+            functions: PAIRS,
             call,
         }
     }
