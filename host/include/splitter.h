@@ -49,7 +49,7 @@ enum {
      * the data in use, a link out of order, of another width, not within its parent, or to an object
      * that is not in use */
     SPLITTER_UNSOUND = 1,
-    /* the table's number is not in use */
+    /* the table's number is not in use, or the lookup list's is not */
     SPLITTER_NO_TABLE = 2,
     /* the table has under 2 bytes, or not exactly 10 + 2 for each pair set (PairPos format 1),
      * 16 + all class records (PairPos format 2), or 12 (MarkBasePos) */
@@ -66,7 +66,13 @@ enum {
      * reached from itself */
     SPLITTER_BAD_LINKS = 7,
     /* there is no room: data, objects, links or the list that takes the result */
-    SPLITTER_NO_ROOM = 8
+    SPLITTER_NO_ROOM = 8,
+    /* the lookup list or a lookup of it has not exactly its length (2 + 2 for each lookup; 6 + 2 for each
+     * subtable, and 2 more with a mark filtering set) or has a link at no slot, or no lookup of type 2
+     * names the table; asked directly behind SPLITTER_NO_TABLE */
+    SPLITTER_BAD_LIST = 9,
+    /* a lookup would have more than 65,535 subtables; asked directly before SPLITTER_NO_ROOM */
+    SPLITTER_MANY_SUBTABLES = 10
 };
 
 /* The most that a store has in use. Room beyond is not used. */

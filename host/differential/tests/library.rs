@@ -4,10 +4,14 @@ use differential::{
     check::Split,
     damage::{self, Damage},
     generate::{self, Case},
-    lend, Attachment, Call, MarkSubject, Marks, Model, Pair, Random, Scratch, Splits, Subject,
+    lend,
+    model::lookups::applied::Subtables,
+    Attachment, Call, MarkSubject, Marks, Model, Pair, Random, Scratch, Splits, Subject,
 };
 use oracle::Store;
-use splitter::{read_mark, read_pair, Kind, PairValues, Refusal, StoreRef, Values};
+use splitter::{
+    apply_lookup, read_mark, read_pair, Kind, Lookup, PairValues, Refusal, StoreRef, Values,
+};
 
 const STORES: u64 = 600;
 
@@ -246,6 +250,36 @@ fn anchors_have_their_names() {
     }
     println!("attachments found {found}");
     assert!(found > 500);
+}
+
+/// Lookups of every type, applied over pair readings.
+#[test]
+fn lookups_are_applied() {
+    let (mut found, mut others) = (0, 0);
+    for case in (0..120).map(generate::lookups) {
+        let links = case.store.links_in_use().iter();
+        let lookups = links.filter(|link| link[0] == case.list).take(4);
+        for lookup in lookups.map(|link| link[3]) {
+            let subtables = Subtables::of(&case.store, lookup).unwrap();
+            let read = Lookup::read(lent(&case.store), lookup).unwrap();
+            assert!(read.subtables().eq(subtables.numbers().iter().copied()));
+            let tables = subtables.readable().take(3);
+            let firsts = tables.filter_map(|table| table.parts.glyphs.first());
+            for (first, second) in firsts.flat_map(|&first| (0..8).map(move |it| (first, it))) {
+                let theirs = match read.lookup_type {
+                    2 => subtables.apply([first, second]),
+                    _ => Pair::default(),
+                };
+                let ours = apply_lookup(lent(&case.store), lookup, first, second).unwrap();
+                assert_eq!(ours.is_some(), theirs.found == 1);
+                assert_eq!(ours.map_or([0; 16], numbers), theirs.values);
+                found += theirs.found;
+            }
+            others += usize::from(read.lookup_type != 2);
+        }
+    }
+    println!("pairs found {found}, lookups of other types {others}");
+    assert!(found > 1_000 && others > 40);
 }
 
 fn numbers(pair: PairValues) -> [i32; 16] {

@@ -18,6 +18,7 @@
 //!
 //! | to | see |
 //! |---|---|
+//! | read what a lookup says of two glyphs, by its subtables in order | [`apply_lookup`] |
 //! | keep a store in a file, for the command `splitter` | [`store_file`] |
 //! | take tables out of a font | [`font`] |
 //!
@@ -58,6 +59,7 @@
 
 pub mod font;
 mod kind;
+mod lookup;
 mod mark;
 mod need;
 mod pair;
@@ -70,6 +72,7 @@ mod store;
 pub mod store_file;
 
 pub use kind::Kind;
+pub use lookup::{apply_lookup, Lookup};
 pub use mark::{read_mark, Attachment};
 pub use pair::{read_pair, PairValues, Values};
 pub use plan::{cut_plan, cut_plan_into, cut_plan_marks, cut_plan_marks_into};

@@ -1,5 +1,6 @@
 //! `splitter font`: the tables of a font for pairs and for marks on bases.
 
+mod lookups;
 #[cfg(test)]
 mod tests;
 
@@ -121,6 +122,7 @@ fn show(all: &[Seen], screen: &mut Screen) -> Result<(), Failure> {
     for seen in all {
         screen.lines(&seen.lines())?;
     }
+    lookups::show(all, screen)?;
     screen.line("")?;
     for refusal in Refusal::ALL {
         if all.iter().any(|seen| seen.is_refused_by(refusal)) {
@@ -150,14 +152,16 @@ impl Seen {
     /// Its line; more of them where it is damaged or has many cut places.
     fn lines(&self) -> Vec<String> {
         let Subtable { lookup, number, .. } = self.subtable;
-        let kind = match self.kind {
-            Kind::Pairs => "pairs",
-            Kind::Marks => "marks",
-        };
+        let kind = kind_name(self.kind);
         let columns = self.look.as_ref().map(|look| self.columns(look));
         let columns = columns.unwrap_or_default();
         let start = format!("  {lookup:>6}{number:>9}{kind:>7}{columns}");
         hung(&start, &self.words())
+    }
+
+    /// How many tables a split makes of it.
+    fn tables(&self) -> usize {
+        1 + self.cuts.as_ref().map_or(0, Vec::len)
     }
 
     /// How much there is of it. Of a coverage that cannot be read nobody knows the glyphs.
@@ -183,6 +187,13 @@ impl Seen {
             Err(FontError::Store(refusal)) => format!("refused: {refusal:?}"),
             Err(error) => format!("refused: {error}"),
         }
+    }
+}
+
+fn kind_name(kind: Kind) -> &'static str {
+    match kind {
+        Kind::Pairs => "pairs",
+        Kind::Marks => "marks",
     }
 }
 

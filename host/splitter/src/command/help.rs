@@ -120,7 +120,8 @@ Shows the tables for pairs and for marks on bases of a TrueType or OpenType
 font, or of the first font of a collection: the subtables of lookups of types 2
 and 4, and those of type 9 that extend these. For each: lookup, subtable, kind,
 format, bytes with all that it leads to, items (pair sets, rows or mark
-classes), covered glyphs, and cut places or why it is refused.
+classes), covered glyphs, and cut places or why it is refused. Then each lookup:
+which subtables it lists, and what a split would make of them.
 
 What is in a font fits its offsets already, so most tables have no cut places.
 But the rule counts whole parts, where an offset only has to reach the start of

@@ -126,6 +126,36 @@ fn lookups_of_both_kinds() {
     assert_eq!(found, expected);
 }
 
+/// Subtables of one lookup in order, each kind by itself.
+#[test]
+fn lookups_and_what_a_split_makes_of_them() {
+    let mut seen = look_into(&small_font()).unwrap();
+    let words = |seen: &[Seen]| -> Vec<String> {
+        let lookups = lookups::by_lookup(seen);
+        lookups.iter().map(|lookup| lookup.words()).collect()
+    };
+    let as_they_are = ["0, 1: as they are", "0: as they are", "1: as they are"];
+    assert_eq!(words(&seen), as_they_are);
+    seen[0].cuts = Ok(vec![3, 7]);
+    seen[3].cuts = Ok(vec![1]);
+    let cut = [
+        "0, 1: 4 in their place, 0 becomes 3",
+        "0: as they are",
+        "1: 2 in their place, 1 becomes 2",
+    ];
+    assert_eq!(words(&seen), cut);
+    seen[1].cuts = Ok(vec![0; 65_532]);
+    assert_eq!(
+        words(&seen)[0],
+        "0, 1: refused, 65,536 are too many",
+        "a lookup counts up to 65,535"
+    );
+    seen[1].cuts = Ok(vec![0; 65_531]);
+    assert!(words(&seen)[0].ends_with("0 becomes 3, 1 becomes 65,532"));
+    seen[1].cuts = Err(FontError::Store(Refusal::BadParts));
+    assert_eq!(words(&seen)[0], "0, 1: refused, 1 of 2");
+}
+
 #[test]
 fn the_first_font_of_a_collection() {
     let fonts = [small_font(), font(&[])];
