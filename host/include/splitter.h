@@ -20,7 +20,8 @@
  *   and each has its answer.
  *
  * What is left to the host
- *   The lookup must list the new tables directly behind the old one, in order. Tables that each fit may
+ *   The lookup must list the new tables directly behind the old one, in order: split_in_lookups sees to
+ *   that, of PairPos tables in lookups that are objects of the store too. Tables that each fit may
  *   together want extension lookups, and copies of what they share. In PairPos format 2 the largest of
  *   the coverage and the two class definitions is packed last. Nothing may lead to the old coverage,
  *   class definition 1 or arrays any more.
@@ -209,6 +210,38 @@ uint32_t read_mark(
     uint16_t base,
     uint32_t anchors[2],
     uint32_t *found);
+
+/* Splits a PairPos table, and enters the new tables in each lookup of a list that names it.
+ *
+ * list is the number of a GPOS lookup list: a count, then an offset for each lookup, linked at 2 + 2i. A
+ * lookup is a type, a flag, a count, an offset for each subtable, linked at 6 + 2i, and a mark filtering set
+ * where the flag has bit 0010 hex. A slot may be without a link. Lookups of any type may be listed.
+ *
+ * It splits as split_pairpos does. Then each lookup of type 2 of the list that names the table is written as
+ * a new object, behind those of the split and in the order of the list: with the new tables directly behind
+ * each listing of the old one, its count set, zero offsets and all else copied. Every link to the old lookup
+ * then leads to the new one. Applied to two glyphs, each lookup says what it said before, where all its
+ * subtables can be read and no other leads to the table.
+ *
+ * With no cut, with a format other than 1 and 2, and where it is refused (1 to 10), *new_count becomes 0 and
+ * store, counts and new_tables stay as they were.
+ *
+ * Of K cuts, K above 0, it needs what split_pairpos needs, and for each such lookup an object, as many links
+ * and bytes as it has, and K links and 2K bytes for each listing. */
+uint32_t split_in_lookups(
+    uint8_t *data, size_t data_len,
+    uint32_t *objects, size_t objects_len,
+    uint32_t *links, size_t links_len,
+    uint32_t counts[3],
+    uint32_t list,
+    uint32_t table,
+    uint32_t *walk, size_t walk_len,
+    uint8_t *glyph_set, size_t glyph_set_len,
+    uint16_t *glyphs, size_t glyphs_len,
+    uint16_t *classes, size_t classes_len,
+    uint16_t *cuts, size_t cuts_len,
+    uint32_t *new_tables, size_t new_tables_len,
+    uint32_t *new_count);
 
 #ifdef __cplusplus
 }

@@ -4,7 +4,8 @@
 //! The rules are written here a second time, in plain Rust and from documents 01 and 02 alone: clear
 //! before fast. Whatever splits PairPos tables is a [`Subject`], whatever splits MarkBasePos tables a
 //! [`MarkSubject`], and whatever enters new tables in lookups a [`LookupSubject`]; the [`Model`] is all
-//! three. Two subjects agree if a call leaves the same answer and the same contents, to the last number.
+//! three, and so is the [`Archive`]. Two subjects agree if a call leaves the same answer and the same
+//! contents, to the last number.
 //!
 //! | module | holds |
 //! |---|---|

@@ -1,4 +1,5 @@
-//! Damaged calls that enter new tables in lookups are refused by their numbers, and nothing else changes.
+//! Damaged calls that enter new tables in lookups are refused by their numbers, and nothing else changes: by
+//! the model, and by the archive as by the model.
 
 #[path = "common/damaged.rs"]
 mod damaged;
@@ -6,7 +7,8 @@ mod damaged;
 use damaged::Kind;
 use differential::{
     check::{applied_stay, entered, lookups_agree, Outcome, Split},
-    damage, generate, lend, Call, InLookups, LookupSubject, Model, Pair, Random, Subject, Tally,
+    damage, generate, lend, Archive, Call, InLookups, LookupSubject, Model, Pair, Random, Subject,
+    Tally,
 };
 
 const STORES: u64 = 160;
@@ -31,8 +33,9 @@ fn calls() -> Vec<(Call<u32>, Random)> {
     calls.collect()
 }
 
+/// What both answer.
 fn answers(call: &Call<u32>) -> [u32; 3] {
-    assert_eq!(lookups_agree(&Model, call), Ok(()));
+    assert_eq!(lookups_agree(&Archive, call), Ok(()));
     let (store, table) = (&call.store, call.table);
     [
         Model.split_in_lookups(&mut call.clone()),
@@ -70,7 +73,7 @@ fn another_format_is_nothing_to_split() {
 fn anything_may_be_wrong() {
     let mut tally = Tally::default();
     LOOKUPS.anything_may_be_wrong(|call, split| {
-        assert_eq!(lookups_agree(&Model, call), Ok(()));
+        assert_eq!(lookups_agree(&Archive, call), Ok(()));
         tally.answers[split.answer as usize] += 1;
         let mut random = Random::new(0);
         assert_eq!(applied_stay(split, &mut random, &mut tally), Ok(()));

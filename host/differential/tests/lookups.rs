@@ -1,4 +1,4 @@
-//! New tables entered in lookups by hand.
+//! New tables entered in lookups by hand, through the archive and the model.
 
 use differential::{
     by_hand::{format1_records, push_list, push_lookup, FILTER_SET},
@@ -8,12 +8,9 @@ use differential::{
     generate::Listed,
     lend::{self, Need},
     model::{lookups::applied::Subtables, numbers::bytes},
-    Call, InLookups, LookupSubject, Model, Pair, Random, Subject, Tally,
+    Archive, Call, InLookups, LookupSubject, Pair, Random, Subject, Tally,
 };
 use oracle::Store;
-
-/// The subject of these tests.
-const SUBJECT: Model = Model;
 
 const TABLE: u32 = 0;
 
@@ -54,21 +51,21 @@ fn call(store: &Store, list: u32) -> Call<u32> {
 /// The split, which is the model's and changes nothing that it must not.
 fn split(store: &Store, list: u32) -> Split {
     let call = call(store, list);
-    assert_eq!(lookups_agree(&SUBJECT, &call), Ok(()));
-    let split = Split::by(&InLookups(&SUBJECT), &call);
+    assert_eq!(lookups_agree(&Archive, &call), Ok(()));
+    let split = Split::by(&InLookups(&Archive), &call);
     assert_eq!(split.answer, 0);
     let mut tally = Tally::default();
-    assert_eq!(entered(&SUBJECT, &split, &mut tally), Ok(()));
-    assert_eq!(again(&InLookups(&SUBJECT), &split), Ok(()));
+    assert_eq!(entered(&Archive, &split, &mut tally), Ok(()));
+    assert_eq!(again(&InLookups(&Archive), &split), Ok(()));
     let mut random = Random::new(0);
     assert_eq!(applied_stay(&split, &mut random, &mut tally), Ok(()));
     split
 }
 
 fn answer(call: &Call<u32>) -> u32 {
-    assert_eq!(lookups_agree(&SUBJECT, call), Ok(()));
-    let split = Split::by(&InLookups(&SUBJECT), call);
-    assert_eq!(entered(&SUBJECT, &split, &mut Tally::default()), Ok(()));
+    assert_eq!(lookups_agree(&Archive, call), Ok(()));
+    let split = Split::by(&InLookups(&Archive), call);
+    assert_eq!(entered(&Archive, &split, &mut Tally::default()), Ok(()));
     split.answer
 }
 
@@ -231,7 +228,7 @@ fn what_reaches_the_table_may_say_something_else() {
     let split = split(&store, list);
     let read = |store: &Store| {
         let mut pair = Pair::default();
-        assert_eq!(SUBJECT.read_pair(store, other, [7, 8], &mut pair), 0);
+        assert_eq!(Archive.read_pair(store, other, [7, 8], &mut pair), 0);
         pair.values[4] as u32 - 1
     };
     assert_eq!(read(&store), lookup);
@@ -248,7 +245,7 @@ fn no_cut_and_no_change() {
     let list = push_list(&mut store, &[Some(lookup)]);
     let call = call(&store, list);
     assert_eq!(answer(&call), 0);
-    assert_eq!(Split::by(&InLookups(&SUBJECT), &call).after.store, store);
+    assert_eq!(Split::by(&InLookups(&Archive), &call).after.store, store);
 }
 
 /// Empty slots are counted too.
@@ -267,7 +264,7 @@ fn there_are_65_535_subtables_and_no_more() {
         let most = with_slots(65_533, filter);
         assert_eq!(answer(&most), 0);
         let mut after = most.clone();
-        SUBJECT.split_in_lookups(&mut after);
+        Archive.split_in_lookups(&mut after);
         let new = after.store.counts[1] - 1;
         assert_eq!(after.store.bytes(new)[4..6], [0xFF, 0xFF]);
         assert_eq!(answer(&with_slots(65_534, filter)), 10);

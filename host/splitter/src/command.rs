@@ -13,6 +13,7 @@ mod files;
 mod font;
 mod help;
 mod look;
+mod lookups;
 mod mark;
 mod pair;
 mod plan;

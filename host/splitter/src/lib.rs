@@ -13,6 +13,8 @@
 //! | see where it would be cut | [`cut_plan`] | [`cut_plan_marks`] |
 //! | the same, with a list of the host's own | [`cut_plan_into`] | [`cut_plan_marks_into`] |
 //! | read what a table says of two glyphs | [`read_pair`] | [`read_mark`] |
+//! | split a table, and enter the new ones in the lookups that list it | [`split_in_lookups`] | |
+//! | the same, with a list of the host's own | [`split_in_lookups_into`] | |
 //!
 //! The first four are methods of [`Kind`] too, for a host that has tables of both kinds.
 //!
@@ -23,7 +25,7 @@
 //! | take tables out of a font | [`font`] |
 //!
 //! A split leaves it to the host to list the new tables in the lookup, directly behind the old one and in
-//! order, and to pack them: tables that each fit may together want extension lookups, and copies of
+//! order, where [`split_in_lookups`] does not, and to pack them: tables that each fit may together want extension lookups, and copies of
 //! what they share. In format 2 of pairs the largest of the coverage and the two class definitions is
 //! packed last. Nothing may lead to the old coverage, class definition 1 or arrays any more.
 //!
@@ -68,6 +70,7 @@ pub mod raw;
 mod refusal;
 mod scratch;
 mod split;
+mod split_in_lookups;
 mod store;
 pub mod store_file;
 
@@ -79,4 +82,5 @@ pub use plan::{cut_plan, cut_plan_into, cut_plan_marks, cut_plan_marks_into};
 pub use refusal::Refusal;
 pub use scratch::Scratch;
 pub use split::{split, split_into, split_marks, split_marks_into};
+pub use split_in_lookups::{split_in_lookups, split_in_lookups_into};
 pub use store::{Link, Room, Store, StoreMut, StoreRef};

@@ -48,6 +48,19 @@ split_function! {
     split_markbasepos
 }
 
+split_function! {
+    /// Splits a PairPos table, and enters the new tables in each lookup of a list that names it.
+    ///
+    /// `list` is the number of a GPOS lookup list. It splits as [`split_pairpos`] does; then each lookup of
+    /// type 2 of the list that names the table becomes a new object, in which the new tables follow each
+    /// listing of the old one, and every link to the old lookup leads to the new one. With no cut nothing
+    /// changes. It refuses by 9 and 10 too.
+    ///
+    /// What it needs is what the split needs, and for each such lookup an object, its bytes and its links,
+    /// with two bytes and a link more for each new table at each listing.
+    split_in_lookups, list
+}
+
 plan_function! {
     /// Says where a PairPos table would be cut, and changes nothing of the store.
     ///

@@ -146,12 +146,20 @@ fn the_sample() {
     assert!(plain.is_ascii());
     assert_eq!(plain.matches("Every pair reads as before").count(), 2);
     assert_eq!(plain.matches("Every attachment reads as before").count(), 1);
-    assert_eq!(plain.matches("3 tables in its place").count(), 3);
-    let titles = ["Sample 1 of 3", "Sample 2 of 3", "Sample 3 of 3"];
-    for (name, title) in ["sets", "rows", "marks"].into_iter().zip(titles) {
+    assert_eq!(
+        plain
+            .matches("Every pair of the lookup reads as before")
+            .count(),
+        1
+    );
+    assert_eq!(plain.matches("3 tables in its place").count(), 4);
+    assert_eq!(plain.matches(" lists 2 subtables: 0, ").count(), 1);
+    assert_eq!(plain.matches(" lists 4 subtables: 0, ").count(), 1);
+    let titles = [1, 2, 3, 4].map(|place| format!("Sample {place} of 4"));
+    for (name, title) in ["sets", "rows", "marks", "lookups"].into_iter().zip(titles) {
         let one = done(run!("sample", name));
         assert_eq!(one.matches("Sample ").count(), 1);
-        assert!(one.starts_with(title) && plain.contains(&one[..one.len() / 2]));
+        assert!(one.starts_with(&title) && plain.contains(&one[..one.len() / 2]));
     }
 }
 
@@ -184,11 +192,12 @@ fn from_samples_to_split_files() {
     let directory = Directory::new("samples");
     let samples = directory.file("in/here");
     let out = done(run!("sample", "-o", samples));
-    assert_eq!(out.matches("Wrote ").count(), 3);
+    assert_eq!(out.matches("Wrote ").count(), 4);
     for (name, read, glyphs, rows) in [
         ("sample1.krns", "pair", ["200", "90"], 9),
         ("sample2.krns", "pair", ["460", "300"], 9),
         ("sample3.krns", "mark", ["902", "405"], 5),
+        ("sample4.krns", "pair", ["200", "90"], 9),
     ] {
         let [first, second] = glyphs;
         let sample = samples.join(name);

@@ -5,13 +5,13 @@
 //! ```
 //!
 //! Each seed makes a store of each format of PairPos, or one with a MarkBasePos table, or one with a
-//! PairPos table in lookups, by the model alone, which is split whole and damaged. The first difference ends the run, with the seed. Otherwise it ends with how
+//! PairPos table in lookups, which is split whole and damaged. The first difference ends the run, with the seed. Otherwise it ends with how
 //! often each case occurred.
 
 use differential::{
     check::Outcome,
     generate::{self, Case, Listed},
-    runs, Archive, MarkSubject, Model, Subject, Tally,
+    runs, Archive, LookupSubject, MarkSubject, Model, Subject, Tally,
 };
 use std::{
     env,
@@ -89,7 +89,12 @@ impl Args {
     }
 }
 
-fn run(subject: &(impl Subject + MarkSubject), args: &Args) -> Outcome {
+/// Splits everything that is split.
+trait Whole: Subject + MarkSubject + LookupSubject {}
+
+impl<S: Subject + MarkSubject + LookupSubject> Whole for S {}
+
+fn run(subject: &impl Whole, args: &Args) -> Outcome {
     let start = Instant::now();
     let mut said = start;
     let mut tally = Tally::default();
@@ -115,17 +120,12 @@ fn run(subject: &(impl Subject + MarkSubject), args: &Args) -> Outcome {
 }
 
 /// The store of a seed, whole and damaged. A panic is a difference too.
-fn check(
-    subject: &(impl Subject + MarkSubject),
-    kind: Kind,
-    seed: u64,
-    tally: &mut Tally,
-) -> Outcome {
+fn check(subject: &impl Whole, kind: Kind, seed: u64, tally: &mut Tally) -> Outcome {
     let checked = catch_unwind(AssertUnwindSafe(|| match kind {
         Kind::Format1 => check_pairs(subject, &generate::format1(seed), seed, tally),
         Kind::Format2 => check_pairs(subject, &generate::format2(seed), seed, tally),
         Kind::Marks => check_marks(subject, &generate::marks(seed), seed, tally),
-        Kind::Lookups => check_lookups(&generate::lookups(seed), seed, tally),
+        Kind::Lookups => check_lookups(subject, &generate::lookups(seed), seed, tally),
     }));
     checked.unwrap_or(Err("panicked".into()))
 }
@@ -140,10 +140,9 @@ fn check_marks(subject: &impl MarkSubject, case: &Case, seed: u64, tally: &mut T
     runs::marks_damaged(subject, case, seed, tally)
 }
 
-/// By the model: the archive enters no tables in lookups yet.
-fn check_lookups(case: &Listed, seed: u64, tally: &mut Tally) -> Outcome {
-    runs::lookups_whole(&Model, case, seed, tally)?;
-    runs::lookups_damaged(&Model, case, seed, tally)
+fn check_lookups(subject: &impl Whole, case: &Listed, seed: u64, tally: &mut Tally) -> Outcome {
+    runs::lookups_whole(subject, case, seed, tally)?;
+    runs::lookups_damaged(subject, case, seed, tally)
 }
 
 fn rate(stores: u64, start: Instant) -> u64 {

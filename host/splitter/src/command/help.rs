@@ -24,7 +24,7 @@ Cuts OpenType tables for pairs of glyphs (GPOS PairPos) and for marks on bases
 functions that are proved to lose nothing.
 
     splitter                               the same as splitter sample
-    splitter sample [-o DIR]               split three samples and show them
+    splitter sample [-o DIR]               split four samples and show them
     splitter plan FILE [TABLE]             show where tables would be cut
     splitter split FILE [TABLE] -o FILE    split tables
     splitter pair FILE TABLE G1 G2         read what a table says of two glyphs
@@ -41,15 +41,16 @@ that cannot be followed. Errors are one sentence on standard error.
 ";
 
 const SAMPLE: &str = "\
-splitter sample [sets | rows | marks] [-o DIR] [--ascii]
+splitter sample [sets | rows | marks | lookups] [-o DIR] [--ascii]
 
-Splits built-in stores: pairs in each format, and marks on bases. Shows the old
-table, where it is cut, what comes of it, and that every pair or attachment
-reads as before.
+Splits built-in stores: pairs in each format, marks on bases, and pairs in a
+lookup, in which the new tables are entered. Shows the old table, where it is
+cut, what comes of it, and that every pair or attachment reads as before.
 
     sets, rows, marks   one of them: pairs in format 1, pairs in format 2, marks
-    -o, --output DIR    write the stores into a directory, as sample1.krns,
-                        sample2.krns and sample3.krns, and split nothing
+    lookups             pairs in format 1, the first of two tables in a lookup
+    -o, --output DIR    write the stores into a directory, as sample1.krns to
+                        sample4.krns, and split nothing
     --ascii             draw bars in ASCII, whatever the locale
 
 Columns: items are the pair sets or rows of a table; glyphs, the first glyphs
