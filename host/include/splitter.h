@@ -73,7 +73,10 @@ enum {
      * names the table; asked directly behind SPLITTER_NO_TABLE */
     SPLITTER_BAD_LIST = 9,
     /* a lookup would have more than 65,535 subtables; asked directly before SPLITTER_NO_ROOM */
-    SPLITTER_MANY_SUBTABLES = 10
+    SPLITTER_MANY_SUBTABLES = 10,
+    /* PairPos format 1: a linked pair set has not exactly the length that its count asks for, or its second
+     * glyphs do not ascend; asked directly behind SPLITTER_BAD_LINKS, in a reading last */
+    SPLITTER_UNSORTED_SETS = 11
 };
 
 /* The most that a store has in use. Room beyond is not used. */
@@ -98,7 +101,7 @@ enum {
  *
  * The table keeps its number and the items before the first cut; each cut starts a new table.
  * new_tables takes their numbers in order, from its first entry on, and *new_count becomes how many
- * there are. With no cut, with a format other than 1 and 2, and where it is refused (1 to 8),
+ * there are. With no cut, with a format other than 1 and 2, and where it is refused,
  * *new_count becomes 0 and store, counts and new_tables stay as they were.
  *
  * Of K cuts, K above 0, format 1 needs room for 2K + 1 objects and K links, format 2 for 3K + 2
@@ -144,8 +147,8 @@ uint32_t cut_plan(
  *
  * values becomes eight numbers for the first glyph and eight for the second: X placement,
  * Y placement, X advance, Y advance, then their four devices, each as the number of the linked object
- * plus one, or 0; *found becomes 1. Where there is no pair, and where it is refused (1 to 5), all
- * sixteen numbers and *found become 0. */
+ * plus one, or 0; *found becomes 1. Where there is no pair, and where it is refused (1 to 5 and 11), all
+ * sixteen numbers and *found become 0. It looks at every linked pair set of the table. */
 uint32_t read_pair(
     const uint8_t *data, size_t data_len,
     const uint32_t *objects, size_t objects_len,
@@ -223,7 +226,7 @@ uint32_t read_mark(
  * then leads to the new one. Applied to two glyphs, each lookup says what it said before, where all its
  * subtables can be read and no other leads to the table.
  *
- * With no cut, with a format other than 1 and 2, and where it is refused (1 to 10), *new_count becomes 0 and
+ * With no cut, with a format other than 1 and 2, and where it is refused, *new_count becomes 0 and
  * store, counts and new_tables stay as they were.
  *
  * Of K cuts, K above 0, it needs what split_pairpos needs, and for each such lookup an object, as many links

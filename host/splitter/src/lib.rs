@@ -32,16 +32,16 @@
 //! ```
 //! use splitter::{cut_plan, read_pair, split, Refusal, Scratch, Store};
 //!
-//! // Format 1, glyphs 10, 20 and 30, and a pair set of 30,000 bytes for each: more than 65,535.
+//! // Format 1, glyphs 10, 20 and 30, and a pair set of 7,500 records for each: more than 65,535 bytes.
 //! let mut store = Store::new();
 //! let table = store.add_object(&[0, 1, 0, 0, 0, 4, 0, 0, 0, 3, 0, 0, 0, 0, 0, 0])?;
 //! let coverage = store.add_object(&[0, 1, 0, 3, 0, 10, 0, 20, 0, 30])?;
 //! store.add_link(table, 2, coverage)?;
 //! for slot in [10, 12, 14] {
-//!     // In front of glyph 70 each is 30 units narrower.
-//!     let mut bytes = vec![0, 1, 0, 70, 0xFF, 0xE2];
-//!     bytes.resize(30_000, 0);
-//!     let pair_set = store.add_object(&bytes)?;
+//!     // In front of any of 7,500 glyphs, which ascend, each is 30 units narrower.
+//!     let records = (0..7_500u16).flat_map(|second| [second, 0xFFE2]);
+//!     let words = [7_500].into_iter().chain(records);
+//!     let pair_set = store.add_object(&words.flat_map(u16::to_be_bytes).collect::<Vec<_>>())?;
 //!     store.add_link(table, slot, pair_set)?;
 //! }
 //!

@@ -29,6 +29,8 @@ pub enum Refusal {
     /// A link of the table, or of a mark or base array, stands at no slot, or the table can be reached from
     /// itself.
     BadLinks = 7,
+    /// A linked pair set has not exactly its length, or its second glyphs do not ascend.
+    UnsortedSets = 11,
     /// A lookup would have more subtables than it can count.
     ManySubtables = 10,
     /// There is no room for what would be written.
@@ -37,7 +39,7 @@ pub enum Refusal {
 
 impl Refusal {
     /// All of them, in the order in which they are looked for.
-    pub const ALL: [Self; 10] = [
+    pub const ALL: [Self; 11] = [
         Self::Unsound,
         Self::NoTable,
         Self::BadList,
@@ -46,6 +48,7 @@ impl Refusal {
         Self::FewGlyphs,
         Self::ShortScratch,
         Self::BadLinks,
+        Self::UnsortedSets,
         Self::ManySubtables,
         Self::NoRoom,
     ];
@@ -119,6 +122,11 @@ impl Display for Refusal {
             Self::BadLinks => {
                 "a link of the table, or of its mark or base array, stands at no slot or leads back to \
                  the table: remove it"
+            }
+            Self::UnsortedSets => {
+                "a pair set has not exactly the length that its count asks for, or its second glyphs do not \
+                 ascend: make it 2 bytes and all its records, sort these by second glyph, and have each \
+                 second glyph once"
             }
             Self::ManySubtables => {
                 "a lookup would have more than 65,535 subtables: list the table less often, or in several \

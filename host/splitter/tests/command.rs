@@ -241,7 +241,7 @@ fn a_split_in_place() {
     assert_eq!(fs::read(&file).unwrap(), before);
     let out = done(run!("split", file, "--in-place", "--check"));
     assert!(out.contains("Every pair reads as before: 3 first glyphs x 2 second glyphs"));
-    assert_eq!(read_store(&file).tables(), pairs(&[0, 5]));
+    assert_eq!(read_store(&file).tables(), pairs(&[0, 8]));
     assert_eq!(directory.names(), ["a.krns"]);
 }
 
@@ -257,7 +257,7 @@ fn tables_by_number() {
     failed(run!("split", unlisted, "-o", split), 1, "lists no table");
     let out = done(run!("split", unlisted, "0", "-o", split));
     assert!(out.contains("It is cut at pair set 2: 2 tables in its place."));
-    assert_eq!(read_store(&split).tables(), pairs(&[0, 6]));
+    assert_eq!(read_store(&split).tables(), pairs(&[0, 9]));
 
     let number = other.to_string();
     let pair = done(run!("pair", unlisted, number, "10", "70"));
@@ -329,8 +329,8 @@ fn tables_of_both_kinds() {
     assert!(
         out.contains("It is cut at mark classes 1, 2") && out.contains("It is cut at pair set 2")
     );
-    let kinds = [offset, 14, 18].map(Table::marks).into_iter();
-    let tables: Vec<Table> = kinds.chain([0, 25].map(Table::pairs)).collect();
+    let kinds = [offset, 17, 21].map(Table::marks).into_iter();
+    let tables: Vec<Table> = kinds.chain([0, 28].map(Table::pairs)).collect();
     assert_eq!(read_store(&split).tables(), tables);
 }
 
@@ -398,7 +398,9 @@ fn many_tables() {
     table.resize(105, 0);
     let coverage: Vec<u16> = [1, 100].into_iter().chain(0..100).collect();
     let mut store = store(&[&table, &coverage], &[[0, 2, 1]]);
-    let set = store.add_object(&[0; 65_535]).unwrap();
+    let pairs = (0..16_384).flat_map(|second| [second, 0]);
+    let pairs: Vec<u16> = [16_384].into_iter().chain(pairs).collect();
+    let set = store.add_object(&bytes(&pairs)).unwrap();
     for slot in 0..100 {
         store.add_link(0, 10 + 2 * slot, set).unwrap();
     }
@@ -582,7 +584,7 @@ fn a_reader_that_goes_away() {
     split.stdout(writer).stderr(Stdio::piped());
     let ran = split.spawn().unwrap().wait_with_output().unwrap();
     assert_eq!((ran.status.code(), &ran.stderr[..]), (Some(0), &b""[..]));
-    assert_eq!(read_store(&output).tables(), pairs(&[0, 5]));
+    assert_eq!(read_store(&output).tables(), pairs(&[0, 8]));
 }
 
 #[test]

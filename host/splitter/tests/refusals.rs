@@ -14,6 +14,7 @@ fn numbers_and_names() {
         (5, "FewGlyphs"),
         (6, "ShortScratch"),
         (7, "BadLinks"),
+        (11, "UnsortedSets"),
         (10, "ManySubtables"),
         (8, "NoRoom"),
     ];
@@ -23,7 +24,7 @@ fn numbers_and_names() {
         assert_eq!(Refusal::from_number(number), Some(refusal));
         assert_eq!(format!("{refusal:?}"), name);
     }
-    assert_eq!([0, 11, u32::MAX].map(Refusal::from_number), [None; 3]);
+    assert_eq!([0, 12, u32::MAX].map(Refusal::from_number), [None; 3]);
 }
 
 /// What is wrong, and then what to do.

@@ -35,16 +35,20 @@ fn format1_slots(sets: u16) -> Store {
     store
 }
 
-/// A format 1 table, object 0, with X advances, of glyphs 10, 20 and so on and a pair set of each
-/// length. Its coverage is object 1, and the sets are objects 2 and on, each of one pair: in front of
-/// glyph 70 the advance is the set's number.
+/// A format 1 table, object 0, with X advances, of glyphs 10, 20 and so on and a pair set for each length.
+/// Its coverage is object 1, and the sets are objects 2 and on, each of one pair: in front of glyph 70 the
+/// advance is the set's number. Behind them comes, for each set, what it leads to and makes up its length.
 pub fn format1(lengths: &[usize]) -> Store {
     let mut store = format1_slots(lengths.len() as u16);
-    for (set, &length) in (0..).zip(lengths) {
-        let mut bytes = bytes(&[1, 70, set + 1]);
-        bytes.resize(length, 0);
-        let object = store.add_object(&bytes).unwrap();
+    let mut sets = Vec::new();
+    for set in 0..lengths.len() as u16 {
+        let object = store.add_object(&bytes(&[1, 70, set + 1])).unwrap();
         store.add_link(0, 10 + 2 * u32::from(set), object).unwrap();
+        sets.push(object);
+    }
+    for (set, length) in sets.into_iter().zip(lengths) {
+        let rest = store.add_object(&vec![0; length - 6]).unwrap();
+        store.add_link(set, 0, rest).unwrap();
     }
     store
 }
@@ -94,14 +98,14 @@ pub fn cut_marks() -> (Store, Room) {
     (marks([40_000; 3]), room)
 }
 
-/// W7: it is cut at 2, and needs exactly this room.
+/// Three sets of 30,002 bytes: as in W7 it is cut at 2, and needs exactly this room.
 pub fn w7() -> (Store, Room) {
     let room = Room {
         data: 26,
         objects: 3,
         links: 1,
     };
-    (format1(&[30_000; 3]), room)
+    (format1_records(&[7_500; 3]), room)
 }
 
 /// W12: 170 rows of 200 columns, X advances, and glyph 100 + c in class c. It is cut at 162.
@@ -161,4 +165,21 @@ pub fn listed() -> (Store, Room) {
         links: 1 + 3 + 2,
     };
     (store, room)
+}
+
+/// Pair sets with X advances that are not sorted, or not as long as they say.
+pub const UNSORTED: [&[u16]; 5] = [
+    &[2, 70, 1, 70, 2],
+    &[2, 71, 1, 70, 2],
+    &[1, 70, 1, 0],
+    &[1, 70],
+    &[],
+];
+
+/// A format 1 table of glyph 10, object 0, with this pair set.
+pub fn one_set(set: &[u16]) -> Store {
+    let mut store = format1_slots(1);
+    let set = store.add_object(&bytes(set)).unwrap();
+    store.add_link(0, 10, set).unwrap();
+    store
 }

@@ -190,8 +190,11 @@ fn cut_places_on_disk() {
     let mut table = words(&[1, 16, 4, 0, 3, 26, 30_026, 60_026]);
     table.extend(words(&[1, 3, 5, 7, 9]));
     for _ in 0..3 {
-        let set = [&[7_499, 0], &[1; 14_998][..]].concat();
-        table.extend(words(&set));
+        let records = (0..7_499).flat_map(|second| [second, 1]);
+        table.extend(words(
+            &[7_499].into_iter().chain(records).collect::<Vec<_>>(),
+        ));
+        table.extend([0; 2]);
     }
     let store = load(table).unwrap();
     assert_eq!(store.view().counts(), [16 + 10 + 3 * 29_998, 5, 4]);
@@ -224,6 +227,8 @@ fn refusals() {
     assert_eq!(refusal(load(odd_coverage).unwrap()), Refusal::BadParts);
     let few_glyphs = words(&[1, 14, 4, 0, 2, 0, 0, 1, 1, 5]);
     assert_eq!(refusal(load(few_glyphs).unwrap()), Refusal::FewGlyphs);
+    let unsorted = words(&[1, 12, 4, 0, 1, 18, 1, 1, 5, 2, 8, 1, 7, 2]);
+    assert_eq!(refusal(load(unsorted).unwrap()), Refusal::UnsortedSets);
 }
 
 /// A list of lookups that leads to the same long lookup again and again is soon given up.
