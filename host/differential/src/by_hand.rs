@@ -19,14 +19,31 @@ pub fn format1_slots(glyphs: &[u16], slots: usize) -> Store {
     store
 }
 
-/// The same with a pair set of each length, from object 2 on.
+/// The same with a pair set for each length, from object 2 on: one record, and then an object, behind all
+/// sets, that makes up the length.
 pub fn format1(glyphs: &[u16], lengths: &[usize]) -> Store {
     let mut store = format1_slots(glyphs, lengths.len());
-    for (i, &length) in lengths.iter().enumerate() {
-        let set = store.push_object(&vec![0; length]);
+    for i in 0..lengths.len() {
+        let set = store.push_object(&bytes([1, SECOND_GLYPH, 1 + i as u16]));
         store.push_link(0, 10 + 2 * i as u32, set);
     }
+    for (i, &length) in lengths.iter().enumerate() {
+        lengthen(&mut store, 2 + i, length);
+    }
     store
+}
+
+/// The second glyph of the pairs of [`format1`].
+pub const SECOND_GLYPH: u16 = 5;
+
+/// Leads a pair set to a new object that makes up this length, where the set is shorter.
+pub fn lengthen(store: &mut Store, set: usize, length: usize) {
+    let [head, tail] = store.objects_in_use()[set];
+    let rest = length.checked_sub((tail - head) as usize);
+    if let Some(rest @ 1..) = rest {
+        let rest = store.push_object(&vec![0; rest]);
+        store.push_link(set, 0, rest);
+    }
 }
 
 /// A format 1 table with a pair set of so many records each, from object 2 on: of second glyphs 0, 1 and so

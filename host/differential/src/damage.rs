@@ -9,6 +9,7 @@ mod parts;
 mod room;
 mod scramble;
 mod scratch;
+mod sets;
 mod soundness;
 mod table;
 
@@ -45,23 +46,35 @@ impl Damage {
     }
 }
 
-/// All damages of calls for PairPos tables, in order of the numbers by which they are refused.
+/// All damages of calls for PairPos tables, in the order in which they are looked for.
 pub fn all() -> Vec<Damage> {
-    in_order([
-        table::LENGTHS,
-        parts::UNREADABLE,
-        parts::FEW_GLYPHS,
-        links::DAMAGES,
+    damages(&[
+        ([1, 1, 1], soundness::DAMAGES),
+        ([2, 2, 2], table::NUMBERS),
+        ([3, 3, 3], table::LENGTHS),
+        ([4, 4, 4], parts::UNREADABLE),
+        ([5, 5, 5], parts::FEW_GLYPHS),
+        ([6, 6, 0], scratch::SHORT),
+        ([7, 7, 0], links::DAMAGES),
+        ([7, 7, 11], links::SETS),
+        ([11, 11, 11], sets::DAMAGES),
+        ([8, 0, 0], room::STORE),
+        ([8, 8, 0], room::LIST),
     ])
 }
 
-/// All damages of calls for MarkBasePos tables, in the same order.
+/// All damages of calls for MarkBasePos tables, in the same order. These have no sets.
 pub fn marks() -> Vec<Damage> {
-    in_order([
-        marks::LENGTHS,
-        marks::UNREADABLE,
-        marks::FEW_GLYPHS,
-        marks::LINKS,
+    damages(&[
+        ([1, 1, 1], soundness::DAMAGES),
+        ([2, 2, 2], table::NUMBERS),
+        ([3, 3, 3], marks::LENGTHS),
+        ([4, 4, 4], marks::UNREADABLE),
+        ([5, 5, 5], marks::FEW_GLYPHS),
+        ([6, 6, 0], scratch::SHORT),
+        ([7, 7, 0], marks::LINKS),
+        ([8, 0, 0], room::STORE),
+        ([8, 8, 0], room::LIST),
     ])
 }
 
@@ -78,22 +91,9 @@ pub fn lookups() -> Vec<Damage> {
         ([5, 5, 5], parts::FEW_GLYPHS),
         ([6, 6, 0], scratch::SHORT),
         ([7, 7, 0], links::DAMAGES),
+        ([7, 7, 11], links::SETS),
+        ([11, 11, 11], sets::DAMAGES),
         ([10, 0, 0], lookups::MANY),
-        ([8, 0, 0], room::STORE),
-        ([8, 8, 0], room::LIST),
-    ])
-}
-
-/// The damages of a kind of table, which 3, 4, 5 and 7 refuse, among those of every call.
-fn in_order([lengths, unreadable, few_glyphs, links]: [&'static [Named]; 4]) -> Vec<Damage> {
-    damages(&[
-        ([1, 1, 1], soundness::DAMAGES),
-        ([2, 2, 2], table::NUMBERS),
-        ([3, 3, 3], lengths),
-        ([4, 4, 4], unreadable),
-        ([5, 5, 5], few_glyphs),
-        ([6, 6, 0], scratch::SHORT),
-        ([7, 7, 0], links),
         ([8, 0, 0], room::STORE),
         ([8, 8, 0], room::LIST),
     ])

@@ -140,7 +140,7 @@ fn mark_landing(case: &Case, random: &mut Random) -> Option<(u32, usize)> {
 fn landing(opening: Opening<impl Opened>, random: &mut Random) -> Option<(u32, usize)> {
     let table = opening.ok()??;
     let target = random.within(65_534..=65_537);
-    let (objects, parts) = (table.objects(), table.parts());
+    let objects = table.objects();
     let mut weighed = table.weigh();
     weighed.retain(|weighed| !table.links_of_item(weighed.item).is_empty());
     if weighed.is_empty() {
@@ -148,11 +148,15 @@ fn landing(opening: Opening<impl Opened>, random: &mut Random) -> Option<(u32, u
     }
     (0..8).find_map(|_| {
         let here = weighed[random.below(weighed.len())];
-        let [_, _, _, object] = random.pick(&table.links_of_item(here.item));
+        let [_, _, _, mut object] = random.pick(&table.links_of_item(here.item));
+        if !table.is_free(object) {
+            let below = objects.links_of(object);
+            object = below.get(random.below(below.len().max(1)))?[3];
+        }
         let len = (objects.bytes(object).len() + target).checked_sub(here.total)?;
         let last = objects.links_of(object).last();
         let least = last.map_or(0, |link| link[1] as usize + 2);
-        let is_part = parts.contains(&object);
-        (!is_part && (least..70_000).contains(&len)).then_some((object, len))
+        let is_free = table.is_free(object);
+        (is_free && (least..70_000).contains(&len)).then_some((object, len))
     })
 }

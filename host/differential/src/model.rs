@@ -43,7 +43,7 @@ impl Subject for Model {
     }
 
     fn read_pair(&self, store: &Store, table: u32, glyphs: [u16; 2], pair: &mut Pair) -> u32 {
-        let reading = answers::open(store, table);
+        let reading = answers::open_to_read(store, table);
         settle_reading(pair, reading, |pairpos| pairs::read(&pairpos, glyphs))
     }
 }

@@ -4,7 +4,7 @@ use crate::model::cuts::Weighed;
 use std::fmt::{self, Display, Formatter};
 
 /// How many answer numbers there are.
-pub const ANSWERS: usize = 11;
+pub const ANSWERS: usize = 12;
 
 /// Counts of splits and of what became of them.
 #[derive(Clone, Debug, Default, PartialEq, Eq)]

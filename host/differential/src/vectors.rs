@@ -79,14 +79,14 @@ pub struct Sample {
 /// Makes the sample, or says which case is not as the oracle has it.
 pub fn sample() -> Result<Sample, String> {
     let mut sample = Sample::of(&cases::all())?;
-    sample.output = output(&sample.kinds, 8, "marks", sample.marks);
+    sample.output = output(&sample.kinds, "marks", sample.marks);
     Ok(sample)
 }
 
 /// The same of calls that enter new tables in lookups.
 pub fn lookup_sample() -> Result<Sample, String> {
     let mut sample = Sample::of(&cases::in_lookups())?;
-    sample.output = output(&sample.kinds, 10, "lookups", sample.in_lookups);
+    sample.output = output(&sample.kinds, "lookups", sample.in_lookups);
     Ok(sample)
 }
 
@@ -132,12 +132,11 @@ impl Sample {
     }
 }
 
-/// What the program writes of so many cases of each kind, where a split refuses by so many numbers, and so many
-/// cases are of something.
-fn output(kinds: &[usize; ANSWERS + 1], refusals: usize, what: &str, count: usize) -> String {
+/// What the program writes of so many cases of each kind, of which so many are of something.
+fn output(kinds: &[usize; ANSWERS + 1], what: &str, count: usize) -> String {
     let [cut, refused @ .., uncut] = kinds;
     let mut lines = vec![format!("cut: {cut}"), format!("nothing to cut: {uncut}")];
-    let refused = refused[..refusals].iter().enumerate();
+    let refused = refused.iter().enumerate();
     lines.extend(refused.map(|(i, count)| format!("refused by {}: {count}", i + 1)));
     lines.push(format!("cases: {}", kinds.iter().sum::<usize>()));
     lines.push(format!("cases of {what}: {count}"));

@@ -17,7 +17,7 @@ const STORES: u64 = 80;
 const PAIRS: Kind = Kind {
     calls,
     damages: damage::all,
-    order: &[1, 2, 3, 4, 5, 6, 7, 8],
+    order: &[1, 2, 3, 4, 5, 6, 7, 11, 8],
     scramble: damage::scramble,
     answers,
     split: |call| Split::by(&Model, call),
@@ -90,5 +90,6 @@ fn anything_may_be_wrong() {
         assert_eq!(refused_or_as_the_oracle(split, &mut tally), Ok(()));
     });
     println!("{tally}");
-    assert!(tally.answers[..9].iter().all(|&count| count > 0));
+    let [answers @ .., _, _, unsorted] = tally.answers;
+    assert!(unsorted > 0 && answers.iter().all(|&count| count > 0));
 }

@@ -34,6 +34,8 @@ pub enum Refusal {
     ShortScratch = 6,
     /// A link of the table, or of an array, stands at no slot, or the table can be reached from itself.
     BadLinks = 7,
+    /// A linked pair set is not as long as it says, or its second glyphs do not ascend.
+    UnsortedSets = 11,
     /// A lookup would have more subtables than it can count.
     ManySubtables = 10,
     /// There is no room for what a split adds.
@@ -60,6 +62,14 @@ pub fn open(store: &Store, table: u32) -> Opening<PairPos<'_>> {
         header,
         parts,
     }))
+}
+
+/// A PairPos table for the pair reading, which is of sorted sets only.
+pub fn open_to_read(store: &Store, table: u32) -> Opening<PairPos<'_>> {
+    match open(store, table)? {
+        Some(pairpos) if !pairpos.sets_are_sorted() => Err(Refusal::UnsortedSets),
+        opened => Ok(opened),
+    }
 }
 
 /// A MarkBasePos table.
@@ -109,7 +119,7 @@ fn start(store: &Store, table: u32) -> Result<(Objects<'_>, &[u8], u16), Refusal
     Ok((objects, bytes, format))
 }
 
-/// A table and its cut places by checks 1 to 7.
+/// A table and its cut places by checks 1 to 7 and 11.
 fn cut<T: Opened>(opening: Opening<T>, scratch: &Scratch) -> Opening<(T, Vec<usize>)> {
     let Some(table) = opening? else {
         return Ok(None);
@@ -119,6 +129,9 @@ fn cut<T: Opened>(opening: Opening<T>, scratch: &Scratch) -> Opening<(T, Vec<usi
     }
     if !table.links_are_at_slots() || reaches_itself(table.objects(), table.number()) {
         return Err(Refusal::BadLinks);
+    }
+    if !table.sets_are_sorted() {
+        return Err(Refusal::UnsortedSets);
     }
     let cuts = table.cut_places();
     Ok(Some((table, cuts)))

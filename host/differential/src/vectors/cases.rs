@@ -48,7 +48,7 @@ const PAIRS: Functions = Functions::Of(Kind::Pairs);
 const MARKS: Functions = Functions::Of(Kind::Marks);
 
 /// How many generated stores of pairs in each format are taken, of marks, and of pairs in lookups.
-const GENERATED: usize = 18;
+const GENERATED: usize = 14;
 const GENERATED_MARKS: usize = 12;
 const GENERATED_IN_LOOKUPS: usize = 3;
 

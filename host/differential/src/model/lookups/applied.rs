@@ -32,7 +32,7 @@ impl<'a> Subtables<'a> {
         let mut openings = HashMap::new();
         for &table in &tables {
             let opening = openings.entry(table);
-            opening.or_insert_with(|| answers::open(store, table));
+            opening.or_insert_with(|| answers::open_to_read(store, table));
         }
         Some(Self {
             objects,
