@@ -1,5 +1,6 @@
 //! `splitter font`: the tables of a font for pairs and for marks on bases.
 
+mod lookups;
 #[cfg(test)]
 mod tests;
 
@@ -37,7 +38,11 @@ pub fn run(request: &Font, screen: &mut Screen) -> Result<Outcome, Failure> {
     let refused = seen.iter().filter(|seen| seen.cuts.is_err()).count();
     let outcome = Outcome::of_plan(refused > 0, seen.iter().any(Seen::is_cut));
     let tables: Vec<Json> = seen.iter().map(Seen::told).collect();
-    let values = vec![("lookups", font.lookups.into()), ("tables", tables.into())];
+    let values = vec![
+        ("lookups", font.lookups.into()),
+        ("tables", tables.into()),
+        ("listings", lookups::told(&seen)),
+    ];
     screen.json(&told::answer(Name::Font, outcome, &request.file, values))?;
 
     let name = shown(&request.file);
@@ -160,6 +165,7 @@ fn show(all: &[Seen], screen: &mut Screen) -> Result<(), Failure> {
     for seen in all {
         screen.lines(&seen.lines())?;
     }
+    lookups::show(all, screen)?;
     screen.line("")?;
     for refusal in Refusal::ALL {
         if all.iter().any(|seen| seen.is_refused_by(refusal)) {
@@ -210,6 +216,11 @@ impl Seen {
             }
         }
         lines
+    }
+
+    /// How many tables a split makes of it.
+    fn tables(&self) -> usize {
+        1 + self.cuts.as_ref().map_or(0, Vec::len)
     }
 
     /// How much there is of it. Of a coverage that cannot be read nobody knows the glyphs.
