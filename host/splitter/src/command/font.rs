@@ -16,7 +16,7 @@ use super::{
     told,
 };
 use splitter::{
-    font::{FontError, FontTable, FontTables, Listed, TABLE},
+    font::{FontError, FontTable, FontTables, Listed, OfKind, TABLE},
     store_file::{StoreFile, Table},
     Explanation, Kind, Refusal, Scratch,
 };
@@ -67,13 +67,13 @@ pub fn run(request: &Font, screen: &mut Screen) -> Result<Outcome, Failure> {
 }
 
 fn in_words(font: &FontTables) -> String {
-    let of_kind = |(kind, lookups, subtables): &(Kind, usize, usize)| {
-        let purpose = match kind {
+    let of_kind = |of_kind: &OfKind| {
+        let purpose = match of_kind.kind {
             Kind::Pairs => "pairs",
             Kind::Marks => "marks on bases",
         };
-        let subtables = counted(*subtables, "subtable");
-        format!("{lookups} for {purpose}, with {subtables}")
+        let subtables = counted(of_kind.subtables, "subtable");
+        format!("{} for {purpose}, with {subtables}", of_kind.lookups)
     };
     let [pairs, marks] = &font.of_kind;
     let all = counted(font.lookups, "lookup");
