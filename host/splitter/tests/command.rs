@@ -469,7 +469,12 @@ fn a_font() {
         assert!(out.contains(found), "{out}");
         assert_eq!(out.matches("  none\n").count(), 4);
         assert!(out.contains("2        0  marks       1         82       2       2  none"));
-        assert!(out.contains("No table would be cut."));
+        let words: Vec<&str> = out.split_whitespace().collect();
+        assert!(words.join(" ").ends_with(
+            "No table would be cut. What is in a font fits its offsets already, so most tables \
+             have no cut places. But the rule counts whole parts, where an offset only has to \
+             reach the start of one: a table close to the limit can have them."
+        ));
         fits_the_terminal(&out[out.find('\n').unwrap()..]);
     }
     fs::write(&path, made::font(&[])).unwrap();

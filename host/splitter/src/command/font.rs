@@ -170,9 +170,8 @@ fn show(all: &[Seen], screen: &mut Screen) -> Result<(), Failure> {
 }
 
 fn summary(all: &[Seen]) -> String {
-    let why =
-        "What is in a font fits its offsets already, so most tables have no cut places. But \\
-               the rule counts whole parts, where an offset only has to reach the start of one: a \\
+    let why = "What is in a font fits its offsets already, so most tables have no cut places. But \
+               the rule counts whole parts, where an offset only has to reach the start of one: a \
                table close to the limit can have them.";
     match all.iter().filter(|seen| seen.is_cut()).count() {
         0 => format!("No table would be cut. {why}"),
