@@ -315,6 +315,24 @@ fn refused_tables() {
     assert_eq!(directory.names(), ["a.krns"]);
 }
 
+/// A store that can be no larger: a plan tells the cuts, and a split what there is no room for.
+#[test]
+fn a_store_at_its_maxima() {
+    let directory = Directory::new("maxima");
+    let mut store = three_sets();
+    while store.view().counts()[1] < 65_535 {
+        store.add_object(&[]).unwrap();
+    }
+    let file = directory.store("a.krns", store, &[0]);
+    would_cut(run!("plan", file));
+    let fault =
+        "the room for new objects is 1; it must be at least 3, for what the split adds, and the \
+                 store can be no larger";
+    let output = directory.file("b.krns");
+    refused(run!("split", file, "-o", output), Refusal::NoRoom, fault);
+    assert_eq!(directory.names(), ["a.krns"]);
+}
+
 /// What is wrong with a store that is not sound is said, and it can be looked at.
 #[test]
 fn stores_that_are_not_sound() {
