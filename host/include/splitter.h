@@ -2,8 +2,9 @@
  *
  * A table that is too large is cut into several that fit: for which the rule counts at most 65,535
  * bytes, of the table, all that its items lead to, each object once, and its coverage and class
- * definitions, of which in PairPos format 2 the largest is left out. It is a count and no layout, and
- * an item that is too large by itself stays so.
+ * definitions, of which in PairPos format 2 the largest is left out. It is a count and no layout. An item
+ * that is too large by itself stays so, and what the item at a cut shares with those before it is not
+ * counted for the new table.
  *
  * The archive to link is libsplitter.a of a release folder; or `rt staticlib splitter`, at the top of
  * the repository, proves the functions and writes it to target/staticlib. It needs nothing else,

@@ -120,7 +120,8 @@ const BEFORE_FORMAT: &[Check] = &[
     (Refusal::BadTable, table::without_format),
 ];
 
-/// The checks of a table whose format is split, in order.
+/// The checks of a table whose format is split, in order. A later answer is a line in its place, and what
+/// finds its fault.
 const OF_FORMAT: &[Check] = &[
     (Refusal::BadTable, table::length),
     (Refusal::BadParts, parts::fault),

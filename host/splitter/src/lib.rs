@@ -2,8 +2,9 @@
 //!
 //! A table that is too large is cut into several that fit: for which the rule counts at most 65,535
 //! bytes, of the table, all that its items lead to, each object once, and its coverage and class
-//! definitions, of which in format 2 of pairs the largest is left out. It is a count and no layout, and
-//! an item that is too large by itself stays so.
+//! definitions, of which in format 2 of pairs the largest is left out. It is a count and no layout. An item
+//! that is too large by itself stays so, and what the item at a cut shares with those before it is not
+//! counted for the new table.
 //!
 //! A font's objects and the links between them stand in a [`Store`], or in buffers of the host's own
 //! as a [`StoreRef`] or [`StoreMut`]. Every call answers any input; where it cannot do what it is

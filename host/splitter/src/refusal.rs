@@ -7,7 +7,7 @@ use std::{
 
 /// Why a call was refused. It changed nothing.
 ///
-/// Where several apply, the first is given.
+/// Where several apply, the first is given. [`explain`](crate::explain()) says what is at fault.
 #[derive(Clone, Copy, Debug, PartialEq, Eq, Hash)]
 #[non_exhaustive]
 pub enum Refusal {

@@ -17,7 +17,7 @@ use super::{
     told,
 };
 use splitter::{
-    font::{FontError, FontTable, FontTables, Listed, TABLE},
+    font::{FontError, FontTable, FontTables, Listed, OfKind, TABLE},
     store_file::{StoreFile, Table},
     Explanation, Kind, Refusal, Scratch,
 };
@@ -72,13 +72,13 @@ pub fn run(request: &Font, screen: &mut Screen) -> Result<Outcome, Failure> {
 }
 
 fn in_words(font: &FontTables) -> String {
-    let of_kind = |(kind, lookups, subtables): &(Kind, usize, usize)| {
-        let purpose = match kind {
+    let of_kind = |of_kind: &OfKind| {
+        let purpose = match of_kind.kind {
             Kind::Pairs => "pairs",
             Kind::Marks => "marks on bases",
         };
-        let subtables = counted(*subtables, "subtable");
-        format!("{lookups} for {purpose}, with {subtables}")
+        let subtables = counted(of_kind.subtables, "subtable");
+        format!("{} for {purpose}, with {subtables}", of_kind.lookups)
     };
     let [pairs, marks] = &font.of_kind;
     let all = counted(font.lookups, "lookup");
@@ -176,9 +176,8 @@ fn show(all: &[Seen], screen: &mut Screen) -> Result<(), Failure> {
 }
 
 fn summary(all: &[Seen]) -> String {
-    let why =
-        "What is in a font fits its offsets already, so most tables have no cut places. But \\
-               the rule counts whole parts, where an offset only has to reach the start of one: a \\
+    let why = "What is in a font fits its offsets already, so most tables have no cut places. But \
+               the rule counts whole parts, where an offset only has to reach the start of one: a \
                table close to the limit can have them.";
     match all.iter().filter(|seen| seen.is_cut()).count() {
         0 => format!("No table would be cut. {why}"),

@@ -264,7 +264,12 @@ fn a_table_that_is_listed_often() {
     often.extend(words(&[1, 0, 4, 0, 0]));
     let file = font(&[(b"GPOS", gpos(&[often]))]);
     let tables = FontTables::read(&file).unwrap();
-    assert_eq!(tables.of_kind[0], (Kind::Pairs, 1, 1_000));
+    let of_kind = OfKind {
+        kind: Kind::Pairs,
+        lookups: 1,
+        subtables: 1_000,
+    };
+    assert_eq!(tables.of_kind[0], of_kind);
     let seen = look_into(&file).unwrap();
     assert_eq!(seen.len(), 1);
     let lines = seen[0].lines();
