@@ -9,6 +9,7 @@ mod lent;
 mod links;
 mod parts;
 mod room;
+mod sets;
 mod soundness;
 mod table;
 
@@ -129,6 +130,7 @@ const OF_FORMAT: &[Check] = &[
     (Refusal::ShortScratch, lent::short_scratch),
     (Refusal::BadLinks, links::at_no_slot),
     (Refusal::BadLinks, links::way_back),
+    (Refusal::UnsortedSets, sets::unsorted),
     (Refusal::NoRoom, room::short),
 ];
 
