@@ -2,8 +2,9 @@
  *
  * A table that is too large is cut into several that fit: for which the rule counts at most 65,535
  * bytes, of the table, all that its items lead to, each object once, and its coverage and class
- * definitions, of which in PairPos format 2 the largest is left out. It is a count and no layout, and
- * an item that is too large by itself stays so.
+ * definitions, of which in PairPos format 2 the largest is left out. It is a count and no layout. An item
+ * that is too large by itself stays so, and what the item at a cut shares with those before it is not
+ * counted for the new table.
  *
  * The archive to link is libsplitter.a of a release folder; or `rt staticlib splitter`, at the top of
  * the repository, proves the functions and writes it to target/staticlib. It needs nothing else,
@@ -25,7 +26,8 @@
  *   and each has its answer.
  *
  * What is left to the host
- *   The lookup must list the new tables directly behind the old one, in order. In PairPos format 2 the
+ *   The lookup must list the new tables directly behind the old one, in order: split_in_lookups sees to
+ *   that, of PairPos tables in lookups that are objects of the store too. In PairPos format 2 the
  *   largest of the coverage and the two class definitions is packed last: in order of object numbers a
  *   table can overflow (400 rows of 101 records with a class definition 2 of 3,006 bytes have a
  *   greatest offset of 67,732 by number, and of 65,482 in link order). Tables that each fit may together
@@ -61,7 +63,7 @@ enum {
      * the data in use, a link out of order, of another width, not within its parent, or to an object
      * that is not in use */
     SPLITTER_UNSOUND = 1,
-    /* the table's number is not in use */
+    /* the table's number is not in use, or the lookup list's is not */
     SPLITTER_NO_TABLE = 2,
     /* the table has under 2 bytes, or not exactly 10 + 2 for each pair set (PairPos format 1),
      * 16 + all class records (PairPos format 2), or 12 (MarkBasePos) */
@@ -78,7 +80,16 @@ enum {
      * reached from itself */
     SPLITTER_BAD_LINKS = 7,
     /* there is no room: data, objects, links or the list that takes the result */
-    SPLITTER_NO_ROOM = 8
+    SPLITTER_NO_ROOM = 8,
+    /* the lookup list or a lookup of it has not exactly its length (2 + 2 for each lookup; 6 + 2 for each
+     * subtable, and 2 more with a mark filtering set) or has a link at no slot, or no lookup of type 2
+     * names the table; asked directly behind SPLITTER_NO_TABLE */
+    SPLITTER_BAD_LIST = 9,
+    /* a lookup would have more than 65,535 subtables; asked directly before SPLITTER_NO_ROOM */
+    SPLITTER_MANY_SUBTABLES = 10,
+    /* PairPos format 1: a linked pair set has not exactly the length that its count asks for, or its second
+     * glyphs do not ascend; asked directly behind SPLITTER_BAD_LINKS, in a reading last */
+    SPLITTER_UNSORTED_SETS = 11
 };
 
 /* The most that a store has in use. Room beyond is not used. */
@@ -103,7 +114,7 @@ enum {
  *
  * The table keeps its number and the items before the first cut; each cut starts a new table.
  * new_tables takes their numbers in order, from its first entry on, and *new_count becomes how many
- * there are. With no cut, with a format other than 1 and 2, and where it is refused (1 to 8),
+ * there are. With no cut, with a format other than 1 and 2, and where it is refused,
  * *new_count becomes 0 and store, counts and new_tables stay as they were.
  *
  * Of K cuts, K above 0, format 1 needs room for 2K + 1 objects and K links, format 2 for 3K + 2
@@ -149,8 +160,8 @@ uint32_t cut_plan(
  *
  * values becomes eight numbers for the first glyph and eight for the second: X placement,
  * Y placement, X advance, Y advance, then their four devices, each as the number of the linked object
- * plus one, or 0; *found becomes 1. Where there is no pair, and where it is refused (1 to 5), all
- * sixteen numbers and *found become 0. */
+ * plus one, or 0; *found becomes 1. Where there is no pair, and where it is refused (1 to 5 and 11), all
+ * sixteen numbers and *found become 0. It looks at every linked pair set of the table. */
 uint32_t read_pair(
     const uint8_t *data, size_t data_len,
     const uint32_t *objects, size_t objects_len,
@@ -215,6 +226,38 @@ uint32_t read_mark(
     uint16_t base,
     uint32_t anchors[2],
     uint32_t *found);
+
+/* Splits a PairPos table, and enters the new tables in each lookup of a list that names it.
+ *
+ * list is the number of a GPOS lookup list: a count, then an offset for each lookup, linked at 2 + 2i. A
+ * lookup is a type, a flag, a count, an offset for each subtable, linked at 6 + 2i, and a mark filtering set
+ * where the flag has bit 0010 hex. A slot may be without a link. Lookups of any type may be listed.
+ *
+ * It splits as split_pairpos does. Then each lookup of type 2 of the list that names the table is written as
+ * a new object, behind those of the split and in the order of the list: with the new tables directly behind
+ * each listing of the old one, its count set, zero offsets and all else copied. Every link to the old lookup
+ * then leads to the new one. Applied to two glyphs, each lookup says what it said before, where all its
+ * subtables can be read and no other leads to the table.
+ *
+ * With no cut, with a format other than 1 and 2, and where it is refused, *new_count becomes 0 and
+ * store, counts and new_tables stay as they were.
+ *
+ * Of K cuts, K above 0, it needs what split_pairpos needs, and for each such lookup an object, as many links
+ * and bytes as it has, and K links and 2K bytes for each listing. */
+uint32_t split_in_lookups(
+    uint8_t *data, size_t data_len,
+    uint32_t *objects, size_t objects_len,
+    uint32_t *links, size_t links_len,
+    uint32_t counts[3],
+    uint32_t list,
+    uint32_t table,
+    uint32_t *walk, size_t walk_len,
+    uint8_t *glyph_set, size_t glyph_set_len,
+    uint16_t *glyphs, size_t glyphs_len,
+    uint16_t *classes, size_t classes_len,
+    uint16_t *cuts, size_t cuts_len,
+    uint32_t *new_tables, size_t new_tables_len,
+    uint32_t *new_count);
 
 #ifdef __cplusplus
 }

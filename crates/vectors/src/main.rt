@@ -36,11 +36,11 @@ fn replay(text: &[u8]) {
         return;
     }
     let count = read_number(text, length.at);
-    let mut tally = [0u64; 11];
+    let mut tally = [0u64; 14];
     let differing = replay_cases(text, count.at, count.value, &mut tally);
     print_kinds(&tally);
     print_line(b"cases", count.value as u64);
-    print_line(b"cases of marks", tally[10]);
+    print_line(b"cases of marks", tally[13]);
     print_line(b"not as stored", differing as u64);
 }
 
@@ -50,7 +50,7 @@ fn is_whole(text: &[u8], length: u32) -> bool {
 }
 
 // Replays case after case; answers how many are not as stored, or not there.
-fn replay_cases(text: &[u8], from: usize, count: u32, tally: &mut [u64; 11]) -> u32 {
+fn replay_cases(text: &[u8], from: usize, count: u32, tally: &mut [u64; 14]) -> u32 {
     let mut at = from;
     let mut differing: u32 = 0;
     let mut k: u32 = 0;

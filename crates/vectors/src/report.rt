@@ -60,16 +60,16 @@ pub fn same(case: u64, call: &[u8], what: &[u8], agrees: bool) -> bool {
     false
 }
 
-// Adds a case to its kind: 0 where the table was cut, 1 to 8 where the split was refused, 9 where there was nothing to cut; and one of marks to 10.
-pub fn add_case(tally: &mut [u64; 11], answer: u32, count: u32, marks: bool) {
+// Adds a case to its kind: 0 where the table was cut, the answer where the split was refused, 12 where there was nothing to cut; and one of marks to 13.
+pub fn add_case(tally: &mut [u64; 14], answer: u32, count: u32, marks: bool) {
     add_one(tally, kind_of(answer, count));
     if marks {
-        add_one(tally, 10);
+        add_one(tally, 13);
     }
 }
 
-fn add_one(tally: &mut [u64; 11], kind: usize)
-    requires { ⌜ kind < 11 ⌝ }
+fn add_one(tally: &mut [u64; 14], kind: usize)
+    requires { ⌜ kind < 14 ⌝ }
 {
     if tally[kind] < u64::MAX {
         tally[kind] += 1;
@@ -77,26 +77,26 @@ fn add_one(tally: &mut [u64; 11], kind: usize)
 }
 
 fn kind_of(answer: u32, count: u32) -> usize
-    ensures { λ r. ⌜ r < 10 ⌝ }
+    ensures { λ r. ⌜ r < 13 ⌝ }
 {
     if count > 0 {
         return 0;
     }
     if answer == 0 {
-        return 9;
+        return 12;
     }
-    if answer > 8 {
-        return 8;
+    if answer > 11 {
+        return 11;
     }
     answer as usize
 }
 
 // Says how many cases of each kind there are.
-pub fn print_kinds(tally: &[u64; 11]) {
+pub fn print_kinds(tally: &[u64; 14]) {
     print_line(b"cut", tally[0]);
-    print_line(b"nothing to cut", tally[9]);
+    print_line(b"nothing to cut", tally[12]);
     let mut k: usize = 1;
-    while k < 9 {
+    while k < 12 {
         io::write_all(STDOUT_FILENO, b"refused by ");
         io::print_decimal(STDOUT_FILENO, k as u64);
         print_line(b"", tally[k]);

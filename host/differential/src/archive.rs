@@ -1,5 +1,7 @@
 //! The exported functions, which are proved, as a subject.
 
+mod lookups;
+
 use crate::{Attachment, Call, MarkSubject, Pair, Subject};
 use oracle::Store;
 use splitter::raw;

@@ -3,15 +3,18 @@
 mod agree;
 mod attachments;
 mod frame;
+mod lookups;
 mod marks;
 mod oracle;
 mod pairs;
 
 pub use agree::{
-    all_agree, attachment_agrees, marks_agree, pair_agrees, plan_agrees, split_agrees,
+    all_agree, attachment_agrees, lookups_agree, marks_agree, pair_agrees, plan_agrees,
+    split_agrees,
 };
 pub use attachments::{attachments_agree, attachments_stay};
 pub use frame::{again, frame};
+pub use lookups::{applied_agree, applied_stay, entered};
 pub use marks::{another_format, marks_as_the_oracle, refused_or_marks_as_the_oracle};
 pub use oracle::{as_the_oracle, refused_or_as_the_oracle};
 pub use pairs::{pairs_agree, pairs_stay};

@@ -3,14 +3,17 @@
 //! All start from a call that is lent exactly what it needs and that no check refuses.
 
 mod links;
+mod lookups;
 mod marks;
 mod parts;
 mod room;
 mod scramble;
 mod scratch;
+mod sets;
 mod soundness;
 mod table;
 
+pub use lookups::scramble_lookups;
 pub use parts::{CLASS_DEFS, COVERAGES};
 pub use scramble::scramble;
 
@@ -43,40 +46,62 @@ impl Damage {
     }
 }
 
-/// All damages of calls for PairPos tables, in order of the numbers by which they are refused.
+/// All damages of calls for PairPos tables, in the order in which they are looked for.
 pub fn all() -> Vec<Damage> {
-    in_order([
-        table::LENGTHS,
-        parts::UNREADABLE,
-        parts::FEW_GLYPHS,
-        links::DAMAGES,
-    ])
-}
-
-/// All damages of calls for MarkBasePos tables, in the same order.
-pub fn marks() -> Vec<Damage> {
-    in_order([
-        marks::LENGTHS,
-        marks::UNREADABLE,
-        marks::FEW_GLYPHS,
-        marks::LINKS,
-    ])
-}
-
-/// The damages of a kind of table, which 3, 4, 5 and 7 refuse, among those of every call.
-fn in_order([lengths, unreadable, few_glyphs, links]: [&'static [Named]; 4]) -> Vec<Damage> {
-    let groups: [([u32; 3], &[Named]); 9] = [
+    damages(&[
         ([1, 1, 1], soundness::DAMAGES),
         ([2, 2, 2], table::NUMBERS),
-        ([3, 3, 3], lengths),
-        ([4, 4, 4], unreadable),
-        ([5, 5, 5], few_glyphs),
+        ([3, 3, 3], table::LENGTHS),
+        ([4, 4, 4], parts::UNREADABLE),
+        ([5, 5, 5], parts::FEW_GLYPHS),
         ([6, 6, 0], scratch::SHORT),
-        ([7, 7, 0], links),
+        ([7, 7, 0], links::DAMAGES),
+        ([7, 7, 11], links::SETS),
+        ([11, 11, 11], sets::DAMAGES),
         ([8, 0, 0], room::STORE),
         ([8, 8, 0], room::LIST),
-    ];
-    let damages = groups.into_iter().flat_map(|(answers, group)| {
+    ])
+}
+
+/// All damages of calls for MarkBasePos tables, in the same order. These have no sets.
+pub fn marks() -> Vec<Damage> {
+    damages(&[
+        ([1, 1, 1], soundness::DAMAGES),
+        ([2, 2, 2], table::NUMBERS),
+        ([3, 3, 3], marks::LENGTHS),
+        ([4, 4, 4], marks::UNREADABLE),
+        ([5, 5, 5], marks::FEW_GLYPHS),
+        ([6, 6, 0], scratch::SHORT),
+        ([7, 7, 0], marks::LINKS),
+        ([8, 0, 0], room::STORE),
+        ([8, 8, 0], room::LIST),
+    ])
+}
+
+/// All damages of calls that enter new tables in lookups, in the order in which they are looked for. A cut
+/// plan and a pair reading do not look at lookups.
+pub fn lookups() -> Vec<Damage> {
+    damages(&[
+        ([1, 1, 1], soundness::DAMAGES),
+        ([2, 2, 2], table::NUMBERS),
+        ([2, 0, 0], lookups::NUMBERS),
+        ([9, 0, 0], lookups::LISTS),
+        ([3, 3, 3], table::LENGTHS),
+        ([4, 4, 4], parts::UNREADABLE),
+        ([5, 5, 5], parts::FEW_GLYPHS),
+        ([6, 6, 0], scratch::SHORT),
+        ([7, 7, 0], links::DAMAGES),
+        ([7, 7, 11], links::SETS),
+        ([11, 11, 11], sets::DAMAGES),
+        ([10, 0, 0], lookups::MANY),
+        ([8, 0, 0], room::STORE),
+        ([8, 8, 0], room::LIST),
+    ])
+}
+
+/// Those of some groups, with what a split, a cut plan and a reading answer to each group.
+fn damages(groups: &[([u32; 3], &'static [Named])]) -> Vec<Damage> {
+    let damages = groups.iter().flat_map(|&(answers, group)| {
         group.iter().map(move |&(name, apply)| Damage {
             name,
             answers,

@@ -1,4 +1,5 @@
-//! Valid stores of PairPos tables, of both formats, and of MarkBasePos tables, each from its seed.
+//! Valid stores of PairPos tables, of both formats, of MarkBasePos tables, and of PairPos tables in
+//! lookups, each from its seed.
 
 mod draft;
 mod format1;
@@ -6,6 +7,7 @@ mod format2;
 mod glyphs;
 mod growth;
 pub mod large;
+mod lookups;
 mod marks;
 
 use crate::{
@@ -25,6 +27,18 @@ use oracle::Store;
 pub struct Case {
     /// The store.
     pub store: Store,
+    /// The number of the table.
+    pub table: u32,
+}
+
+/// A store, all of it in use, and in it a lookup list and a PairPos table that a lookup of the list names;
+/// no check refuses them.
+#[derive(Clone, Debug)]
+pub struct Listed {
+    /// The store.
+    pub store: Store,
+    /// The number of the list.
+    pub list: u32,
     /// The number of the table.
     pub table: u32,
 }
@@ -53,10 +67,37 @@ pub fn marks(seed: u64) -> Case {
     finish(draft, table, &mut random, mark_landing)
 }
 
+/// A table of either format, in the lookups of a list.
+pub fn lookups(seed: u64) -> Listed {
+    let mut random = Random::new(seed);
+    let mut draft = Draft::default();
+    let table = match random.one_in(2) {
+        true => format1::draft(&mut draft, &mut random),
+        false => format2::draft(&mut draft, &mut random),
+    };
+    let list = lookups::draft(&mut draft, &mut random, table);
+    let (case, numbers) = lay_out(draft, table, &mut random, pair_landing);
+    Listed {
+        store: case.store,
+        list: numbers[list],
+        table: case.table,
+    }
+}
+
 /// An object below some item, and the length with which the item's total is next to the limit.
 type Landing = fn(&Case, &mut Random) -> Option<(u32, usize)>;
 
-fn finish(mut draft: Draft, table: usize, random: &mut Random, landing: Landing) -> Case {
+fn finish(draft: Draft, table: usize, random: &mut Random, landing: Landing) -> Case {
+    lay_out(draft, table, random, landing).0
+}
+
+/// The finished store, and the numbers of its objects.
+fn lay_out(
+    mut draft: Draft,
+    table: usize,
+    random: &mut Random,
+    landing: Landing,
+) -> (Case, Vec<u32>) {
     growth::surround(&mut draft, random);
     let (store, numbers) = draft.lay_out(random);
     let mut case = Case {
@@ -68,7 +109,7 @@ fn finish(mut draft: Draft, table: usize, random: &mut Random, landing: Landing)
             resize(&mut case.store, object, len);
         }
     }
-    case
+    (case, numbers)
 }
 
 /// Any bits, or few, or none that count.
@@ -99,7 +140,7 @@ fn mark_landing(case: &Case, random: &mut Random) -> Option<(u32, usize)> {
 fn landing(opening: Opening<impl Opened>, random: &mut Random) -> Option<(u32, usize)> {
     let table = opening.ok()??;
     let target = random.within(65_534..=65_537);
-    let (objects, parts) = (table.objects(), table.parts());
+    let objects = table.objects();
     let mut weighed = table.weigh();
     weighed.retain(|weighed| !table.links_of_item(weighed.item).is_empty());
     if weighed.is_empty() {
@@ -107,11 +148,15 @@ fn landing(opening: Opening<impl Opened>, random: &mut Random) -> Option<(u32, u
     }
     (0..8).find_map(|_| {
         let here = weighed[random.below(weighed.len())];
-        let [_, _, _, object] = random.pick(&table.links_of_item(here.item));
+        let [_, _, _, mut object] = random.pick(&table.links_of_item(here.item));
+        if !table.is_free(object) {
+            let below = objects.links_of(object);
+            object = below.get(random.below(below.len().max(1)))?[3];
+        }
         let len = (objects.bytes(object).len() + target).checked_sub(here.total)?;
         let last = objects.links_of(object).last();
         let least = last.map_or(0, |link| link[1] as usize + 2);
-        let is_part = parts.contains(&object);
-        (!is_part && (least..70_000).contains(&len)).then_some((object, len))
+        let is_free = table.is_free(object);
+        (is_free && (least..70_000).contains(&len)).then_some((object, len))
     })
 }

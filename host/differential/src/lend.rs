@@ -1,8 +1,10 @@
 //! What a call is lent: scratch and room, exactly as much as is needed or more.
 
 use crate::{
+    generate::Listed,
     model::{
         answers::{self, Opening},
+        lookups::entered,
         opened::Opened,
     },
     Call, Random, Scratch,
@@ -35,6 +37,20 @@ impl Need {
         Self::of_opened(store, answers::open_marks(store, table))
     }
 
+    /// The need of a split of a PairPos table whose new tables are entered in the lookups of a list: as
+    /// without them, and the room that these take. Where a lookup has too many subtables it is unknown.
+    pub fn in_lookups(store: &Store, list: u32, table: u32) -> Self {
+        let mut need = Self::of(store, table);
+        let lookups = answers::open_lookups(store, list, table);
+        if let (Ok(lookups), Ok(Some(pairpos))) = (lookups, answers::open(store, table)) {
+            let cuts = pairpos.cut_places();
+            let written = (!cuts.is_empty()).then(|| pairpos.write(&cuts));
+            let written = written.and_then(|it| entered::enter(&pairpos, it, lookups));
+            need.room = written.map_or([0; 3], |written| written.need(store));
+        }
+        need
+    }
+
     /// A table that is refused by 1 to 5, or has another format, needs nothing.
     fn of_opened(store: &Store, opening: Opening<impl Opened>) -> Self {
         let Ok(Some(table)) = opening else {
@@ -63,6 +79,7 @@ impl Need {
         Call {
             store,
             table,
+            lookup_list: 0,
             scratch: Scratch {
                 walk: junk(random, self.walk, spare),
                 glyph_set: junk(random, 8_192, spare),
@@ -96,6 +113,25 @@ pub fn marks_amply(store: &Store, table: u32, random: &mut Random) -> Call<u32> 
     Need::of_marks(store, table).lend(store, table, random, SPARE)
 }
 
+/// A call that enters new tables in lookups and is lent exactly what it needs.
+pub fn in_lookups_exactly(case: &Listed, random: &mut Random) -> Call<u32> {
+    lend_in_lookups(case, random, 0)
+}
+
+/// A call that enters new tables in lookups and is lent what it needs or somewhat more.
+pub fn in_lookups_amply(case: &Listed, random: &mut Random) -> Call<u32> {
+    lend_in_lookups(case, random, SPARE)
+}
+
+fn lend_in_lookups(case: &Listed, random: &mut Random, spare: usize) -> Call<u32> {
+    let Listed { store, list, table } = case;
+    let need = Need::in_lookups(store, *list, *table);
+    Call {
+        lookup_list: *list,
+        ..need.lend(store, *table, random, spare)
+    }
+}
+
 /// The most that an ample call is lent beyond its need, of each kind.
 const SPARE: usize = 9;
 
@@ -111,6 +147,7 @@ impl Call<u32> {
         Call {
             store: self.store.clone(),
             table: self.table,
+            lookup_list: self.lookup_list,
             scratch: self.scratch.clone(),
             list: self.list.iter().map(|&entry| entry as u16).collect(),
             count: self.count,

@@ -2,15 +2,16 @@
 //! the oracle.
 //!
 //! The rules are written here a second time, in plain Rust and from documents 01 and 02 alone: clear
-//! before fast. Whatever splits PairPos tables is a [`Subject`], and whatever splits MarkBasePos tables
-//! a [`MarkSubject`]; the [`Model`] is both, and so is the [`Archive`]. Two subjects agree if a call leaves
-//! the same answer and the same contents, to the last number.
+//! before fast. Whatever splits PairPos tables is a [`Subject`], whatever splits MarkBasePos tables a
+//! [`MarkSubject`], and whatever enters new tables in lookups a [`LookupSubject`]; the [`Model`] is all
+//! three, and so is the [`Archive`]. Two subjects agree if a call leaves the same answer and the same
+//! contents, to the last number.
 //!
 //! | module | holds |
 //! |---|---|
-//! | [`model`] | the rules: soundness, answers, cut places, what is written, pairs and attachments |
+//! | [`model`] | the rules: soundness, answers, cut places, what is written, pairs, attachments and lookups |
 //! | [`by_hand`] | small stores for figures |
-//! | [`generate`] | valid stores of both formats, and of marks, each from its seed |
+//! | [`generate`] | valid stores of both formats, of marks, and with lookups, each from its seed |
 //! | [`lend`] | scratch and room for a call, exact or ample |
 //! | [`damage`] | damaged calls, one for each edge of each refusal |
 //! | [`compare`] | what is reachable from tables, renumbered, parts by meaning |
@@ -54,7 +55,9 @@ pub mod vectors;
 pub use archive::Archive;
 pub use model::Model;
 pub use random::Random;
-pub use subject::{Attachment, Call, MarkSubject, Marks, Pair, Scratch, Splits, Subject};
+pub use subject::{
+    Attachment, Call, InLookups, LookupSubject, MarkSubject, Marks, Pair, Scratch, Splits, Subject,
+};
 pub use tally::Tally;
 
 // Lengths, positions and sums are `usize`, and must not wrap.

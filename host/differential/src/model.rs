@@ -6,6 +6,7 @@ pub mod coverage;
 pub mod cuts;
 pub mod estimate;
 pub mod header;
+pub mod lookups;
 pub mod marks;
 pub mod numbers;
 pub mod objects;
@@ -18,7 +19,7 @@ pub mod table;
 pub mod values;
 pub mod written;
 
-use crate::{Attachment, Call, MarkSubject, Pair, Subject};
+use crate::{Attachment, Call, LookupSubject, MarkSubject, Pair, Subject};
 use answers::Opening;
 use opened::Opened;
 use oracle::Store;
@@ -42,7 +43,7 @@ impl Subject for Model {
     }
 
     fn read_pair(&self, store: &Store, table: u32, glyphs: [u16; 2], pair: &mut Pair) -> u32 {
-        let reading = answers::open(store, table);
+        let reading = answers::open_to_read(store, table);
         settle_reading(pair, reading, |pairpos| pairs::read(&pairpos, glyphs))
     }
 }
@@ -71,6 +72,15 @@ impl MarkSubject for Model {
         settle_reading(attachment, reading, |marks| {
             marks::attachments::read(&marks, mark, base)
         })
+    }
+}
+
+impl LookupSubject for Model {
+    fn split_in_lookups(&self, call: &mut Call<u32>) -> u32 {
+        let (list, table) = (call.lookup_list, call.table);
+        let (scratch, list_len) = (&call.scratch, call.list.len());
+        let outcome = answers::split_in_lookups(&call.store, list, table, scratch, list_len);
+        settle_split(call, outcome)
     }
 }
 

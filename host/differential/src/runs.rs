@@ -2,15 +2,16 @@
 
 use crate::{
     check::{
-        again, all_agree, another_format, as_the_oracle, attachments_agree, attachments_stay,
-        frame, marks_agree, marks_as_the_oracle, pairs_agree, pairs_stay, refused_or_as_the_oracle,
+        again, all_agree, another_format, applied_agree, applied_stay, as_the_oracle,
+        attachments_agree, attachments_stay, entered, frame, lookups_agree, marks_agree,
+        marks_as_the_oracle, pairs_agree, pairs_stay, refused_or_as_the_oracle,
         refused_or_marks_as_the_oracle, MOST_TABLES,
     },
     check::{Outcome, Split},
     damage::{self, Damage},
     explained::as_answered,
-    generate::Case,
-    lend, Call, MarkSubject, Marks, Random, Subject, Tally,
+    generate::{Case, Listed},
+    lend, Call, InLookups, LookupSubject, MarkSubject, Marks, Random, Subject, Tally,
 };
 use splitter::Kind;
 
@@ -58,6 +59,25 @@ pub fn marks_whole(
     attachments_agree(subject, &split, &mut random, tally)
 }
 
+/// The same of a PairPos table whose new tables are entered in the lookups of a list.
+pub fn lookups_whole(
+    subject: &(impl Subject + LookupSubject),
+    case: &Listed,
+    seed: u64,
+    tally: &mut Tally,
+) -> Outcome {
+    let mut random = Random::new(!seed);
+    let lend = [lend::in_lookups_exactly, lend::in_lookups_amply][seed as usize % 2];
+    let call = lend(case, &mut random);
+    lookups_agree(subject, &call)?;
+    let split = Split::by(&InLookups(subject), &call);
+    as_the_oracle(&Split::by(subject, &call), tally)?;
+    entered(subject, &split, tally)?;
+    again(&InLookups(subject), &split)?;
+    applied_stay(&split, &mut random, tally)?;
+    applied_agree(subject, &split, &mut random, tally)
+}
+
 /// Damaged copies of a store's call: they are refused as by the model, for the reason that the host
 /// library gives, and nothing changes.
 ///
@@ -65,7 +85,8 @@ pub fn marks_whole(
 pub fn damaged(subject: &impl Subject, case: &Case, seed: u64, tally: &mut Tally) -> Outcome {
     let mut random = Random::new(seed.rotate_left(32));
     let call = lend::exactly(&case.store, case.table, &mut random);
-    damage_each(&call, &damage::all(), &mut random, |call| {
+    let scramble = damage::scramble;
+    damage_each(&call, &damage::all(), scramble, &mut random, |call| {
         all_agree(subject, call)?;
         as_answered(Kind::Pairs, call)?;
         let split = Split::by(subject, call);
@@ -84,7 +105,8 @@ pub fn marks_damaged(
 ) -> Outcome {
     let mut random = Random::new(seed.rotate_left(32));
     let call = lend::marks_exactly(&case.store, case.table, &mut random);
-    damage_each(&call, &damage::marks(), &mut random, |call| {
+    let scramble = damage::scramble;
+    damage_each(&call, &damage::marks(), scramble, &mut random, |call| {
         marks_agree(subject, call)?;
         as_answered(Kind::Marks, call)?;
         let split = Split::by(&Marks(subject), call);
@@ -94,10 +116,32 @@ pub fn marks_damaged(
     })
 }
 
+/// The same of a PairPos table in the lookups of a list.
+pub fn lookups_damaged(
+    subject: &(impl Subject + LookupSubject),
+    case: &Listed,
+    seed: u64,
+    tally: &mut Tally,
+) -> Outcome {
+    let mut random = Random::new(seed.rotate_left(32));
+    let call = lend::in_lookups_exactly(case, &mut random);
+    let mut others = random.clone();
+    let scramble = damage::scramble_lookups;
+    damage_each(&call, &damage::lookups(), scramble, &mut random, |call| {
+        lookups_agree(subject, call)?;
+        let split = Split::by(&InLookups(subject), call);
+        tally.answers[split.answer as usize] += 1;
+        entered(subject, &split, tally)?;
+        applied_stay(&split, &mut others, tally)?;
+        Ok(split.answer)
+    })
+}
+
 /// Damages a call in a few ways; `settle` says what is answered, if all is well.
 fn damage_each(
     call: &Call<u32>,
     damages: &[Damage],
+    scramble: fn(&Call<u32>, &mut Random) -> Call<u32>,
     random: &mut Random,
     mut settle: impl FnMut(&Call<u32>) -> Result<u32, String>,
 ) -> Outcome {
@@ -112,7 +156,7 @@ fn damage_each(
         }
     }
     for _ in 0..SCRAMBLES {
-        let settled = settle(&damage::scramble(call, random));
+        let settled = settle(&scramble(call, random));
         settled.map_err(|reason| format!("at random: {reason}"))?;
     }
     Ok(())

@@ -37,6 +37,14 @@ pub trait MarkSubject {
     ) -> u32;
 }
 
+/// Something that splits PairPos tables and enters the new ones in the lookups of a list.
+///
+/// It returns its answer number. What it is lent may hold anything at entry.
+pub trait LookupSubject {
+    /// Splits a table, and enters the new ones; the list takes the new tables.
+    fn split_in_lookups(&self, call: &mut Call<u32>) -> u32;
+}
+
 /// A split and a cut plan, of whichever kind of table.
 pub trait Splits {
     /// Splits a table.
@@ -70,6 +78,20 @@ impl<S: MarkSubject> Splits for Marks<'_, S> {
     }
 }
 
+/// What a subject does with PairPos tables and the lookups that name them.
+#[derive(Clone, Copy, Debug)]
+pub struct InLookups<'a, S>(pub &'a S);
+
+impl<S: Subject + LookupSubject> Splits for InLookups<'_, S> {
+    fn split(&self, call: &mut Call<u32>) -> u32 {
+        self.0.split_in_lookups(call)
+    }
+
+    fn plan(&self, call: &mut Call<u16>) -> u32 {
+        self.0.cut_plan(call)
+    }
+}
+
 /// All that a split or a cut plan is lent.
 #[derive(Clone, Debug, Default, PartialEq, Eq)]
 pub struct Call<N> {
@@ -77,6 +99,8 @@ pub struct Call<N> {
     pub store: Store,
     /// The number of the table.
     pub table: u32,
+    /// The number of the lookup list, where new tables are entered in lookups; else nobody looks at it.
+    pub lookup_list: u32,
     /// Zero after every call.
     pub scratch: Scratch,
     /// `new_tables` of a split, `places` of a cut plan.

@@ -3,11 +3,14 @@
 use crate::model::cuts::Weighed;
 use std::fmt::{self, Display, Formatter};
 
+/// How many answer numbers there are.
+pub const ANSWERS: usize = 12;
+
 /// Counts of splits and of what became of them.
 #[derive(Clone, Debug, Default, PartialEq, Eq)]
 pub struct Tally {
     /// Splits by their answer number.
-    pub answers: [usize; 9],
+    pub answers: [usize; ANSWERS],
     /// Tables by how often they were cut: not, once, twice, up to 9 times, up to 99, more often.
     pub cut_counts: [usize; 6],
     /// New tables.
@@ -19,6 +22,10 @@ pub struct Tally {
     /// Splits in which what the text does otherwise could show and does not, and in which it shows:
     /// a 16-bit product that wraps, or old offsets in a kept array.
     pub differences: [usize; 2],
+    /// Lookups that were written anew.
+    pub rewritten: usize,
+    /// Lookups that were applied before and after a split, and those of which nothing is promised.
+    pub applied: [usize; 2],
     /// Pairs or attachments that were read before and after a split.
     pub readings: usize,
     /// Those of them that were found.
@@ -57,13 +64,21 @@ fn cut_class(count: usize) -> usize {
 impl Display for Tally {
     fn fmt(&self, f: &mut Formatter) -> fmt::Result {
         let [hidden, shown] = self.differences;
-        writeln!(f, "answers 0 to 8: {:?}", self.answers)?;
+        writeln!(f, "answers 0 to {}: {:?}", ANSWERS - 1, self.answers)?;
         let cut_counts = self.cut_counts;
         writeln!(f, "cuts 0, 1, 2, 3.., 10.., 100..: {cut_counts:?}")?;
         let (new_tables, cuts_at_0) = (self.new_tables, self.cuts_at_0);
         writeln!(f, "new tables {new_tables}, cuts at 0 {cuts_at_0}")?;
         writeln!(f, "totals of 65,534 to 65,537: {:?}", self.at_limit)?;
         writeln!(f, "differences: hidden {hidden}, shown {shown}")?;
+        let [applied, left_out] = self.applied;
+        if self.rewritten > 0 {
+            let rewritten = self.rewritten;
+            writeln!(
+                f,
+                "lookups written anew {rewritten}, applied {applied}, left out {left_out}"
+            )?;
+        }
         write!(f, "readings {}, found {}", self.readings, self.found)
     }
 }

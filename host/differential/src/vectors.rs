@@ -20,7 +20,8 @@
 //!
 //! | | |
 //! |---|---|
-//! | lookup type | 2 where the table is one of PairPos, 4 where it is one of MarkBasePos: which functions are called |
+//! | lookup type | 2 where the table is one of PairPos, 4 where it is one of MarkBasePos: which functions are called; 3 as 2, but that the split enters the new tables in lookups |
+//! | lookup list | behind a 3 alone: the number of the list |
 //! | table | the number of the table |
 //! | counts, data, objects, links | the store as it is lent, each an array |
 //! | pairs | how many there are; each is two glyphs, answer, found, and an array of the sixteen values, each raised by 65,536 |
@@ -36,6 +37,8 @@
 //!
 //! The readings hold before the split by the table, and after it by the first of the table and the new
 //! tables that has a pair or an attachment, or else by the last of them.
+//!
+//! [`lookup_sample`] makes the cases that enter new tables in lookups. The program does not read these yet.
 
 mod answers;
 mod cases;
@@ -43,8 +46,9 @@ mod plain;
 mod readings;
 mod text;
 
-use crate::{check::Outcome, Tally};
+use crate::{check::Outcome, tally::ANSWERS, Tally};
 use answers::Answers;
+use cases::{Case, Functions};
 use readings::Reading;
 use splitter::Kind;
 use text::Text;
@@ -62,8 +66,10 @@ pub struct Sample {
     pub mark_tally: Tally,
     /// How many cases are of marks.
     pub marks: usize,
-    /// Splits by kind: cut, refused by 1 to 8, nothing to cut.
-    pub kinds: [usize; 10],
+    /// How many cases enter new tables in lookups.
+    pub in_lookups: usize,
+    /// Splits by kind: cut, refused by each number, nothing to cut.
+    pub kinds: [usize; ANSWERS + 1],
     /// Stored pairs that are found, and those of them with a device.
     pub pairs_found: [usize; 2],
     /// Stored attachments that are found.
@@ -72,29 +78,42 @@ pub struct Sample {
 
 /// Makes the sample, or says which case is not as the oracle has it.
 pub fn sample() -> Result<Sample, String> {
-    let mut sample = Sample::default();
-    let mut text = Text::default();
-    let cases = cases::all();
-    for case in &cases {
-        let stored = sample.add(&mut text, case);
-        stored.map_err(|reason| format!("{}: {reason}", case.name))?;
-    }
-    sample.input = text.finish(cases.len());
-    sample.output = output(&sample.kinds, sample.marks);
+    let mut sample = Sample::of(&cases::all())?;
+    sample.output = output(&sample.kinds, "marks", sample.marks);
+    Ok(sample)
+}
+
+/// The same of calls that enter new tables in lookups.
+pub fn lookup_sample() -> Result<Sample, String> {
+    let mut sample = Sample::of(&cases::in_lookups())?;
+    sample.output = output(&sample.kinds, "lookups", sample.in_lookups);
     Ok(sample)
 }
 
 impl Sample {
-    fn add(&mut self, text: &mut Text, case: &cases::Case) -> Outcome {
-        let tally = match case.kind {
+    fn of(cases: &[Case]) -> Result<Self, String> {
+        let mut sample = Self::default();
+        let mut text = Text::default();
+        for case in cases {
+            let stored = sample.add(&mut text, case);
+            stored.map_err(|reason| format!("{}: {reason}", case.name))?;
+        }
+        sample.input = text.finish(cases.len());
+        Ok(sample)
+    }
+
+    fn add(&mut self, text: &mut Text, case: &Case) -> Outcome {
+        let kind = case.functions.kind();
+        let tally = match kind {
             Kind::Pairs => &mut self.tally,
             Kind::Marks => &mut self.mark_tally,
         };
         let answers = Answers::of(case, tally)?;
         self.kinds[answers.kind()] += 1;
-        self.marks += usize::from(case.kind == Kind::Marks);
+        self.marks += usize::from(kind == Kind::Marks);
+        self.in_lookups += usize::from(case.functions == Functions::InLookups);
         for reading in &answers.readings {
-            self.count(case.kind, reading);
+            self.count(kind, reading);
         }
         text.case(case, &answers);
         Ok(())
@@ -113,14 +132,14 @@ impl Sample {
     }
 }
 
-/// What the program writes of so many cases of each kind, of which so many are of marks.
-fn output(kinds: &[usize; 10], marks: usize) -> String {
+/// What the program writes of so many cases of each kind, of which so many are of something.
+fn output(kinds: &[usize; ANSWERS + 1], what: &str, count: usize) -> String {
     let [cut, refused @ .., uncut] = kinds;
     let mut lines = vec![format!("cut: {cut}"), format!("nothing to cut: {uncut}")];
     let refused = refused.iter().enumerate();
     lines.extend(refused.map(|(i, count)| format!("refused by {}: {count}", i + 1)));
     lines.push(format!("cases: {}", kinds.iter().sum::<usize>()));
-    lines.push(format!("cases of marks: {marks}"));
+    lines.push(format!("cases of {what}: {count}"));
     lines.push("not as stored: 0\n".into());
     lines.join("\n")
 }

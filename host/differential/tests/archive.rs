@@ -4,7 +4,7 @@ mod common;
 
 use common::run;
 use differential::{
-    check::{all_agree, marks_agree},
+    check::{all_agree, lookups_agree, marks_agree},
     generate, lend, runs, Archive, Random,
 };
 
@@ -24,6 +24,38 @@ fn format_2_is_split_as_the_oracle_splits_it() {
 fn marks_are_split_as_the_oracle_splits_them() {
     let tally = run(|seed, tally| runs::marks_whole(&Archive, &generate::marks(seed), seed, tally));
     assert!(tally.differences.iter().all(|&count| count > 100));
+}
+
+#[test]
+fn new_tables_are_entered_in_lookups() {
+    let tally =
+        run(|seed, tally| runs::lookups_whole(&Archive, &generate::lookups(seed), seed, tally));
+    let [applied, left_out] = tally.applied;
+    assert!(tally.rewritten > 2_000 && applied > 2_000 && left_out > 300);
+}
+
+/// Each object as the list, whatever its bytes are, and as the table of the list.
+#[test]
+fn any_object_may_be_the_list() {
+    for seed in 0..80 {
+        let case = generate::lookups(seed);
+        let mut call = lend::in_lookups_amply(&case, &mut Random::new(seed));
+        for object in 0..call.store.counts[1].min(100) {
+            call.lookup_list = object;
+            assert_eq!(
+                lookups_agree(&Archive, &call),
+                Ok(()),
+                "seed {seed}, {object}"
+            );
+            (call.lookup_list, call.table) = (case.list, object);
+            assert_eq!(
+                lookups_agree(&Archive, &call),
+                Ok(()),
+                "seed {seed}, {object}"
+            );
+            call.table = case.table;
+        }
+    }
 }
 
 /// Each object as the table, whatever its bytes are.

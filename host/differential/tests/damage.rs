@@ -6,7 +6,7 @@ mod damaged;
 
 use damaged::Kind;
 use differential::{
-    check::{all_agree, refused_or_as_the_oracle, Split},
+    check::{all_agree, frame, refused_or_as_the_oracle, Split},
     damage, generate, lend,
     model::{class_def, coverage, numbers},
     Archive, Call, Model, Pair, Random, Subject, Tally,
@@ -17,8 +17,11 @@ const STORES: u64 = 80;
 const PAIRS: Kind = Kind {
     calls,
     damages: damage::all,
+    order: &[1, 2, 3, 4, 5, 6, 7, 11, 8],
+    scramble: damage::scramble,
     answers,
     split: |call| Split::by(&Model, call),
+    frame,
     other_formats: &[0, 3, 0x0100, 0x0201, 0xFFFF],
 };
 
@@ -87,5 +90,6 @@ fn anything_may_be_wrong() {
         assert_eq!(refused_or_as_the_oracle(split, &mut tally), Ok(()));
     });
     println!("{tally}");
-    assert!(tally.answers.iter().all(|&count| count > 0));
+    let [answers @ .., _, _, unsorted] = tally.answers;
+    assert!(unsorted > 0 && answers.iter().all(|&count| count > 0));
 }

@@ -5,12 +5,12 @@
 //! split each of these stores alike. The sentence of document 01 stands before each.
 
 use differential::{
-    by_hand::{format1, format1_slots, format2},
+    by_hand::{format1, format1_slots, format2, lengthen},
     check::{all_agree, as_the_oracle, Split},
     compare::Objects,
     lend,
     model::{class_def, coverage, numbers::bytes},
-    Archive, Model, Random, Tally,
+    Archive, Model, Pair, Random, Subject, Tally,
 };
 use oracle::Store;
 use std::collections::BTreeSet;
@@ -55,8 +55,9 @@ fn whole_length(store: &Store, table: u32) -> usize {
 fn an_empty_slot_costs_neither_its_offset_nor_its_glyph() {
     let behind_an_empty_slot = |set_length| {
         let mut store = format1_slots(&[10, 20], 2);
-        let set = store.push_object(&vec![0; set_length]);
+        let set = store.push_object(&bytes([0]));
         store.push_link(0, 12, set);
+        lengthen(&mut store, set, set_length);
         store
     };
     let alone = |set_length| format1(&[20], &[set_length]);
@@ -71,11 +72,11 @@ fn an_empty_slot_costs_neither_its_offset_nor_its_glyph() {
 
 /// "In both, S(i) at a cut stays as it was measured before the cut." The text's comment says "Reset
 /// for the next subtable". What the second set shares with the first is in no sum of the new table,
-/// which a third set, of no bytes, takes over the limit.
+/// which a third set takes over the limit.
 #[test]
 fn the_item_at_a_cut_is_not_measured_again() {
-    let mut store = format1(&[10, 20, 30], &[4, 4, 0]);
-    let shared = store.push_object(&[0; 65_510]);
+    let mut store = format1(&[10, 20, 30], &[6, 6, 6]);
+    let shared = store.push_object(&[0; 65_502]);
     store.push_link(2, 2, shared);
     store.push_link(3, 2, shared);
     let split = split(&store, TABLE);
@@ -123,8 +124,9 @@ fn class_0_counts_for_first_and_last_but_is_not_written() {
 #[test]
 fn an_absent_link_moves_nothing() {
     let mut store = format1_slots(&[10, 20], 2);
-    let set = store.push_object(&[0; 65_518]);
+    let set = store.push_object(&bytes([0]));
     store.push_link(0, 10, set);
+    lengthen(&mut store, set, 65_518);
     let split = split(&store, TABLE);
     assert_eq!(split.places, [0]);
     let new_table = split.new_tables()[0];
@@ -134,16 +136,39 @@ fn an_absent_link_moves_nothing() {
     assert_eq!(after.links(new_table), links);
 }
 
-/// "the first record in that set with the second glyph". OpenType sorts the records of a set by that
-/// glyph; the text never reads them, and neither does a split.
+/// "The crate doesn't look": sets that are not sorted by second glyph, or not as long as they say, are split
+/// as any other. The port refuses them by 11, whether or not there is a cut.
 #[test]
-fn the_records_of_a_set_are_not_read() {
-    let mut store = format1_slots(&[10], 1);
-    let mut records = bytes([2, 20, 5, 10, 7]);
-    records.resize(65_518, 0);
-    let set = store.push_object(&records);
-    store.push_link(0, 10, set);
-    let split = split(&store, TABLE);
-    assert_eq!(split.places, [0]);
-    assert_eq!(split.after.store.bytes(set as u32), records);
+fn unsorted_sets_are_split_by_the_text_and_refused_by_the_port() {
+    let unsorted = [
+        bytes([2, 20, 5, 10, 7]),
+        bytes([2, 20, 5, 20, 7]),
+        [bytes([2, 10, 5, 20, 7]), vec![0]].concat(),
+        [bytes([2, 10, 5, 20]), vec![0]].concat(),
+        vec![0],
+        vec![],
+    ];
+    for set_bytes in unsorted {
+        for (length, places) in [(65_518, &[1][..]), (100, &[])] {
+            let mut store = format1_slots(&[10, 20], 2);
+            let sets = [&set_bytes, &bytes([0])].map(|set| store.push_object(set));
+            for (slot, set) in [10, 12].into_iter().zip(sets) {
+                store.push_link(0, slot, set);
+            }
+            lengthen(&mut store, sets[1], length);
+            let theirs = oracle::split(&store, TABLE as usize).unwrap();
+            assert_eq!(theirs.cuts, places);
+
+            let call = lend::exactly(&store, TABLE, &mut Random::new(0));
+            assert_eq!(all_agree(&Archive, &call), Ok(()));
+            let ours = Split::by(&Archive, &call);
+            assert_eq!((ours.answer, ours.places.len()), (11, 0));
+            assert_eq!(ours.after.store, call.store);
+            // Glyph 20 has a sorted set, and is refused too.
+            for glyphs in [[10, 10], [20, 10], [30, 10]] {
+                let answer = Archive.read_pair(&store, TABLE, glyphs, &mut Pair::default());
+                assert_eq!(answer, 11);
+            }
+        }
+    }
 }

@@ -143,7 +143,7 @@ fn graphs_become_what_the_crate_makes_of_them() {
 #[test]
 fn refused_graphs_stay() {
     let mut scratch = Scratch::new();
-    let mut refused = [0; 9];
+    let mut refused = [0; 12];
     for_each(|kind, call, mut random| {
         let damages = match kind {
             Kind::Pairs => damage::all(),
@@ -151,7 +151,7 @@ fn refused_graphs_stay() {
         };
         let damage = random.pick(&damages);
         let damaged = damage.apply(&call, &mut random);
-        let (Some(call), 3..=5 | 7) = (damaged, damage.answers[0]) else {
+        let (Some(call), 3..=5 | 7 | 11) = (damaged, damage.answers[0]) else {
             return;
         };
         let mut host = Host::of(&call.store);
@@ -167,7 +167,7 @@ fn refused_graphs_stay() {
         assert_eq!(kind.explain(&loaded.store, 0).refusal(), Some(refusal));
     });
     println!("{refused:?}");
-    assert!([3, 4, 5, 7].iter().all(|&answer| refused[answer] > 5));
+    assert!([3, 4, 5, 7, 11].iter().all(|&answer| refused[answer] > 5));
 }
 
 /// Links that are no links of a table: outside their object, or two at one position.

@@ -4,10 +4,16 @@ use differential::{
     check::Split,
     damage::{self, Damage},
     generate::{self, Case},
-    lend, Attachment, Call, MarkSubject, Marks, Model, Pair, Random, Scratch, Splits, Subject,
+    lend,
+    model::lookups::applied::Subtables,
+    Attachment, Call, InLookups, LookupSubject, MarkSubject, Marks, Model, Pair, Random, Scratch,
+    Splits, Subject,
 };
 use oracle::Store;
-use splitter::{read_mark, read_pair, Kind, PairValues, Refusal, StoreRef, Values};
+use splitter::{
+    apply_lookup, read_mark, read_pair, split_in_lookups, Kind, Lookup, PairValues, Refusal,
+    StoreRef, Values,
+};
 
 const STORES: u64 = 600;
 
@@ -246,6 +252,111 @@ fn anchors_have_their_names() {
     }
     println!("attachments found {found}");
     assert!(found > 500);
+}
+
+/// Stores without room grow, and are then the model's, lookups and all.
+#[test]
+fn splits_in_lookups() {
+    let mut scratch = splitter::Scratch::new();
+    let mut cut = 0;
+    for case in (0..300).map(generate::lookups) {
+        let call = lend::in_lookups_exactly(&case, &mut Random::new(0));
+        let model = Split::by(&InLookups(&Model), &call);
+        let mut store = owned(&case.store);
+        let new_tables = split_in_lookups(&mut store, case.list, case.table, &mut scratch);
+        assert_eq!(new_tables.as_deref(), Ok(model.new_tables()));
+        assert!(store.view().is_sound());
+        let room = store.room();
+        assert_eq!(in_use(store), model.after.store);
+        if !model.places.is_empty() {
+            // Of objects and links no more than is needed.
+            assert_eq!([room.objects, room.links], [0; 2]);
+            cut += 1;
+        }
+    }
+    assert!(cut > 100);
+}
+
+/// Damaged stores that are sound are refused, and stay; or they are split.
+#[test]
+fn splits_in_lookups_of_damaged_stores() {
+    let mut scratch = splitter::Scratch::new();
+    let (mut refused, mut entered) = (0, 0);
+    for case in (0..DAMAGED).map(generate::lookups) {
+        let mut random = Random::new(case.table.into());
+        let call = lend::in_lookups_exactly(&case, &mut random);
+        for _ in 0..SCRAMBLES {
+            let call = damage::scramble_lookups(&call, &mut random);
+            if !lent(&call.store).is_sound() {
+                continue;
+            }
+            let with_room = enough(&call);
+            let mut model = with_room.clone();
+            let answer = Model.split_in_lookups(&mut model);
+            let (list, table) = (call.lookup_list, call.table);
+            let mut store = owned(&call.store);
+            match split_in_lookups(&mut store, list, table, &mut scratch) {
+                Ok(new_tables) => {
+                    assert_eq!((0, model.count as usize), (answer, new_tables.len()));
+                    assert_eq!(in_use(store), in_use(owned(&model.store)));
+                    entered += 1;
+                }
+                Err(refusal) => {
+                    assert_eq!(refusal.number(), answer);
+                    assert_eq!(store, owned(&call.store));
+                    refused += 1;
+                }
+            }
+        }
+    }
+    assert!(refused > 250 && entered > 250, "{refused}, {entered}");
+}
+
+/// The same call with far more room and scratch than it needs.
+fn enough(call: &Call<u32>) -> Call<u32> {
+    let mut call = call.clone();
+    call.store.data.resize(call.store.data.len() + 1_000_000, 0);
+    call.store.objects.resize(131_072, 0);
+    call.store.links.resize(1_048_576, 0);
+    call.scratch = Scratch {
+        walk: vec![1; 131_072],
+        glyph_set: vec![1; 8_192],
+        glyphs: vec![1; 65_536],
+        classes: vec![1; 65_536],
+        cuts: vec![1; 65_535],
+    };
+    call.list = vec![0; 65_535];
+    call
+}
+
+/// Lookups of every type, applied over pair readings.
+#[test]
+fn lookups_are_applied() {
+    let (mut found, mut others) = (0, 0);
+    for case in (0..120).map(generate::lookups) {
+        let links = case.store.links_in_use().iter();
+        let lookups = links.filter(|link| link[0] == case.list).take(4);
+        for lookup in lookups.map(|link| link[3]) {
+            let subtables = Subtables::of(&case.store, lookup).unwrap();
+            let read = Lookup::read(lent(&case.store), lookup).unwrap();
+            assert!(read.subtables().eq(subtables.numbers().iter().copied()));
+            let tables = subtables.readable().take(3);
+            let firsts = tables.filter_map(|table| table.parts.glyphs.first());
+            for (first, second) in firsts.flat_map(|&first| (0..8).map(move |it| (first, it))) {
+                let theirs = match read.lookup_type {
+                    2 => subtables.apply([first, second]),
+                    _ => Pair::default(),
+                };
+                let ours = apply_lookup(lent(&case.store), lookup, first, second).unwrap();
+                assert_eq!(ours.is_some(), theirs.found == 1);
+                assert_eq!(ours.map_or([0; 16], numbers), theirs.values);
+                found += theirs.found;
+            }
+            others += usize::from(read.lookup_type != 2);
+        }
+    }
+    println!("pairs found {found}, lookups of other types {others}");
+    assert!(found > 1_000 && others > 40);
 }
 
 fn numbers(pair: PairValues) -> [i32; 16] {

@@ -6,7 +6,7 @@ mod damaged;
 
 use damaged::Kind;
 use differential::{
-    check::{marks_agree, refused_or_marks_as_the_oracle, Split},
+    check::{frame, marks_agree, refused_or_marks_as_the_oracle, Split},
     damage, generate, lend, Archive, Attachment, Call, MarkSubject, Marks, Model, Random, Tally,
 };
 
@@ -15,8 +15,11 @@ const STORES: u64 = 160;
 const MARKS: Kind = Kind {
     calls,
     damages: damage::marks,
+    order: &[1, 2, 3, 4, 5, 6, 7, 8],
+    scramble: damage::scramble,
     answers,
     split: |call| Split::by(&Marks(&Model), call),
+    frame,
     other_formats: &[0, 2, 3, 0x0100, 0x0201, 0xFFFF],
 };
 
@@ -70,5 +73,5 @@ fn anything_may_be_wrong() {
         assert_eq!(refused_or_marks_as_the_oracle(split, &mut tally), Ok(()));
     });
     println!("{tally}");
-    assert!(tally.answers.iter().all(|&count| count > 0));
+    assert!(tally.answers[..9].iter().all(|&count| count > 0));
 }

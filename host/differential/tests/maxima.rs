@@ -8,13 +8,15 @@ use differential::{
 };
 use oracle::Store;
 
-/// A format 1 table, object 0, whose slots all lead to one set of 65,535 bytes: each is a cut.
+/// A format 1 table, object 0, whose slots all lead to one set of 65,538 bytes: each is a cut.
 fn all_cuts(slots: u16) -> Store {
     let mut store = Store::default();
     let mut table = bytes([1, 0, 4, 0, slots]);
     table.resize(10 + 2 * slots as usize, 0);
     let glyphs: Vec<u16> = (0..slots).collect();
-    for object in [table, coverage::write(&glyphs), vec![0; 65_535]] {
+    let records = (0..16_384).flat_map(|second| [second, 0]);
+    let set = bytes([16_384].into_iter().chain(records));
+    for object in [table, coverage::write(&glyphs), set] {
         store.push_object(&object);
     }
     let rows = (0..slots as u32).flat_map(|slot| [0, 10 + 2 * slot, 2, 2]);
@@ -74,14 +76,14 @@ fn objects_end_at_their_maximum() {
     assert_eq!(with_objects(MAXIMA[1] + 1), 1);
 }
 
-/// One cut needs one link. The set has the others.
+/// One cut needs one link. An object behind the set has the others.
 #[test]
 fn links_end_at_their_maximum() {
     let with_links = |count: usize| {
         let mut store = all_cuts(1);
-        edit::replace(&mut store, 2, &vec![0; 300_000]);
+        let behind = edit::add(&mut store, &vec![0; 300_000]);
         let more = count as u32 - store.counts[2];
-        let rows = (0..more).flat_map(|position| [2, position, 2, 2]);
+        let rows = (0..more).flat_map(|position| [behind, position, 2, 2]);
         store.links.extend(rows);
         store.counts[2] = count as u32;
         answer(&store)

@@ -45,7 +45,7 @@ const FORMATS: [u16; 2] = [0xFF25, 0x0108];
 fn sets() -> Store {
     let [format1, format2] = FORMATS;
     let set = [
-        3, 70, 1, 0xFFFF, 99, 0x8000, 70, 2, 2, 2, 2, 71, 3, 4, 99, 0x7FFF,
+        3, 69, 2, 2, 2, 2, 70, 1, 0xFFFF, 99, 0x8000, 71, 3, 4, 99, 0x7FFF,
     ];
     store(
         &[
@@ -53,14 +53,14 @@ fn sets() -> Store {
             &[1, 4, 5, 7, 8, 9],
             &set,
             &[0],
-            &[2, 70, 0, 0, 0, 0],
+            &[1, 71, 0, 0, 0, 0],
         ],
-        &[[0, 2, 1], [0, 10, 2], [0, 12, 4], [2, 8, 3]],
+        &[[0, 2, 1], [0, 10, 2], [0, 12, 4], [2, 18, 3]],
     )
 }
 
 #[test]
-fn the_first_record_with_the_second_glyph() {
+fn the_record_with_the_second_glyph() {
     let first = [1, 0, -1, 0, 0, 4, 0, 0];
     let second = [0, 0, 0, -32_768, 0, 0, 0, 0];
     assert_eq!(read(&sets(), 5, 70), found(first, second));
@@ -76,13 +76,13 @@ fn no_pair_in_sets() {
     }
 }
 
-/// A set of one byte has no pairs. A link between two slots is at neither.
+/// A set of no records has no pairs. A link between two slots is at neither.
 #[test]
-fn no_pair_in_a_byte_or_beside_a_slot() {
-    let mut byte = sets();
-    let object = byte.push_object(&[0]);
-    byte.push_link(0, 14, object);
-    assert_eq!(read(&byte, 8, 0), NOTHING);
+fn no_pair_in_an_empty_set_or_beside_a_slot() {
+    let mut empty = sets();
+    let object = empty.push_object(&[0, 0]);
+    empty.push_link(0, 14, object);
+    assert_eq!(read(&empty, 8, 0), NOTHING);
     let mut beside = store(
         &[&[1, 0, 0, 0, 2, 0, 0], &[1, 2, 5, 6], &[1, 70]],
         &[[0, 2, 1]],
@@ -94,15 +94,49 @@ fn no_pair_in_a_byte_or_beside_a_slot() {
     assert_eq!(read(&beside, 6, 70), NOTHING);
 }
 
-/// The table as a pair set: one record, whose second glyph is the coverage's offset.
+/// The table as a pair set: one record, whose second glyph is the coverage's offset, and whose four fields
+/// are the rest.
 #[test]
 fn a_slot_may_lead_to_the_table() {
     let table = store(
-        &[&[1, 70, 4, 0, 1, 0], &[1, 1, 5]],
+        &[&[1, 70, 0x000F, 0, 1, 0], &[1, 1, 5]],
         &[[0, 2, 1], [0, 10, 0]],
     );
-    let advance = [0, 0, 4, 0, 0, 0, 0, 0];
-    assert_eq!(read(&table, 5, 70), found(advance, [0; 8]));
+    let values = [15, 0, 1, 0, 0, 0, 0, 0];
+    assert_eq!(read(&table, 5, 70), found(values, [0; 8]));
+}
+
+/// What stands at no slot is no pair set, and needs not be sorted.
+#[test]
+fn unsorted_sets_are_refused_wherever_they_are_linked() {
+    let answer = |store: &Store| {
+        let glyphs = [5, 70];
+        assert_eq!(pair_agrees(&Archive, store, 0, glyphs), Ok(()));
+        Archive.read_pair(store, 0, glyphs, &mut Pair::default())
+    };
+    let unsorted = |words: &[u16]| {
+        let mut store = sets();
+        let object = store.push_object(&bytes(words.iter().copied()));
+        store.push_link(0, 14, object);
+        store
+    };
+    assert_eq!(answer(&unsorted(&[0])), 0);
+    assert_eq!(answer(&unsorted(&[2, 8, 0, 0, 0, 0, 9, 0, 0, 0, 0])), 0);
+    assert_eq!(answer(&unsorted(&[2, 9, 0, 0, 0, 0, 9, 0, 0, 0, 0])), 11);
+    assert_eq!(answer(&unsorted(&[2, 9, 0, 0, 0, 0, 8, 0, 0, 0, 0])), 11);
+    assert_eq!(answer(&unsorted(&[0, 0])), 11);
+    assert_eq!(answer(&unsorted(&[1, 9, 0, 0, 0])), 11);
+    assert_eq!(answer(&unsorted(&[])), 11);
+    let mut beside = sets();
+    beside.push_link(0, 13, 0);
+    assert_eq!(answer(&beside), 0);
+    // Last of all: too few covered glyphs come before it.
+    let both = |coverage: &[u16]| {
+        let objects: [&[u16]; 3] = [&[1, 0, 0, 0, 2, 0, 0], coverage, &[0, 0]];
+        store(&objects, &[[0, 2, 1], [0, 10, 2]])
+    };
+    assert_eq!(answer(&both(&[1, 1, 5])), 5);
+    assert_eq!(answer(&both(&[1, 2, 5, 6])), 11);
 }
 
 /// Two rows of three columns. Glyphs 5, 6 and 7 have classes 0, 1 and 2, and 70 has class 2.

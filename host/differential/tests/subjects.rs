@@ -2,12 +2,13 @@
 
 use differential::{
     check::{
-        all_agree, attachment_agrees, marks_agree, marks_as_the_oracle, pair_agrees, plan_agrees,
-        split_agrees, Split,
+        all_agree, attachment_agrees, entered, lookups_agree, marks_agree, marks_as_the_oracle,
+        pair_agrees, plan_agrees, split_agrees, Split,
     },
     edit, generate,
     lend::{self, Need},
-    Attachment, Call, MarkSubject, Marks, Model, Pair, Random, Subject, Tally,
+    Attachment, Call, InLookups, LookupSubject, MarkSubject, Marks, Model, Pair, Random, Subject,
+    Tally,
 };
 use oracle::Store;
 
@@ -59,6 +60,12 @@ impl MarkSubject for Wrong {
     }
 }
 
+impl LookupSubject for Wrong {
+    fn split_in_lookups(&self, call: &mut Call<u32>) -> u32 {
+        (self.0)(call, |call| Model.split_in_lookups(call))
+    }
+}
+
 fn move_last_place(call: &mut Call<u16>) {
     if let Some(place) = call.list[..call.count as usize].last_mut() {
         *place += 1;
@@ -79,6 +86,13 @@ fn mark_calls() -> impl Iterator<Item = Call<u32>> {
     cut.map(|case| lend::marks_amply(&case.store, case.table, &mut Random::new(0)))
 }
 
+/// Splits of PairPos tables that are cut more than once, in lookups.
+fn lookup_calls() -> impl Iterator<Item = Call<u32>> {
+    let calls = (0..80)
+        .map(|seed| lend::in_lookups_amply(&generate::lookups(seed), &mut Random::new(seed)));
+    calls.filter(|call| Need::of(&call.store, call.table).list > 1)
+}
+
 fn assert_found(wrong: Way) {
     for call in calls() {
         assert!(split_agrees(&Wrong(wrong), &call).is_err());
@@ -86,16 +100,22 @@ fn assert_found(wrong: Way) {
     for call in mark_calls() {
         assert!(marks_agree(&Wrong(wrong), &call).is_err());
     }
+    for call in lookup_calls() {
+        assert!(lookups_agree(&Wrong(wrong), &call).is_err());
+    }
 }
 
 #[test]
 fn the_model_agrees_with_itself() {
-    assert!(calls().count() > 20 && mark_calls().count() > 20);
+    assert!(calls().count() > 20 && mark_calls().count() > 20 && lookup_calls().count() > 20);
     for call in calls() {
         assert_eq!(all_agree(&Model, &call), Ok(()));
     }
     for call in mark_calls() {
         assert_eq!(marks_agree(&Model, &call), Ok(()));
+    }
+    for call in lookup_calls() {
+        assert_eq!(lookups_agree(&Model, &call), Ok(()));
     }
 }
 
@@ -207,6 +227,49 @@ fn what_is_not_the_oracles_is_found() {
             let mut split = split.clone();
             change(&mut split);
             assert!(found(&split));
+        }
+    }
+}
+
+/// A link that still leads to an old lookup, a new lookup's other flag, its last subtable another one, and
+/// its other count.
+#[test]
+fn what_is_not_entered_is_found() {
+    let wrong: [fn(&mut Split); 4] = [
+        |split| {
+            let old = split.before.store.links_in_use().to_vec();
+            let rows = split.after.store.links.as_chunks_mut::<4>().0;
+            let now = |row: &[u32; 4]| old.iter().find(|it| it[..2] == row[..2] && it != &row);
+            let row = rows
+                .iter_mut()
+                .find(|row| row[0] != split.before.table && now(row).is_some());
+            let row = row.unwrap();
+            *row = *now(row).unwrap();
+        },
+        |split| {
+            let new = split.after.store.counts[1] - 1;
+            let flag = edit::bytes(&split.after.store, new)[2];
+            edit::set_word(&mut split.after.store, new, 2, u16::from(!flag));
+        },
+        |split| {
+            let last = 4 * split.after.store.counts[2] as usize - 1;
+            split.after.store.links[last] ^= 1;
+        },
+        |split| {
+            let lookup = edit::child_at(&split.after.store, split.before.lookup_list, 2);
+            let lookup = lookup.unwrap_or(split.before.lookup_list);
+            let count = edit::bytes(&split.after.store, lookup)[5];
+            edit::set_word(&mut split.after.store, lookup, 4, u16::from(!count));
+        },
+    ];
+    for call in lookup_calls() {
+        let split = Split::by(&InLookups(&Model), &call);
+        let found = |split: &Split| entered(&Model, split, &mut Tally::default()).is_err();
+        assert!(!found(&split));
+        for (way, change) in wrong.iter().enumerate() {
+            let mut split = split.clone();
+            change(&mut split);
+            assert!(found(&split), "{way}");
         }
     }
 }

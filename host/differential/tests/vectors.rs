@@ -26,8 +26,12 @@ fn all_that_is_to_be_replayed_occurs() {
     let sample = sample();
     let tally = &sample.tally;
     let [found, with_device] = sample.pairs_found;
+    println!("{} bytes\n{}", sample.input.len(), sample.output);
     assert!(sample.input.len() <= 220_000);
-    assert!(sample.kinds.iter().all(|&count| count > 0));
+    let of_lookups = 9..11;
+    for (kind, &count) in sample.kinds.iter().enumerate() {
+        assert_eq!(count == 0, of_lookups.contains(&kind), "{kind}");
+    }
     assert!(tally.cut_counts[..5].iter().all(|&count| count > 0));
     assert!(tally.at_limit.iter().all(|&count| count > 1));
     assert!(tally.cuts_at_0 > 1);
@@ -39,4 +43,22 @@ fn all_that_is_to_be_replayed_occurs() {
     assert!(marks.at_limit[1] > 0 && marks.at_limit[2] > 0 && marks.cuts_at_0 > 1);
     assert!(marks.differences.iter().all(|&count| count > 0));
     assert!(sample.marks > 40 && sample.attachments_found > 40);
+}
+
+/// Of new tables that are entered in lookups: each refusal, no cut up to many, and a program could read it.
+#[test]
+fn all_that_is_to_be_replayed_of_lookups_occurs() {
+    let sample = vectors::lookup_sample().unwrap_or_else(|reason| panic!("{reason}"));
+    println!("{} bytes\n{}", sample.input.len(), sample.output);
+    assert!(sample.input.len() <= 120_000);
+    assert!(
+        sample.kinds.iter().all(|&count| count > 0),
+        "{:?}",
+        sample.kinds
+    );
+    assert!(sample.tally.cut_counts[..4].iter().all(|&count| count > 0));
+    assert!(sample.tally.rewritten > 5);
+    assert!(sample
+        .output
+        .contains(&format!("cases of lookups: {}", sample.in_lookups)));
 }

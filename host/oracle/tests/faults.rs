@@ -175,6 +175,31 @@ fn short_coverage_fails_after_sets_were_moved() {
     assert_eq!(graph.vertex_data(TABLE).unwrap()[8..10], [0, 5]);
 }
 
+/// Answer 11: no record is ever read. An unsorted set, one with a second glyph twice, one a byte too long,
+/// one a byte short, and one too short for a count are moved as they are.
+#[test]
+fn a_set_that_is_not_sorted_is_split_unread() {
+    let sets = [
+        words([2, 20, 5, 10, 7]),
+        words([2, 20, 5, 20, 7]),
+        [words([1, 20, 5]), vec![0]].concat(),
+        vec![0, 1, 0, 20, 0],
+        vec![0],
+    ];
+    for set_bytes in sets {
+        let mut store = format1_slots(&[10, 20], 2);
+        let large = store.push_object(&[0; 65_518]);
+        let set = store.push_object(&set_bytes);
+        store.push_link(TABLE, 10, large);
+        store.push_link(TABLE, 12, set);
+        let split = split(&store, TABLE).unwrap();
+        assert_eq!(split.cuts, [0, 1]);
+        let new_table = split.new_tables[1];
+        assert_eq!(links(&split.graph, new_table)[1], (10, set));
+        assert_eq!(split.graph.vertex_data(set), Some(&set_bytes[..]));
+    }
+}
+
 /// Answer 7. The kept table ends at 14.
 #[test]
 fn a_link_at_no_slot_is_left_past_the_kept_tables_end() {

@@ -3,35 +3,50 @@
 use crate::{
     kit::Kit,
     remove,
+    sources::needs_of,
     tell::{done, fail, Teller},
     ARCHIVE, CRATE,
 };
 use std::{
+    fs,
     io::{BufRead, BufReader, Read},
     path::{Path, PathBuf},
     process::{Command, Stdio},
     thread,
 };
 
-/// Proves the library in a folder, and gives its archive there.
+/// Proves the library in a folder, which is one of so many crates, and gives its archive there.
 pub fn prove(folder: &Path, kit: &Kit, crates: usize) -> PathBuf {
     let mut teller = Teller::new();
-    teller.say("Proving", &format!("{CRATE} by {}", kit.identity));
+    let what = format!(
+        "{CRATE} and what it needs, {crates} crates, by {}",
+        kit.identity
+    );
+    teller.say("Proving", &what);
     let archive = folder.join("target/staticlib").join(ARCHIVE);
     remove(&archive);
+    // What it needs comes first: crates that need nothing of each other are proved side by side.
+    let list = done(fs::read_to_string(folder.join("crates.txt")), "crates.txt");
+    let needs = needs_of(&list, CRATE);
     let mut count = 0;
-    // Crates that need nothing of each other are proved side by side.
-    run(folder, kit, "check", &mut |line| {
-        let Some((name, how)) = proved(line) else {
-            return;
-        };
-        count += 1;
-        if !how.contains("unchanged") {
-            teller.say("Proved", &format!("{name} {how}, {count} of {crates}"));
-        }
-    });
-    teller.say("Writing", ARCHIVE);
-    run(folder, kit, "staticlib", &mut |_| {});
+    if !needs.is_empty() {
+        run(
+            folder,
+            kit,
+            &[&["check"], &needs[..]].concat(),
+            &mut |line| {
+                let Some((name, how)) = proved(line) else {
+                    return;
+                };
+                count += 1;
+                if !how.contains("unchanged") {
+                    teller.say("Proved", &format!("{name} {how}, {count} of {crates}"));
+                }
+            },
+        );
+    }
+    teller.say("Proving", &format!("{CRATE}, and writing {ARCHIVE}"));
+    run(folder, kit, &["staticlib", CRATE], &mut |_| {});
     archive
 }
 
@@ -41,10 +56,10 @@ fn proved(line: &str) -> Option<(&str, &str)> {
 }
 
 /// Runs a command of the kit, and shows its lines as they come.
-fn run(folder: &Path, kit: &Kit, command: &str, show: &mut dyn FnMut(&str)) {
-    let what = format!("rt {command} {CRATE}");
+fn run(folder: &Path, kit: &Kit, words: &[&str], show: &mut dyn FnMut(&str)) {
+    let what = format!("rt {}", words.join(" "));
     let child = Command::new(&kit.rt)
-        .args([command, CRATE])
+        .args(words)
         .current_dir(folder)
         .stdin(Stdio::null())
         .stdout(Stdio::piped())

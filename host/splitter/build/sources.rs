@@ -76,22 +76,27 @@ fn files_of(top: &Path, folder: &Path, files: &mut Vec<PathBuf>) -> io::Result<(
     Ok(())
 }
 
-/// A crate and all that it needs, as `crates.txt` lists them: `NAME: DEP DEP ..`.
+/// A crate and all that it needs.
 pub fn crates_of(root: &Path, wanted: &str) -> BTreeSet<String> {
     let list = done(fs::read_to_string(root.join("crates.txt")), "crates.txt");
+    let mut found = BTreeSet::new();
+    let mut next = vec![wanted];
+    while let Some(name) = next.pop() {
+        if found.insert(name.to_string()) {
+            next.extend(needs_of(&list, name));
+        }
+    }
+    found
+}
+
+/// What a crate needs itself, of the crates that are listed: `NAME: DEP DEP ..`.
+pub fn needs_of<'a>(list: &'a str, name: &str) -> Vec<&'a str> {
     let lines = list
         .lines()
         .map(|line| line.split('#').next().unwrap_or(""));
     let lines: Vec<(&str, &str)> = lines.filter_map(|line| line.split_once(':')).collect();
-    let mut found = BTreeSet::new();
-    let mut next = vec![wanted];
-    while let Some(name) = next.pop() {
-        let line = lines.iter().find(|(listed, _)| listed.trim() == name);
-        if let Some((_, needs)) = line {
-            if found.insert(name.to_string()) {
-                next.extend(needs.split_whitespace());
-            }
-        }
-    }
-    found
+    let is_listed = |need: &&str| lines.iter().any(|(listed, _)| listed.trim() == *need);
+    let line = lines.iter().find(|(listed, _)| listed.trim() == name);
+    let needs = line.map_or("", |(_, needs)| needs).split_whitespace();
+    needs.filter(is_listed).collect()
 }

@@ -2,7 +2,10 @@
 
 use splitter::{cut_plan, read_pair, split, Refusal, Scratch, Store};
 
-/// The glyph that each set has a pair with.
+/// The second glyphs of each set: those below this.
+const SECONDS: u16 = 6_250;
+
+/// The one that is shown.
 const SECOND: u16 = 70;
 
 fn main() -> Result<(), Refusal> {
@@ -11,9 +14,9 @@ fn main() -> Result<(), Refusal> {
     let coverage = store.add_object(&words(&[1, 5, 10, 11, 12, 13, 14]))?;
     store.add_link(table, 2, coverage)?;
     for set in 0..5 {
-        let mut bytes = words(&[1, SECOND, 100 + set]);
-        bytes.resize(25_000, 0);
-        let pair_set = store.add_object(&bytes)?;
+        let pairs = (0..SECONDS).flat_map(|second| [second, 100 + set]);
+        let pairs: Vec<u16> = [SECONDS].into_iter().chain(pairs).collect();
+        let pair_set = store.add_object(&words(&pairs))?;
         store.add_link(table, 10 + 2 * u32::from(set), pair_set)?;
     }
 

@@ -18,6 +18,7 @@ mod font;
 mod help;
 mod json;
 mod look;
+mod lookups;
 mod mark;
 mod outcome;
 mod pair;

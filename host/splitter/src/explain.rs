@@ -9,6 +9,7 @@ mod lent;
 mod links;
 mod parts;
 mod room;
+mod sets;
 mod soundness;
 mod table;
 
@@ -120,7 +121,8 @@ const BEFORE_FORMAT: &[Check] = &[
     (Refusal::BadTable, table::without_format),
 ];
 
-/// The checks of a table whose format is split, in order.
+/// The checks of a table whose format is split, in order. A later answer is a line in its place, and what
+/// finds its fault.
 const OF_FORMAT: &[Check] = &[
     (Refusal::BadTable, table::length),
     (Refusal::BadParts, parts::fault),
@@ -128,6 +130,7 @@ const OF_FORMAT: &[Check] = &[
     (Refusal::ShortScratch, lent::short_scratch),
     (Refusal::BadLinks, links::at_no_slot),
     (Refusal::BadLinks, links::way_back),
+    (Refusal::UnsortedSets, sets::unsorted),
     (Refusal::NoRoom, room::short),
 ];
 

@@ -39,7 +39,7 @@ pub use error::FontError;
 pub use lookups::{Lookups, Subtable};
 pub use marks::load_marks;
 pub use pairs::load_pairs;
-pub use tables::{FontTable, FontTables, Listed};
+pub use tables::{FontTable, FontTables, Listed, OfKind};
 
 use crate::{Kind, Store};
 

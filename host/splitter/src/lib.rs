@@ -2,8 +2,9 @@
 //!
 //! A table that is too large is cut into several that fit: for which the rule counts at most 65,535
 //! bytes, of the table, all that its items lead to, each object once, and its coverage and class
-//! definitions, of which in format 2 of pairs the largest is left out. It is a count and no layout, and
-//! an item that is too large by itself stays so.
+//! definitions, of which in format 2 of pairs the largest is left out. It is a count and no layout. An item
+//! that is too large by itself stays so, and what the item at a cut shares with those before it is not
+//! counted for the new table.
 //!
 //! A font's objects and the links between them stand in a [`Store`], or in buffers of the host's own
 //! as a [`StoreRef`] or [`StoreMut`]. Every call answers any input; where it cannot do what it is
@@ -18,6 +19,8 @@
 //! | see where it would be cut | [`cut_plan`] | [`cut_plan_marks`] |
 //! | the same, with a list of the host's own | [`cut_plan_into`] | [`cut_plan_marks_into`] |
 //! | read what a table says of two glyphs | [`read_pair`] | [`read_mark`] |
+//! | split a table, and enter the new ones in the lookups that list it | [`split_in_lookups`] | |
+//! | the same, with a list of the host's own | [`split_in_lookups_into`] | |
 //!
 //! The first four are methods of [`Kind`] too, for a host that has tables of both kinds.
 //!
@@ -25,13 +28,15 @@
 //! |---|---|
 //! | know why a table is refused: what is at fault, where, and what should be there | [`explain()`] |
 //! | split tables of a graph of the host's own | [`split_graph`] |
+//! | read what a lookup says of two glyphs, by its subtables in order | [`apply_lookup`] |
 //! | keep a store in a file, for the command `splitter` | [`store_file`] |
 //! | take tables out of a font | [`Store::from_font`], [`font`] |
 //! | know which kit proved what is linked | [`provenance`] |
 //!
 //! # What is left to the host
 //!
-//! - The lookup must list the new tables, directly behind the old one and in order.
+//! - The lookup must list the new tables, directly behind the old one and in order: [`split_in_lookups`]
+//!   sees to that, of pair tables in lookups that are objects of the store too.
 //! - In format 2 of pairs the largest of the coverage and the two class definitions is packed last. In
 //!   order of object numbers a table can overflow: of 400 rows of 101 records with a class definition 2
 //!   of 3,006 bytes, the kept table's greatest offset is 67,732 by number and 65,482 in link order.
@@ -42,16 +47,16 @@
 //! ```
 //! use splitter::{cut_plan, read_pair, split, Refusal, Scratch, Store};
 //!
-//! // Format 1, glyphs 10, 20 and 30, and a pair set of 30,000 bytes for each: more than 65,535.
+//! // Format 1, glyphs 10, 20 and 30, and a pair set of 7,500 records for each: more than 65,535 bytes.
 //! let mut store = Store::new();
 //! let table = store.add_object(&[0, 1, 0, 0, 0, 4, 0, 0, 0, 3, 0, 0, 0, 0, 0, 0])?;
 //! let coverage = store.add_object(&[0, 1, 0, 3, 0, 10, 0, 20, 0, 30])?;
 //! store.add_link(table, 2, coverage)?;
 //! for slot in [10, 12, 14] {
-//!     // In front of glyph 70 each is 30 units narrower.
-//!     let mut bytes = vec![0, 1, 0, 70, 0xFF, 0xE2];
-//!     bytes.resize(30_000, 0);
-//!     let pair_set = store.add_object(&bytes)?;
+//!     // In front of any of 7,500 glyphs, which ascend, each is 30 units narrower.
+//!     let records = (0..7_500u16).flat_map(|second| [second, 0xFFE2]);
+//!     let words = [7_500].into_iter().chain(records);
+//!     let pair_set = store.add_object(&words.flat_map(u16::to_be_bytes).collect::<Vec<_>>())?;
 //!     store.add_link(table, slot, pair_set)?;
 //! }
 //!
@@ -73,6 +78,7 @@ pub mod explain;
 pub mod font;
 mod graph;
 mod kind;
+mod lookup;
 mod mark;
 mod need;
 mod pair;
@@ -82,16 +88,19 @@ pub mod raw;
 mod refusal;
 mod scratch;
 mod split;
+mod split_in_lookups;
 mod store;
 pub mod store_file;
 
 pub use explain::{explain, explain_marks, Explanation};
 pub use graph::{split_graph, split_marks_graph, GraphStore, ObjectGraph};
 pub use kind::Kind;
+pub use lookup::{apply_lookup, Lookup};
 pub use mark::{read_mark, Attachment};
 pub use pair::{read_pair, PairValues, Values};
 pub use plan::{cut_plan, cut_plan_into, cut_plan_marks, cut_plan_marks_into};
 pub use refusal::Refusal;
 pub use scratch::Scratch;
 pub use split::{split, split_into, split_marks, split_marks_into};
+pub use split_in_lookups::{split_in_lookups, split_in_lookups_into};
 pub use store::{Link, Room, Store, StoreMut, StoreRef};

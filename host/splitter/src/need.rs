@@ -37,6 +37,29 @@ impl Need {
         }
     }
 
+    /// The same, where the new tables are entered in the lookups of a list: each lookup for pairs that names
+    /// the table is written once more, with every new table at each of its listings.
+    pub fn in_lookups(store: StoreRef, list: u32, table: u32) -> Self {
+        let mut need = Self::of(Kind::Pairs, store, table);
+        let mut lookups: Vec<u32> = store.links_of(list).map(|link| link.child).collect();
+        lookups.sort_unstable();
+        lookups.dedup();
+        for lookup in lookups {
+            let bytes = store.object(lookup).unwrap_or_default();
+            let links = store.links_of(lookup);
+            let listings = store.links_of(lookup).filter(|link| link.child == table);
+            let listings = listings.count();
+            if word(bytes, 0) == usize::from(Kind::Pairs.lookup_type()) && listings > 0 {
+                need.each_cut.data += 2 * listings;
+                need.each_cut.links += listings;
+                need.once.data += bytes.len();
+                need.once.objects += 1;
+                need.once.links += links.len();
+            }
+        }
+        need
+    }
+
     /// The room for so many cuts. Of the data it may be more than is needed.
     pub fn room(&self, cuts: usize) -> Room {
         let Self { each_cut, once, .. } = self;

@@ -40,7 +40,9 @@ pub struct Values {
 /// # Errors
 ///
 /// [`Unsound`](Refusal::Unsound), [`NoTable`](Refusal::NoTable), [`BadTable`](Refusal::BadTable),
-/// [`BadParts`](Refusal::BadParts) and [`FewGlyphs`](Refusal::FewGlyphs), the first that applies.
+/// [`BadParts`](Refusal::BadParts), [`FewGlyphs`](Refusal::FewGlyphs) and
+/// [`UnsortedSets`](Refusal::UnsortedSets), the first that applies. The last is about all pair sets of the
+/// table.
 pub fn read_pair<'a>(
     store: impl Into<StoreRef<'a>>,
     table: u32,

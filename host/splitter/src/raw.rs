@@ -27,7 +27,7 @@ split_function! {
     ///
     /// The table keeps the items before the first cut. Each cut starts a new table: `new_tables` takes
     /// their numbers in order, from its first entry on, and `new_count` becomes how many there are. With
-    /// no cut, with a format other than 1 and 2, and where the answer is a refusal (1 to 8), `new_count`
+    /// no cut, with a format other than 1 and 2, and where the answer is a refusal, `new_count`
     /// becomes 0 and store and list stay as they were.
     ///
     /// What `data`, `objects` and `links` have beyond the counts is room. Of K cuts, format 1 needs
@@ -48,12 +48,25 @@ split_function! {
     split_markbasepos
 }
 
+split_function! {
+    /// Splits a PairPos table, and enters the new tables in each lookup of a list that names it.
+    ///
+    /// `list` is the number of a GPOS lookup list. It splits as [`split_pairpos`] does; then each lookup of
+    /// type 2 of the list that names the table becomes a new object, in which the new tables follow each
+    /// listing of the old one, and every link to the old lookup leads to the new one. With no cut nothing
+    /// changes. It refuses by 9 and 10 too.
+    ///
+    /// What it needs is what the split needs, and for each such lookup an object, its bytes and its links,
+    /// with two bytes and a link more for each new table at each listing.
+    split_in_lookups, list
+}
+
 plan_function! {
     /// Says where a PairPos table would be cut, and changes nothing of the store.
     ///
     /// `places` takes the cut places in order, from its first entry on, and `place_count` becomes how
-    /// many there are. Where the answer is a refusal (1 to 8) `place_count` becomes 0 and `places` stays as
-    /// it was: 1 to 7 are those of a split, and 8 means that `places` is too short.
+    /// many there are. Where the answer is a refusal `place_count` becomes 0 and `places` stays as it was: 1
+    /// to 7 and 11 are those of a split, and 8 means that `places` is too short.
     cut_plan
 }
 
@@ -70,7 +83,8 @@ read_function! {
     /// `values` becomes eight numbers for the first glyph and eight for the second: X placement,
     /// Y placement, X advance, Y advance, then their four devices, each as the number of the linked
     /// object plus one, or 0. `found` becomes 1 where there is a pair. Without one, and where the answer
-    /// is a refusal (1 to 5), `found` becomes 0 and all sixteen numbers 0.
+    /// is a refusal (1 to 5 and 11), `found` becomes 0 and all sixteen numbers 0. Every linked pair set of the
+    /// table is looked at.
     read_pair, first, second, values: [i32; 16]
 }
 

@@ -7,14 +7,17 @@ use std::{
 
 /// Why a call was refused. It changed nothing.
 ///
-/// Where several apply, the first is given.
+/// Where several apply, the first is given. [`explain`](crate::explain()) says what is at fault.
 #[derive(Clone, Copy, Debug, PartialEq, Eq, Hash)]
 #[non_exhaustive]
 pub enum Refusal {
     /// The store is not sound.
     Unsound = 1,
-    /// The table's number is not in use.
+    /// The table's number is not in use, or that of a lookup or a lookup list is not.
     NoTable = 2,
+    /// A lookup list, or a lookup, has not exactly its length or has a link at no slot; or no lookup for
+    /// pairs of the list names the table.
+    BadList = 9,
     /// The table has not the length that its header asks for.
     BadTable = 3,
     /// A coverage, a class definition or an array is not linked, or cannot be read.
@@ -26,20 +29,27 @@ pub enum Refusal {
     /// A link of the table, or of a mark or base array, stands at no slot, or the table can be reached from
     /// itself.
     BadLinks = 7,
+    /// A linked pair set has not exactly its length, or its second glyphs do not ascend.
+    UnsortedSets = 11,
+    /// A lookup would have more subtables than it can count.
+    ManySubtables = 10,
     /// There is no room for what would be written.
     NoRoom = 8,
 }
 
 impl Refusal {
     /// All of them, in the order in which they are looked for.
-    pub const ALL: [Self; 8] = [
+    pub const ALL: [Self; 11] = [
         Self::Unsound,
         Self::NoTable,
+        Self::BadList,
         Self::BadTable,
         Self::BadParts,
         Self::FewGlyphs,
         Self::ShortScratch,
         Self::BadLinks,
+        Self::UnsortedSets,
+        Self::ManySubtables,
         Self::NoRoom,
     ];
 
@@ -81,7 +91,14 @@ impl Display for Refusal {
                  position, name objects in use and lie, two bytes wide, within their parents"
             }
             Self::NoTable => {
-                "no object in use has the table's number: give a number below the count of objects"
+                "no object in use has the number of the table, the lookup or the lookup list: give a \
+                 number below the count of objects"
+            }
+            Self::BadList => {
+                "the lookup list or a lookup of it has not exactly its length or has a link at no slot, or \
+                 no lookup for pairs names the table: make the list 2 bytes and 2 for each lookup, a lookup 6 \
+                 bytes and 2 for each subtable, and 2 more with a mark filtering set, link their offsets \
+                 alone, and let a lookup of type 2 list the table"
             }
             Self::BadTable => {
                 "the table's length is not what its header asks for: make it 10 bytes and 2 for each \
@@ -105,6 +122,15 @@ impl Display for Refusal {
             Self::BadLinks => {
                 "a link of the table, or of its mark or base array, stands at no slot or leads back to \
                  the table: remove it"
+            }
+            Self::UnsortedSets => {
+                "a pair set has not exactly the length that its count asks for, or its second glyphs do not \
+                 ascend: make it 2 bytes and all its records, sort these by second glyph, and have each \
+                 second glyph once"
+            }
+            Self::ManySubtables => {
+                "a lookup would have more than 65,535 subtables: list the table less often, or in several \
+                 lookups"
             }
             Self::NoRoom => {
                 "there is no room for what would be written: lend more data, objects, links or result \

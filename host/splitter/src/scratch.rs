@@ -59,6 +59,33 @@ impl Scratch {
         Refusal::answered(answer).map(|()| count as usize)
     }
 
+    pub(crate) fn split_in_lookups(
+        &mut self,
+        store: StoreMut,
+        list: u32,
+        table: u32,
+        new_tables: &mut [u32],
+    ) -> Result<usize, Refusal> {
+        let need = Need::of(Kind::Pairs, store.view(), table);
+        let mut count = 0;
+        let answer = raw::split_in_lookups(
+            store.data,
+            store.objects,
+            store.links,
+            store.counts,
+            list,
+            table,
+            part(&mut self.walk, 2 * need.objects),
+            part(&mut self.glyph_set, GLYPH_SET),
+            part(&mut self.glyphs, need.glyphs),
+            part(&mut self.classes, need.glyphs),
+            part(&mut self.cuts, need.items),
+            new_tables,
+            &mut count,
+        );
+        Refusal::answered(answer).map(|()| count as usize)
+    }
+
     pub(crate) fn plan(
         &mut self,
         kind: Kind,

@@ -20,19 +20,10 @@ impl Kind {
         scratch: &mut Scratch,
     ) -> Result<Vec<u32>, Refusal> {
         let need = Need::of(self, store.view(), table);
-        let mut new_tables = vec![0; need.items];
-        let count = match self.split_into(&mut *store, table, scratch, &mut new_tables) {
-            Err(Refusal::NoRoom) => {
-                let cuts = self.cut_plan(&*store, table, scratch)?.len();
-                store.with_room(need.room(cuts), |store| {
-                    self.split_into(store, table, scratch, &mut new_tables)
-                })?
-            }
-            answer => answer?,
+        let split = |store: &mut Store, scratch: &mut Scratch, new_tables: &mut [u32]| {
+            self.split_into(store, table, scratch, new_tables)
         };
-        new_tables.truncate(count);
-        new_tables.shrink_to_fit();
-        Ok(new_tables)
+        split_growing(self, store, table, scratch, need, split)
     }
 
     /// Splits a table of this kind in a store that has what room it has. The list, which is lent, takes
@@ -51,6 +42,30 @@ impl Kind {
     ) -> Result<usize, Refusal> {
         scratch.split(self, store.into(), table, new_tables)
     }
+}
+
+/// Splits a table in a store that grows where it has no room.
+pub(crate) fn split_growing(
+    kind: Kind,
+    store: &mut Store,
+    table: u32,
+    scratch: &mut Scratch,
+    need: Need,
+    split: impl Fn(&mut Store, &mut Scratch, &mut [u32]) -> Result<usize, Refusal>,
+) -> Result<Vec<u32>, Refusal> {
+    let mut new_tables = vec![0; need.items];
+    let count = match split(store, scratch, &mut new_tables) {
+        Err(Refusal::NoRoom) => {
+            let cuts = kind.cut_plan(&*store, table, scratch)?.len();
+            store.with_room(need.room(cuts), |store| {
+                split(store, scratch, &mut new_tables)
+            })?
+        }
+        answer => answer?,
+    };
+    new_tables.truncate(count);
+    new_tables.shrink_to_fit();
+    Ok(new_tables)
 }
 
 /// Splits a PairPos table between pair sets or rows, and gives the new tables in order.

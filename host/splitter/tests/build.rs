@@ -17,7 +17,7 @@ case $1 in
 version) echo "rattle-kit-test logic 1" ;;
 check)
     grep -q wrong crates/*/src/lib.rt && { echo "rt: base NOT PROVED (exit 1, 1 s)"; exit 1; }
-    for crate in base splitter; do
+    for crate in ground base; do
         if [ -f target/stamp/$crate ]; then
             echo "rt: $crate proved (unchanged since it was last proved)"
         else
@@ -30,7 +30,7 @@ staticlib)
 esac
 "#;
 
-/// A repository of two crates, and a third that is not needed, with this library in it.
+/// A repository of three crates, and a fourth that is not needed, with this library in it.
 struct Repository {
     top: PathBuf,
 }
@@ -48,9 +48,10 @@ impl Repository {
         let top = Path::new(env!("CARGO_TARGET_TMPDIR")).join(name);
         let _ = fs::remove_dir_all(&top);
         let repository = Self { top };
-        repository.write("tree/crates.txt", "base:\nsplitter: base\nother: base\n");
+        let list = "ground:\nbase: ground io\nsplitter: base\nother: base # a comment: splitter\n";
+        repository.write("tree/crates.txt", list);
         repository.write("tree/kit.txt", "rattle-kit-test logic 1\n");
-        for name in ["base", "splitter", "other"] {
+        for name in ["ground", "base", "splitter", "other"] {
             repository.write(&format!("tree/crates/{name}/src/lib.rt"), "// nothing\n");
         }
         let workspace = "[workspace]\nresolver = \"2\"\nmembers = [\"splitter\"]\n";
@@ -148,7 +149,7 @@ fn list(folder: &Path, files: &mut BTreeMap<PathBuf, (u64, SystemTime)>) {
     }
 }
 
-const PROVES: &str = "version; check splitter; staticlib splitter; ";
+const PROVES: &str = "version; check base; staticlib splitter; ";
 
 /// The first build proves and says so, in cargo's own folder; the second does nothing at all; a file that
 /// was only touched is looked at, and one that is not needed too; one that has changed is proved.
@@ -160,10 +161,10 @@ fn what_is_proved_and_when() {
     assert!(built.succeeded, "{}", built.said);
     assert_eq!(built.asked, PROVES);
     for line in [
-        "     Proving splitter by rattle-kit-test logic 1\n",
-        "      Proved base (3 s), 1 of 2\n",
-        "      Proved splitter (3 s), 2 of 2\n",
-        "     Writing libsplitter.a\n",
+        "     Proving splitter and what it needs, 3 crates, by rattle-kit-test logic 1\n",
+        "      Proved ground (3 s), 1 of 3\n",
+        "      Proved base (3 s), 2 of 3\n",
+        "     Proving splitter, and writing libsplitter.a\n",
     ] {
         assert!(built.said.contains(line), "{}", built.said);
     }
@@ -191,12 +192,12 @@ fn what_is_proved_and_when() {
 #[test]
 fn proofs_are_taken_over() {
     let repository = Repository::new("seeds");
-    repository.write("tree/target/stamp/base", "a stamp\n");
-    repository.write("tree/target/rlib/base.rlib/interface/file", "a library\n");
+    repository.write("tree/target/stamp/ground", "a stamp\n");
+    repository.write("tree/target/rlib/ground.rlib/interface/file", "a library\n");
     let built = repository.build();
     assert!(built.succeeded, "{}", built.said);
-    assert!(!built.said.contains("Proved base"), "{}", built.said);
-    assert!(built.said.contains("Proved splitter (3 s), 2 of 2\n"));
+    assert!(!built.said.contains("Proved ground"), "{}", built.said);
+    assert!(built.said.contains("Proved base (3 s), 2 of 3\n"));
 }
 
 /// Another kit than the pinned one is named, and builds all the same.
@@ -241,7 +242,7 @@ fn what_ends_a_build() {
     repository.write("tree/crates/base/src/lib.rt", "// wrong\n");
     ends(&[
         "rt: base NOT PROVED",
-        "rt check splitter did not prove the library",
+        "rt check base did not prove the library",
     ]);
     // What was not proved is not taken for proved.
     ends(&["rt: base NOT PROVED"]);

@@ -29,12 +29,20 @@ fn the_sample() {
     assert!(plain.is_ascii());
     assert_eq!(plain.matches("Every pair reads as before").count(), 2);
     assert_eq!(plain.matches("Every attachment reads as before").count(), 1);
-    assert_eq!(plain.matches("3 tables in its place").count(), 3);
-    let titles = ["Sample 1 of 3", "Sample 2 of 3", "Sample 3 of 3"];
-    for (name, title) in ["sets", "rows", "marks"].into_iter().zip(titles) {
+    assert_eq!(
+        plain
+            .matches("Every pair of the lookup reads as before")
+            .count(),
+        1
+    );
+    assert_eq!(plain.matches("3 tables in its place").count(), 4);
+    assert_eq!(plain.matches(" lists 2 subtables: 0, ").count(), 1);
+    assert_eq!(plain.matches(" lists 4 subtables: 0, ").count(), 1);
+    let titles = [1, 2, 3, 4].map(|place| format!("Sample {place} of 4"));
+    for (name, title) in ["sets", "rows", "marks", "lookups"].into_iter().zip(titles) {
         let one = done(run!("sample", name));
         assert_eq!(one.matches("Sample ").count(), 1);
-        assert!(one.starts_with(title) && plain.contains(&one[..one.len() / 2]));
+        assert!(one.starts_with(&title) && plain.contains(&one[..one.len() / 2]));
     }
 }
 
@@ -67,11 +75,12 @@ fn from_samples_to_split_files() {
     let directory = Directory::new("samples");
     let samples = directory.file("in/here");
     let out = done(run!("sample", "-o", samples));
-    assert_eq!(out.matches("Wrote ").count(), 3);
+    assert_eq!(out.matches("Wrote ").count(), 4);
     for (name, read, glyphs, rows) in [
         ("sample1.krns", "pair", ["200", "90"], 9),
         ("sample2.krns", "pair", ["460", "300"], 9),
         ("sample3.krns", "mark", ["902", "405"], 5),
+        ("sample4.krns", "pair", ["200", "90"], 9),
     ] {
         let [first, second] = glyphs;
         let sample = samples.join(name);
@@ -123,7 +132,7 @@ fn a_split_in_place() {
     assert_eq!(fs::read(&file).unwrap(), before);
     let out = done(run!("split", file, "--in-place", "--check"));
     assert!(out.contains("Every pair reads as before: 3 first glyphs x 2 second glyphs"));
-    assert_eq!(read_store(&file).tables(), pairs(&[0, 5]));
+    assert_eq!(read_store(&file).tables(), pairs(&[0, 8]));
     assert_eq!(directory.names(), ["a.krns"]);
 }
 
@@ -143,7 +152,7 @@ fn tables_by_number() {
     );
     let out = done(run!("split", unlisted, "0", "-o", split));
     assert!(out.contains("It is cut at pair set 2: 2 tables in its place."));
-    assert_eq!(read_store(&split).tables(), pairs(&[0, 6]));
+    assert_eq!(read_store(&split).tables(), pairs(&[0, 9]));
 
     let number = other.to_string();
     let pair = done(run!("pair", unlisted, number, "10", "70"));
@@ -216,8 +225,8 @@ fn tables_of_both_kinds() {
     assert!(
         out.contains("It is cut at mark classes 1, 2") && out.contains("It is cut at pair set 2")
     );
-    let kinds = [offset, 14, 18].map(Table::marks).into_iter();
-    let tables: Vec<Table> = kinds.chain([0, 25].map(Table::pairs)).collect();
+    let kinds = [offset, 17, 21].map(Table::marks).into_iter();
+    let tables: Vec<Table> = kinds.chain([0, 28].map(Table::pairs)).collect();
     assert_eq!(read_store(&split).tables(), tables);
 }
 
@@ -315,6 +324,24 @@ fn refused_tables() {
     assert_eq!(directory.names(), ["a.krns"]);
 }
 
+/// A store that can be no larger: a plan tells the cuts, and a split what there is no room for.
+#[test]
+fn a_store_at_its_maxima() {
+    let directory = Directory::new("maxima");
+    let mut store = three_sets();
+    while store.view().counts()[1] < 65_535 {
+        store.add_object(&[]).unwrap();
+    }
+    let file = directory.store("a.krns", store, &[0]);
+    would_cut(run!("plan", file));
+    let fault =
+        "the room for new objects is 1; it must be at least 3, for what the split adds, and the \
+                 store can be no larger";
+    let output = directory.file("b.krns");
+    refused(run!("split", file, "-o", output), Refusal::NoRoom, fault);
+    assert_eq!(directory.names(), ["a.krns"]);
+}
+
 /// What is wrong with a store that is not sound is said, and it can be looked at.
 #[test]
 fn stores_that_are_not_sound() {
@@ -371,7 +398,9 @@ fn many_tables() {
     table.resize(105, 0);
     let coverage: Vec<u16> = [1, 100].into_iter().chain(0..100).collect();
     let mut store = store(&[&table, &coverage], &[[0, 2, 1]]);
-    let set = store.add_object(&[0; 65_535]).unwrap();
+    let pairs = (0..16_384).flat_map(|second| [second, 0]);
+    let pairs: Vec<u16> = [16_384].into_iter().chain(pairs).collect();
+    let set = store.add_object(&bytes(&pairs)).unwrap();
     for slot in 0..100 {
         store.add_link(0, 10 + 2 * slot, set).unwrap();
     }
@@ -469,7 +498,12 @@ fn a_font() {
         assert!(out.contains(found), "{out}");
         assert_eq!(out.matches("  none\n").count(), 4);
         assert!(out.contains("2        0  marks       1         82       2       2  none"));
-        assert!(out.contains("No table would be cut."));
+        let words: Vec<&str> = out.split_whitespace().collect();
+        assert!(words.join(" ").ends_with(
+            "No table would be cut. What is in a font fits its offsets already, so most tables \
+             have no cut places. But the rule counts whole parts, where an offset only has to \
+             reach the start of one: a table close to the limit can have them."
+        ));
         fits_the_terminal(&out[out.find('\n').unwrap()..]);
     }
     fs::write(&path, made::font(&[])).unwrap();
@@ -579,7 +613,7 @@ fn a_reader_that_goes_away() {
     split.stdout(writer).stderr(Stdio::piped());
     let ran = split.spawn().unwrap().wait_with_output().unwrap();
     assert_eq!((ran.status.code(), &ran.stderr[..]), (Some(0), &b""[..]));
-    assert_eq!(read_store(&output).tables(), pairs(&[0, 5]));
+    assert_eq!(read_store(&output).tables(), pairs(&[0, 8]));
 }
 
 #[test]

@@ -51,6 +51,16 @@ fn marks_in_cpp() {
     compile_and_run("marks", "c++");
 }
 
+#[test]
+fn lookups_in_c() {
+    compile_and_run("lookups", "c");
+}
+
+#[test]
+fn lookups_in_cpp() {
+    compile_and_run("lookups", "c++");
+}
+
 /// The header's numbers are the library's.
 #[test]
 fn numbers() {

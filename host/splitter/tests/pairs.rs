@@ -2,7 +2,7 @@
 
 mod common;
 
-use common::{bytes, store};
+use common::{bytes, one_set, store, UNSORTED};
 use splitter::{read_pair, PairValues, Refusal, Store, StoreMut, StoreRef, Values};
 
 /// X placement, X advance and the device of Y placement; then Y advance. High bits are ignored.
@@ -12,13 +12,13 @@ const FORMATS: [u16; 2] = [0xFF25, 0x0108];
 fn sets() -> Store {
     let [format1, format2] = FORMATS;
     let set = [
-        3, 70, 1, 0xFFFF, 99, 0x8000, 70, 2, 2, 2, 2, 71, 3, 4, 99, 0x7FFF,
+        3, 69, 2, 2, 2, 2, 70, 1, 0xFFFF, 99, 0x8000, 71, 3, 4, 99, 0x7FFF,
     ];
     let table = [1, 0, format1, format2, 3, 0, 0, 0];
-    let short = [2, 70, 0, 0, 0, 0];
+    let empty = [0];
     store(
-        &[&table, &[1, 3, 5, 7, 8], &set, &[0], &short],
-        &[[0, 2, 1], [0, 10, 2], [0, 12, 4], [2, 8, 3]],
+        &[&table, &[1, 3, 5, 7, 8], &set, &[0], &empty],
+        &[[0, 2, 1], [0, 10, 2], [0, 12, 4], [2, 18, 3]],
     )
 }
 
@@ -34,7 +34,7 @@ fn rows() -> Store {
 }
 
 #[test]
-fn the_first_record_with_the_second_glyph() {
+fn the_record_with_the_second_glyph() {
     let first = Values {
         x_placement: 1,
         x_advance: -1,
@@ -63,7 +63,7 @@ fn the_record_of_both_classes() {
     assert_eq!(read_pair(&rows(), 0, 6, 70), Ok(Some(pair)));
 }
 
-/// A glyph that is not covered, one that no record has, a set too short for its count, an empty slot.
+/// A glyph that is not covered, one that no record has, a set of no records, an empty slot.
 #[test]
 fn no_pair_in_sets() {
     for (first, second) in [(4, 70), (5, 72), (7, 70), (8, 70)] {
@@ -94,6 +94,13 @@ fn refusals() {
     assert_eq!(table(&[1, 0, 0, 0, 0]), Err(Refusal::BadParts));
     let few = store(&[&[1, 0, 0, 0, 2, 0, 0], &[1, 1, 5]], &[[0, 2, 1]]);
     assert_eq!(read_pair(&few, 0, 5, 70), Err(Refusal::FewGlyphs));
+    // Of any glyph, covered or not.
+    for set in UNSORTED {
+        for first in [10, 11] {
+            let pair = read_pair(&one_set(set), 0, first, 70);
+            assert_eq!(pair, Err(Refusal::UnsortedSets));
+        }
+    }
 }
 
 /// Buffers of the host's own, read as lent for reading and as lent for a split.

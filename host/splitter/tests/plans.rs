@@ -2,7 +2,7 @@
 
 mod common;
 
-use common::{format1, store, w12, w7};
+use common::{format1, one_set, store, w12, w7, UNSORTED};
 use splitter::{cut_plan, cut_plan_into, Refusal, Scratch, Store, StoreMut, StoreRef};
 
 #[test]
@@ -66,6 +66,9 @@ fn refusals() {
         store.add_link(parent, position, child).unwrap();
         refused(&store, 0, Refusal::BadLinks);
     }
+    for set in UNSORTED {
+        refused(&one_set(set), 0, Refusal::UnsortedSets);
+    }
 }
 
 /// Buffers of the host's own, lent for reading and for a split.
@@ -96,7 +99,7 @@ fn scratch_has_an_end() {
 #[test]
 fn scratch_is_kept() {
     let mut scratch = Scratch::new();
-    for lengths in [&[40_000; 2][..], &[5_000; 200], &[1; 3], &[65_535; 5]] {
+    for lengths in [&[40_000; 2][..], &[5_000; 200], &[6; 3], &[65_535; 5]] {
         let store = format1(lengths);
         let fresh = cut_plan(&store, 0, &mut Scratch::new());
         assert_eq!(cut_plan(&store, 0, &mut scratch), fresh);

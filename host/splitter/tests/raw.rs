@@ -2,7 +2,7 @@
 
 mod common;
 
-use common::{cut_marks, w7};
+use common::{cut_marks, listed, w7, LIST};
 use splitter::{raw, Kind, Room, Store};
 
 /// An empty slice is a store of nothing, wherever its pointer leads.
@@ -37,6 +37,23 @@ fn nothing_at_all() {
             );
             assert_eq!((answer, after, count), (expected, counts, 0));
         }
+        let (mut after, mut count) = (counts, 7);
+        let answer = raw::split_in_lookups(
+            &mut [],
+            &mut [],
+            &mut [],
+            &mut after,
+            u32::MAX,
+            u32::MAX,
+            &mut [],
+            &mut [],
+            &mut [],
+            &mut [],
+            &mut [],
+            &mut [],
+            &mut count,
+        );
+        assert_eq!((answer, after, count), (expected, counts, 0));
         for cut_plan in [raw::cut_plan, raw::cut_plan_markbasepos] {
             let mut count = 7;
             let answer = cut_plan(
@@ -199,6 +216,56 @@ fn split(known: &Known, lengths: [usize; 5]) -> u32 {
 
 fn with_scratch(known: &Known, lengths: [usize; 5]) -> [u32; 2] {
     [split(known, lengths), plan(known, lengths)]
+}
+
+/// The answer of a split that enters new tables in lookups, with exact room.
+fn split_listed(lengths: [usize; 5], list: u32) -> u32 {
+    let (mut store, room) = listed();
+    store.reserve(room);
+    let before = store.clone();
+    let (mut data, mut objects, mut links, mut counts) = store.into_parts();
+    let mut scratch = Scratch::new(lengths);
+    let [glyphs, classes, cuts] = &mut scratch.others;
+    let (mut new_tables, mut count) = ([77; 3], 77);
+    let answer = raw::split_in_lookups(
+        &mut data,
+        &mut objects,
+        &mut links,
+        &mut counts,
+        list,
+        0,
+        &mut scratch.walk,
+        &mut scratch.glyph_set,
+        glyphs,
+        classes,
+        cuts,
+        &mut new_tables,
+        &mut count,
+    );
+    let listed: &[u32] = if answer == 0 { &[9] } else { &[] };
+    assert_eq!(
+        (new_tables, count as usize),
+        (self::list(listed), listed.len())
+    );
+    assert!(scratch.is_zero());
+    let after = Store::from_parts(data, objects, links, counts).unwrap();
+    assert_eq!(after == before, answer != 0);
+    answer
+}
+
+/// A list that is none is refused before a scratch is looked at.
+#[test]
+fn scratch_at_its_edge_in_lookups() {
+    let enough = [18, 8_192, 3, 3, 3];
+    assert_eq!(split_listed(enough, LIST), 0);
+    for short in 0..5 {
+        let mut lengths = enough;
+        lengths[short] -= 1;
+        assert_eq!(split_listed(lengths, LIST), 6);
+        assert_eq!(split_listed(lengths, 0), 9);
+    }
+    assert_eq!(split_listed([0; 5], LIST), 6);
+    assert_eq!(split_listed([0; 5], 0), 9);
 }
 
 /// Exactly enough, more, one short of each, and none.

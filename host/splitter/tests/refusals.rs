@@ -5,22 +5,26 @@ use std::{collections::HashSet, error::Error};
 
 #[test]
 fn numbers_and_names() {
-    let names = [
-        "Unsound",
-        "NoTable",
-        "BadTable",
-        "BadParts",
-        "FewGlyphs",
-        "ShortScratch",
-        "BadLinks",
-        "NoRoom",
+    let answers = [
+        (1, "Unsound"),
+        (2, "NoTable"),
+        (9, "BadList"),
+        (3, "BadTable"),
+        (4, "BadParts"),
+        (5, "FewGlyphs"),
+        (6, "ShortScratch"),
+        (7, "BadLinks"),
+        (11, "UnsortedSets"),
+        (10, "ManySubtables"),
+        (8, "NoRoom"),
     ];
-    for ((refusal, name), number) in Refusal::ALL.into_iter().zip(names).zip(1..) {
+    assert_eq!(Refusal::ALL.len(), answers.len());
+    for (refusal, (number, name)) in Refusal::ALL.into_iter().zip(answers) {
         assert_eq!(refusal.number(), number);
         assert_eq!(Refusal::from_number(number), Some(refusal));
         assert_eq!(format!("{refusal:?}"), name);
     }
-    assert_eq!([0, 9, u32::MAX].map(Refusal::from_number), [None; 3]);
+    assert_eq!([0, 12, u32::MAX].map(Refusal::from_number), [None; 3]);
 }
 
 /// What is wrong, and then what to do.
@@ -32,7 +36,7 @@ fn sentences() {
         assert!(!sentence.ends_with('.') && !sentence.contains(['\n', '\t']));
         assert!(!sentence.contains("  "));
     }
-    assert_eq!(HashSet::from(sentences).len(), 8);
+    assert_eq!(HashSet::from(sentences).len(), Refusal::ALL.len());
     let error: Box<dyn Error> = Refusal::NoRoom.into();
     assert!(error.source().is_none());
 }

@@ -2,7 +2,7 @@
 
 mod common;
 
-use common::{bytes, format1, store, w12, w7};
+use common::{bytes, format1, one_set, store, w12, w7, UNSORTED};
 use splitter::{read_pair, split, split_into, Refusal, Room, Scratch, Store, StoreMut};
 
 /// What is in use of a store: bytes of objects, and links.
@@ -70,7 +70,7 @@ fn nothing_to_split() {
         assert_eq!(after, before);
     }
     let mut past = format1(&[65_518]);
-    assert_eq!(split(&mut past, 0, &mut scratch), Ok(vec![3]));
+    assert_eq!(split(&mut past, 0, &mut scratch), Ok(vec![4]));
     assert_eq!(past.view().object(0).unwrap().len(), 10);
 }
 
@@ -185,6 +185,9 @@ fn refusals_change_nothing() {
         store.add_link(parent, position, child).unwrap();
         refused(store, 0, Refusal::BadLinks);
     }
+    for set in UNSORTED {
+        refused(one_set(set), 0, Refusal::UnsortedSets);
+    }
 }
 
 /// Buffers of the host's own: refused, and then split as an owned store is.
@@ -213,7 +216,7 @@ fn lent_buffers() {
 #[test]
 fn scratch_is_kept() {
     let mut scratch = Scratch::new();
-    for lengths in [&[40_000; 2][..], &[5_000; 200], &[1; 3], &[65_535; 5]] {
+    for lengths in [&[40_000; 2][..], &[5_000; 200], &[6; 3], &[65_535; 5]] {
         let (mut kept, mut fresh) = (format1(lengths), format1(lengths));
         let tables = split(&mut kept, 0, &mut scratch);
         assert_eq!(tables, split(&mut fresh, 0, &mut Scratch::new()));

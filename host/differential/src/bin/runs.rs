@@ -1,17 +1,17 @@
 //! Runs of the splitter against the model and the oracle, over as many seeds as one likes.
 //!
 //! ```text
-//! runs --seeds A..B [--subject archive|model] [--kind pairs|marks] [--format 1|2]
+//! runs --seeds A..B [--subject archive|model] [--kind pairs|marks|lookups] [--format 1|2]
 //! ```
 //!
-//! Each seed makes a store of each format of PairPos, or one with a MarkBasePos table, which is split
-//! whole and damaged. The first difference ends the run, with the seed. Otherwise it ends with how
+//! Each seed makes a store of each format of PairPos, or one with a MarkBasePos table, or one with a
+//! PairPos table in lookups, which is split whole and damaged. The first difference ends the run, with the seed. Otherwise it ends with how
 //! often each case occurred.
 
 use differential::{
     check::Outcome,
-    generate::{self, Case},
-    runs, Archive, MarkSubject, Model, Subject, Tally,
+    generate::{self, Case, Listed},
+    runs, Archive, LookupSubject, MarkSubject, Model, Subject, Tally,
 };
 use std::{
     env,
@@ -22,7 +22,7 @@ use std::{
 };
 
 const USAGE: &str =
-    "runs --seeds A..B [--subject archive|model] [--kind pairs|marks] [--format 1|2]";
+    "runs --seeds A..B [--subject archive|model] [--kind pairs|marks|lookups] [--format 1|2]";
 
 /// How often it says how far it is.
 const PROGRESS: Duration = Duration::from_secs(5);
@@ -40,6 +40,7 @@ enum Kind {
     Format1,
     Format2,
     Marks,
+    Lookups,
 }
 
 fn main() -> ExitCode {
@@ -78,6 +79,7 @@ impl Args {
                 ("--subject", "model") => args.is_model = true,
                 ("--kind", "pairs") => args.kinds = &[Kind::Format1, Kind::Format2],
                 ("--kind", "marks") => args.kinds = &[Kind::Marks],
+                ("--kind", "lookups") => args.kinds = &[Kind::Lookups],
                 ("--format", "1") => args.kinds = &[Kind::Format1],
                 ("--format", "2") => args.kinds = &[Kind::Format2],
                 _ => return None,
@@ -87,7 +89,12 @@ impl Args {
     }
 }
 
-fn run(subject: &(impl Subject + MarkSubject), args: &Args) -> Outcome {
+/// Splits everything that is split.
+trait Whole: Subject + MarkSubject + LookupSubject {}
+
+impl<S: Subject + MarkSubject + LookupSubject> Whole for S {}
+
+fn run(subject: &impl Whole, args: &Args) -> Outcome {
     let start = Instant::now();
     let mut said = start;
     let mut tally = Tally::default();
@@ -113,16 +120,12 @@ fn run(subject: &(impl Subject + MarkSubject), args: &Args) -> Outcome {
 }
 
 /// The store of a seed, whole and damaged. A panic is a difference too.
-fn check(
-    subject: &(impl Subject + MarkSubject),
-    kind: Kind,
-    seed: u64,
-    tally: &mut Tally,
-) -> Outcome {
+fn check(subject: &impl Whole, kind: Kind, seed: u64, tally: &mut Tally) -> Outcome {
     let checked = catch_unwind(AssertUnwindSafe(|| match kind {
         Kind::Format1 => check_pairs(subject, &generate::format1(seed), seed, tally),
         Kind::Format2 => check_pairs(subject, &generate::format2(seed), seed, tally),
         Kind::Marks => check_marks(subject, &generate::marks(seed), seed, tally),
+        Kind::Lookups => check_lookups(subject, &generate::lookups(seed), seed, tally),
     }));
     checked.unwrap_or(Err("panicked".into()))
 }
@@ -135,6 +138,11 @@ fn check_pairs(subject: &impl Subject, case: &Case, seed: u64, tally: &mut Tally
 fn check_marks(subject: &impl MarkSubject, case: &Case, seed: u64, tally: &mut Tally) -> Outcome {
     runs::marks_whole(subject, case, seed, tally)?;
     runs::marks_damaged(subject, case, seed, tally)
+}
+
+fn check_lookups(subject: &impl Whole, case: &Listed, seed: u64, tally: &mut Tally) -> Outcome {
+    runs::lookups_whole(subject, case, seed, tally)?;
+    runs::lookups_damaged(subject, case, seed, tally)
 }
 
 fn rate(stores: u64, start: Instant) -> u64 {

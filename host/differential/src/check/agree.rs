@@ -1,7 +1,9 @@
 //! Against the model, to the last number.
 
 use super::{ensure, Outcome};
-use crate::{Attachment, Call, MarkSubject, Marks, Model, Pair, Splits, Subject};
+use crate::{
+    Attachment, Call, InLookups, LookupSubject, MarkSubject, Marks, Model, Pair, Splits, Subject,
+};
 use oracle::Store;
 use std::fmt::Debug;
 
@@ -18,6 +20,11 @@ pub fn marks_agree(subject: &impl MarkSubject, call: &Call<u32>) -> Outcome {
     splits_agree(&ours, &theirs, call)?;
     plans_agree(&ours, &theirs, &call.to_plan())?;
     attachment_agrees(subject, &call.store, call.table, [0, 0])
+}
+
+/// A split that enters new tables in lookups answers and leaves what the model's does.
+pub fn lookups_agree(subject: &(impl Subject + LookupSubject), call: &Call<u32>) -> Outcome {
+    splits_agree(&InLookups(subject), &InLookups(&Model), call)
 }
 
 /// A split answers and leaves what the model's does.

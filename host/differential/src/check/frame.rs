@@ -6,6 +6,11 @@ use oracle::Store;
 
 /// A split leaves scratch zero, and changes nothing but what it must.
 pub fn frame(split: &Split) -> Outcome {
+    frame_but_children(split, |child| child)
+}
+
+/// The same, but that links lead elsewhere: `now` says where a link leads that led to an object before.
+pub(super) fn frame_but_children(split: &Split, now: impl Fn(u32) -> u32) -> Outcome {
     let (before, after) = (&split.before, &split.after);
     let mut untouched = before.clone();
     untouched.scratch.clear();
@@ -21,7 +26,7 @@ pub fn frame(split: &Split) -> Outcome {
     let count = after.count as usize;
     same("list", &after.list[count..], &before.list[count..])?;
     rest_stays(&before.store, &after.store)?;
-    others_stay(&before.store, &after.store, before.table)
+    others_stay(&before.store, &after.store, before.table, now)
 }
 
 /// What lies past the new counts stays.
@@ -33,8 +38,8 @@ fn rest_stays(old: &Store, new: &Store) -> Outcome {
     same("links", &new.links[4 * links..], &old.links[4 * links..])
 }
 
-/// Every other old object keeps its place, its bytes and its links.
-fn others_stay(old: &Store, new: &Store, table: u32) -> Outcome {
+/// Every other old object keeps its place, its bytes and its links, these as they lead now.
+fn others_stay(old: &Store, new: &Store, table: u32, now: impl Fn(u32) -> u32) -> Outcome {
     for object in (0..old.counts[1]).filter(|&object| object != table) {
         let row = object as usize;
         same(
@@ -49,7 +54,11 @@ fn others_stay(old: &Store, new: &Store, table: u32) -> Outcome {
         let other = |link: &&[u32; 4]| link[0] < old.counts[1] && link[0] != table;
         links.filter(other).copied().collect()
     };
-    same("links", &others(new), &others(old))
+    let mut old_links = others(old);
+    for [_, _, _, child] in &mut old_links {
+        *child = now(*child);
+    }
+    same("links", &others(new), &old_links)
 }
 
 /// Splitting the kept table again, with scratch enough, changes nothing.

@@ -70,7 +70,7 @@ fn first_pair(tables: &[PairPos], glyphs: [u16; 2]) -> Pair {
 }
 
 /// Covered glyphs, all of them or many, and some others.
-fn first_glyphs(pairpos: &PairPos, random: &mut Random) -> Vec<u16> {
+pub(super) fn first_glyphs(pairpos: &PairPos, random: &mut Random) -> Vec<u16> {
     let mut glyphs = pairpos.parts.glyphs.clone();
     random.shuffle(&mut glyphs);
     glyphs.truncate(40);
@@ -79,7 +79,7 @@ fn first_glyphs(pairpos: &PairPos, random: &mut Random) -> Vec<u16> {
 }
 
 /// Glyphs that class definition 2 names, those that pair sets have, and some others.
-fn second_glyphs(pairpos: &PairPos, random: &mut Random) -> Vec<u16> {
+pub(super) fn second_glyphs(pairpos: &PairPos, random: &mut Random) -> Vec<u16> {
     let class_defs = pairpos.parts.class_defs.iter();
     let named = class_defs.flat_map(|class_defs| class_defs.second.named());
     let mut glyphs: Vec<u16> = named.map(|(glyph, _)| glyph).collect();

@@ -1,7 +1,11 @@
 //! Links of the table at no slot, and ways from the table back to itself.
 
 use super::{table::header, Named};
-use crate::{edit, Call, Random};
+use crate::{
+    edit,
+    model::{header::Format, pairs::is_sorted},
+    Call, Random,
+};
 
 pub const DAMAGES: &[Named] = &[
     ("a link at the format", |call, _| stray(call, 0)),
@@ -36,10 +40,10 @@ pub const DAMAGES: &[Named] = &[
         edit::link(&mut call.store, child, last as u32, call.table);
         Some(())
     }),
-    ("an item that is the table", |call, random| {
+    ("a device that is the table", |call, random| {
         let position = slot(call, random)?;
         edit::link(&mut call.store, call.table, position, call.table);
-        Some(())
+        (header(call)?.format == Format::Two).then_some(())
     }),
     ("a long way back to the table", |call, random| {
         let mut object = call.table;
@@ -54,6 +58,18 @@ pub const DAMAGES: &[Named] = &[
         Some(())
     }),
 ];
+
+/// The same of pair sets, of which the table is none that is sorted.
+pub const SETS: &[Named] = &[("a set that is the table", |call, random| {
+    let position = slot(call, random)?;
+    let header = header(call)?;
+    edit::link(&mut call.store, call.table, position, call.table);
+    let sorted = is_sorted(
+        edit::bytes(&call.store, call.table),
+        2 + header.record_size(),
+    );
+    (header.format == Format::One && !sorted).then_some(())
+})];
 
 /// Leads a position of the table to its coverage.
 fn stray(call: &mut Call<u32>, position: usize) -> Option<()> {

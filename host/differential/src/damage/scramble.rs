@@ -28,7 +28,7 @@ fn nudge_any(numbers: &mut [u32], random: &mut Random) {
 }
 
 /// A number nearby, or a great one.
-fn nudged(number: u32, random: &mut Random) -> u32 {
+pub(super) fn nudged(number: u32, random: &mut Random) -> u32 {
     match random.below(6) {
         0..=1 => number.wrapping_add(1),
         2..=3 => number.wrapping_sub(1),

@@ -19,6 +19,11 @@ impl Draft {
         self.objects.len() - 1
     }
 
+    /// An object's bytes.
+    pub fn bytes(&self, object: usize) -> &[u8] {
+        &self.objects[object]
+    }
+
     /// How many objects there are.
     pub fn count(&self) -> usize {
         self.objects.len()
@@ -27,6 +32,11 @@ impl Draft {
     /// Links a position of an object to another object.
     pub fn link(&mut self, parent: usize, position: usize, child: usize) {
         self.links.insert((parent, position), child);
+    }
+
+    /// The object that a position is linked to.
+    pub fn child(&self, parent: usize, position: usize) -> Option<usize> {
+        self.links.get(&(parent, position)).copied()
     }
 
     /// Links some position of an object, if it has bytes for one.

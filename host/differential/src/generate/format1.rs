@@ -7,12 +7,9 @@ use super::{
     value_format,
 };
 use crate::{
-    model::{numbers::bytes, values::ValueFormat},
+    model::{numbers::bytes, pairs::is_sorted, values::ValueFormat},
     Random,
 };
-
-/// Second glyphs are below this, so that a set may have one twice.
-const SECOND_GLYPHS: usize = 12;
 
 /// Drafts a table with all that it leads to.
 pub fn draft(draft: &mut Draft, random: &mut Random) -> usize {
@@ -27,8 +24,10 @@ pub fn draft(draft: &mut Draft, random: &mut Random) -> usize {
 
     let mut targets = pair_sets(draft, random, formats);
     if random.one_in(6) {
-        targets.push(coverage);
         draft.link_anywhere(random, coverage, targets[0]);
+    }
+    if is_sorted(draft.bytes(coverage), record_size(formats)) {
+        targets.push(coverage);
     }
     for slot in 0..slots {
         if !random.one_in(6) {
@@ -57,28 +56,50 @@ fn slot_count(random: &mut Random) -> usize {
     }
 }
 
-/// Pair sets, and sometimes other objects to be taken for them.
+/// Pair sets, which may be devices of one another.
 fn pair_sets(draft: &mut Draft, random: &mut Random, formats: [ValueFormat; 2]) -> Vec<usize> {
     let sizes = Sizes::any(random);
     let below_sizes = Sizes::any(random);
-    let below = grow(draft, random, below_sizes);
+    let mut below = grow(draft, random, below_sizes);
     let mut sets = Vec::new();
     for _ in 0..random.within(1..=8) {
         let len = sizes.len(random);
-        let set = pair_set(draft, random, formats, len, &below);
+        let set = match random.one_in(2) {
+            true => pair_set(draft, random, formats, len, &below),
+            false => light_set(draft, random, formats, len, &below),
+        };
         if random.one_in(5) {
             let child = random.pick(&below);
             draft.link_anywhere(random, set, child);
         }
+        if random.one_in(5) {
+            below.push(set);
+        }
         sets.push(set);
-    }
-    if random.one_in(4) {
-        sets.extend(below);
     }
     sets
 }
 
-/// A pair set of some length: a count, records whose devices lead below, and then anything.
+/// A pair set of few records, and what makes up the length in an object that it leads to.
+fn light_set(
+    draft: &mut Draft,
+    random: &mut Random,
+    formats: [ValueFormat; 2],
+    len: usize,
+    below: &[usize],
+) -> usize {
+    let records = random.below(6);
+    let set_len = 2 + records * record_size(formats);
+    let set = pair_set(draft, random, formats, set_len, below);
+    if let Some(rest @ 1..) = len.checked_sub(set_len) {
+        let rest = draft.object(random.bytes(rest));
+        draft.link_anywhere(random, set, rest);
+    }
+    set
+}
+
+/// A pair set of about some length, which is sorted: a count, and records. Devices of the first ones lead
+/// below.
 pub fn pair_set(
     draft: &mut Draft,
     random: &mut Random,
@@ -87,20 +108,22 @@ pub fn pair_set(
     below: &[usize],
 ) -> usize {
     let [format1, format2] = formats;
-    let size = 2 + format1.size() + format2.size();
-    let records = random.below(6).min(len.saturating_sub(2) / size);
-    let mut set_bytes = random.bytes(len);
+    let size = record_size(formats);
+    let records = len.saturating_sub(2) / size;
+    let mut set_bytes = random.bytes(2 + records * size);
+    set_bytes[..2].copy_from_slice(&(records as u16).to_be_bytes());
+    let most = random.pick(&[1, 2, 300]).min(65_536 / records.max(1));
+    let mut next = random.below(3.min(most));
     let mut devices = Vec::new();
-    if len >= 2 && !random.one_in(8) {
-        set_bytes[..2].copy_from_slice(&(records as u16).to_be_bytes());
-    }
     for record in 0..records {
         let at = 2 + size * record;
-        let second = random.below(SECOND_GLYPHS) as u16;
-        set_bytes[at..at + 2].copy_from_slice(&second.to_be_bytes());
-        devices.extend(format1.devices().map(|device| at + 2 + 2 * device));
-        let values2 = at + 2 + format1.size();
-        devices.extend(format2.devices().map(|device| values2 + 2 * device));
+        set_bytes[at..at + 2].copy_from_slice(&(next as u16).to_be_bytes());
+        next += random.within(1..=most);
+        if record < DEVICE_RECORDS {
+            devices.extend(format1.devices().map(|device| at + 2 + 2 * device));
+            let values2 = at + 2 + format1.size();
+            devices.extend(format2.devices().map(|device| values2 + 2 * device));
+        }
     }
     let set = draft.object(set_bytes);
     for position in devices {
@@ -109,4 +132,12 @@ pub fn pair_set(
         }
     }
     set
+}
+
+/// So many of a set's records may have devices.
+const DEVICE_RECORDS: usize = 5;
+
+/// A second glyph and two values.
+fn record_size([format1, format2]: [ValueFormat; 2]) -> usize {
+    2 + format1.size() + format2.size()
 }

@@ -2,6 +2,7 @@
 
 use super::{
     header::{Format, Header},
+    lookups::{self, entered, Lookup},
     marks::MarkBasePos,
     numbers::u16_at,
     objects::Objects,
@@ -18,20 +19,27 @@ use oracle::Store;
 pub enum Refusal {
     /// The store is not sound.
     Unsound = 1,
-    /// The table's number is not in use.
-    NoTable,
+    /// The table's number is not in use, or the lookup list's is not.
+    NoTable = 2,
+    /// The lookup list or a lookup of it is not as long as it says or has a link at no slot, or no lookup
+    /// of pairs names the table.
+    BadList = 9,
     /// The table is not as long as it says.
-    BadTable,
+    BadTable = 3,
     /// Coverage, a class definition or an array is not linked, or unreadable.
-    BadParts,
+    BadParts = 4,
     /// Fewer glyphs are covered than there are pair sets, or marks.
-    FewGlyphs,
+    FewGlyphs = 5,
     /// A scratch is too short.
-    ShortScratch,
+    ShortScratch = 6,
     /// A link of the table, or of an array, stands at no slot, or the table can be reached from itself.
-    BadLinks,
+    BadLinks = 7,
+    /// A linked pair set is not as long as it says, or its second glyphs do not ascend.
+    UnsortedSets = 11,
+    /// A lookup would have more subtables than it can count.
+    ManySubtables = 10,
     /// There is no room for what a split adds.
-    NoRoom,
+    NoRoom = 8,
 }
 
 /// A table by checks 1 to 5; nothing where it has another format.
@@ -56,6 +64,14 @@ pub fn open(store: &Store, table: u32) -> Opening<PairPos<'_>> {
     }))
 }
 
+/// A PairPos table for the pair reading, which is of sorted sets only.
+pub fn open_to_read(store: &Store, table: u32) -> Opening<PairPos<'_>> {
+    match open(store, table)? {
+        Some(pairpos) if !pairpos.sets_are_sorted() => Err(Refusal::UnsortedSets),
+        opened => Ok(opened),
+    }
+}
+
 /// A MarkBasePos table.
 pub fn open_marks(store: &Store, table: u32) -> Opening<MarkBasePos<'_>> {
     let (objects, bytes, format) = start(store, table)?;
@@ -72,18 +88,38 @@ pub fn open_marks(store: &Store, table: u32) -> Opening<MarkBasePos<'_>> {
     Ok(Some(marks))
 }
 
-/// The store's objects, the table's bytes and its format.
-fn start(store: &Store, table: u32) -> Result<(Objects<'_>, &[u8], u16), Refusal> {
-    let objects = Objects::of(store).ok_or(Refusal::Unsound)?;
-    if table as usize >= objects.count() {
+/// The lookups of a list that are to list a table's new ones too, by checks 1, 2 and 9.
+pub fn open_lookups(store: &Store, list: u32, table: u32) -> Result<Vec<Lookup>, Refusal> {
+    let objects = objects(store, table)?;
+    if list as usize >= objects.count() {
         return Err(Refusal::NoTable);
     }
+    let mut lookups = lookups::read(objects, list).ok_or(Refusal::BadList)?;
+    lookups.retain(|lookup| lookup.is_of_pairs() && lookup.names(table));
+    match lookups.is_empty() {
+        true => Err(Refusal::BadList),
+        false => Ok(lookups),
+    }
+}
+
+/// The objects of a sound store, in which a table is in use.
+fn objects(store: &Store, table: u32) -> Result<Objects<'_>, Refusal> {
+    let objects = Objects::of(store).ok_or(Refusal::Unsound)?;
+    match (table as usize) < objects.count() {
+        true => Ok(objects),
+        false => Err(Refusal::NoTable),
+    }
+}
+
+/// The store's objects, the table's bytes and its format.
+fn start(store: &Store, table: u32) -> Result<(Objects<'_>, &[u8], u16), Refusal> {
+    let objects = objects(store, table)?;
     let bytes = objects.bytes(table);
     let format = u16_at(bytes, 0).ok_or(Refusal::BadTable)?;
     Ok((objects, bytes, format))
 }
 
-/// A table and its cut places by checks 1 to 7.
+/// A table and its cut places by checks 1 to 7 and 11.
 fn cut<T: Opened>(opening: Opening<T>, scratch: &Scratch) -> Opening<(T, Vec<usize>)> {
     let Some(table) = opening? else {
         return Ok(None);
@@ -93,6 +129,9 @@ fn cut<T: Opened>(opening: Opening<T>, scratch: &Scratch) -> Opening<(T, Vec<usi
     }
     if !table.links_are_at_slots() || reaches_itself(table.objects(), table.number()) {
         return Err(Refusal::BadLinks);
+    }
+    if !table.sets_are_sorted() {
+        return Err(Refusal::UnsortedSets);
     }
     let cuts = table.cut_places();
     Ok(Some((table, cuts)))
@@ -119,11 +158,36 @@ pub fn split(
     if cuts.is_empty() {
         return Ok(None);
     }
-    let written = table.write(&cuts);
-    if !written.fits(store) || list_len < cuts.len() {
-        return Err(Refusal::NoRoom);
+    within_room(table.write(&cuts), store, list_len)
+}
+
+/// What a split writes that enters its new tables in the lookups of a list; nothing where there is nothing
+/// to split.
+pub fn split_in_lookups(
+    store: &Store,
+    list: u32,
+    table: u32,
+    scratch: &Scratch,
+    list_len: usize,
+) -> Opening<Written> {
+    let lookups = open_lookups(store, list, table)?;
+    let Some((pairpos, cuts)) = cut(open(store, table), scratch)? else {
+        return Ok(None);
+    };
+    if cuts.is_empty() {
+        return Ok(None);
     }
-    Ok(Some(written))
+    let entered = entered::enter(&pairpos, pairpos.write(&cuts), lookups);
+    let written = entered.ok_or(Refusal::ManySubtables)?;
+    within_room(written, store, list_len)
+}
+
+/// What is written, if there is room for it, and for its new tables in the list.
+fn within_room(written: Written, store: &Store, list_len: usize) -> Opening<Written> {
+    match written.fits(store) && written.new_tables.len() <= list_len {
+        true => Ok(Some(written)),
+        false => Err(Refusal::NoRoom),
+    }
 }
 
 /// The places of a cut plan; nothing where the table has another format.

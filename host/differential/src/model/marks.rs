@@ -165,6 +165,10 @@ impl Opened for MarkBasePos<'_> {
             && all_stand(self.base_array, |position| base_slot_at(position).is_some())
     }
 
+    fn sets_are_sorted(&self) -> bool {
+        true
+    }
+
     fn links_of_item(&self, class: usize) -> Vec<Link> {
         let of_class = |mark: usize| usize::from(self.mark_classes[mark]) == class;
         let of_marks = self.mark_links().filter(|&(mark, _)| of_class(mark));

@@ -23,11 +23,19 @@ pub trait Opened {
     /// Whether each link stands at a slot.
     fn links_are_at_slots(&self) -> bool;
 
+    /// Whether the pair sets of its items are sorted. Where it has none, they are.
+    fn sets_are_sorted(&self) -> bool;
+
     /// The links of an item.
     fn links_of_item(&self, item: usize) -> Vec<Link>;
 
     /// The objects that the table itself leads to and that are no items: their bytes are read.
     fn parts(&self) -> Vec<u32>;
+
+    /// Whether an object that it leads to may be longer or shorter, and all is read as before.
+    fn is_free(&self, object: u32) -> bool {
+        !self.parts().contains(&object)
+    }
 
     /// All items that are looked at, in order.
     fn weigh(&self) -> Vec<Weighed>;

@@ -2,7 +2,7 @@
 
 use super::{
     header::Format,
-    numbers::u16_at,
+    numbers::{head, u16_at},
     table::PairPos,
     values::{is_device, ValueFormat},
 };
@@ -18,6 +18,18 @@ pub fn read(pairpos: &PairPos, glyphs: [u16; 2]) -> Pair {
         Format::Two => spot_in_row(pairpos, glyphs),
     };
     spot.map_or(Pair::default(), |spot| pair_at(pairpos, spot))
+}
+
+/// Whether a pair set is exactly a count and so many records of a size, and their second glyphs ascend.
+pub fn is_sorted(set: &[u8], size: usize) -> bool {
+    let Some(([count], records)) = head(set) else {
+        return false;
+    };
+    let second = |record: &[u8]| u16_at(record, 0);
+    records.len() == usize::from(count) * size
+        && records
+            .chunks(size)
+            .is_sorted_by(|before, after| second(before) < second(after))
 }
 
 /// The first record with the second glyph in the pair set of the first.

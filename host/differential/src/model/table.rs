@@ -7,9 +7,10 @@ use super::{
     header::{Format, Header, CLASS_DEF1_POS, CLASS_DEF2_POS, COVERAGE_POS},
     objects::{Link, Objects},
     opened::Opened,
+    pairs::is_sorted,
     written::{pairs, Written},
 };
-use std::ops::Range;
+use std::{collections::BTreeSet, ops::Range};
 
 /// A table that can be read.
 #[derive(Clone, Debug)]
@@ -93,6 +94,18 @@ impl<'a> PairPos<'a> {
         self.objects.links_within(self.table, positions)
     }
 
+    /// The pair sets that slots of format 1 lead to, each once.
+    pub fn sets(&self) -> BTreeSet<u32> {
+        let items = match self.header.format {
+            Format::One => self.header.items,
+            Format::Two => 0,
+        };
+        let slots = (0..items).map(|item| self.header.item_pos(item));
+        slots
+            .filter_map(|slot| self.objects.child_at(self.table, slot))
+            .collect()
+    }
+
     /// The positions of some items.
     pub fn item_positions(&self, items: Range<usize>) -> Range<usize> {
         self.header.item_pos(items.start)..self.header.item_pos(items.end)
@@ -128,6 +141,16 @@ impl Opened for PairPos<'_> {
     fn links_are_at_slots(&self) -> bool {
         let at_slot = |link: &Link| self.header.is_slot(link[1] as usize);
         self.links().iter().all(at_slot)
+    }
+
+    fn sets_are_sorted(&self) -> bool {
+        let size = 2 + self.header.record_size();
+        let mut sets = self.sets().into_iter();
+        sets.all(|set| is_sorted(self.objects.bytes(set), size))
+    }
+
+    fn is_free(&self, object: u32) -> bool {
+        !self.parts().contains(&object) && !self.sets().contains(&object)
     }
 
     fn links_of_item(&self, item: usize) -> Vec<Link> {

@@ -1,13 +1,15 @@
 //! What a stored call answers and leaves, as the oracle has it.
 
 use super::{
-    cases::Case,
+    cases::{Case, Functions},
     readings::{self, Reading},
 };
 use crate::{
-    check::{as_the_oracle, frame, marks_as_the_oracle, Split},
+    check::{as_the_oracle, entered, frame, marks_as_the_oracle, Split},
     model::answers,
-    product, Call, Marks, Model, Scratch, Splits, Tally,
+    product,
+    tally::ANSWERS,
+    Call, InLookups, Marks, Model, Scratch, Splits, Tally,
 };
 use splitter::Kind;
 
@@ -33,9 +35,14 @@ pub struct Answers {
 impl Answers {
     /// What the model answers, if it is what the oracle answers.
     pub fn of(case: &Case, tally: &mut Tally) -> Result<Self, String> {
-        match case.kind {
-            Kind::Pairs => Self::by(&Model, case, pairs_by_the_oracle, tally),
-            Kind::Marks => Self::by(&Marks(&Model), case, marks_by_the_oracle, tally),
+        match case.functions {
+            Functions::Of(Kind::Pairs) => Self::by(&Model, case, pairs_by_the_oracle, tally),
+            Functions::Of(Kind::Marks) => {
+                Self::by(&Marks(&Model), case, marks_by_the_oracle, tally)
+            }
+            Functions::InLookups => {
+                Self::by(&InLookups(&Model), case, lookups_by_the_oracle, tally)
+            }
         }
     }
 
@@ -46,9 +53,11 @@ impl Answers {
         tally: &mut Tally,
     ) -> Result<Self, String> {
         let split = Split::by(model, &case.call);
-        frame(&split)?;
         let mut plan = case.call.to_plan();
         let plan_answer = model.plan(&mut plan);
+        if split.answer != 0 {
+            frame(&split)?;
+        }
         let (mut new_tables, mut places) = (Vec::new(), Vec::new());
         if plan_answer == 0 {
             (new_tables, places) = by_the_oracle(&split, tally)?;
@@ -59,8 +68,9 @@ impl Answers {
         if split.places != places || split.new_tables() != new_tables {
             return Err("other cuts than the oracle's".into());
         }
-        let readings = readings::stored(case.kind, &split);
-        readings::stay(case.kind, &split, &readings)?;
+        let kind = case.functions.kind();
+        let readings = readings::stored(kind, &split);
+        readings::stay(kind, &split, &readings)?;
         Ok(Self {
             split_digest: split_digest(&split.after),
             plan_digest: Digest::of(&plan.scratch).with(&plan.list).0,
@@ -72,10 +82,11 @@ impl Answers {
         })
     }
 
-    /// 0 where the table is cut, 1 to 8 where the split is refused, 9 where there is nothing to cut.
+    /// 0 where the table is cut, the answer where the split is refused, the number behind all answers where
+    /// there is nothing to cut.
     pub fn kind(&self) -> usize {
         match (self.split.answer, self.new_tables.len()) {
-            (0, 0) => 9,
+            (0, 0) => ANSWERS,
             (answer, _) => answer as usize,
         }
     }
@@ -93,11 +104,19 @@ fn pairs_by_the_oracle(split: &Split, tally: &mut Tally) -> Result<(Vec<u32>, Ve
             return Err("the 16-bit product shows".into());
         }
         if split.answer == 0 {
+            frame(split)?;
             as_the_oracle(split, tally)?;
         }
     }
     let new_tables = theirs.new_tables.iter().map(|&table| table as u32);
     Ok((new_tables.collect(), theirs.cuts))
+}
+
+/// The text knows no lookups: what it splits is the table alone.
+fn lookups_by_the_oracle(split: &Split, tally: &mut Tally) -> Result<(Vec<u32>, Vec<u16>), String> {
+    entered(&Model, split, tally)?;
+    let plain = Split::by(&Model, &split.before);
+    pairs_by_the_oracle(&plain, tally)
 }
 
 /// The text splits any format, and adds two arrays before its first new table.
@@ -110,6 +129,7 @@ fn marks_by_the_oracle(split: &Split, tally: &mut Tally) -> Result<(Vec<u32>, Ve
     let theirs = oracle::split_markbase(store, table as usize);
     let theirs = theirs.map_err(|error| format!("{error:?}"))?;
     if split.answer == 0 {
+        frame(split)?;
         marks_as_the_oracle(split, tally)?;
     }
     let new_tables = theirs.new_tables.iter().map(|&table| table as u32 - 2);

@@ -1,13 +1,15 @@
 //! The calls that are stored.
 
 mod figures;
+mod lookups;
 mod marks;
 mod neighbours;
 
 use super::plain;
 use crate::{
     damage::{self, Damage},
-    generate, lend, Call, Random,
+    generate::{self, Listed},
+    lend, Call, Random,
 };
 use oracle::Store;
 use splitter::Kind;
@@ -17,15 +19,38 @@ use splitter::Kind;
 pub struct Case {
     /// What it shows.
     pub name: String,
-    /// What its table is for.
-    pub kind: Kind,
+    /// Which functions are called.
+    pub functions: Functions,
     /// What it is lent.
     pub call: Call<u32>,
 }
 
-/// How many generated stores of pairs in each format are taken, and of marks.
-const GENERATED: usize = 18;
+/// The functions that a case calls.
+#[derive(Clone, Copy, Debug, PartialEq, Eq)]
+pub enum Functions {
+    /// Those of a kind of table.
+    Of(Kind),
+    /// Those of pairs, but that the split enters new tables in lookups.
+    InLookups,
+}
+
+impl Functions {
+    /// What the table is for.
+    pub fn kind(self) -> Kind {
+        match self {
+            Self::Of(kind) => kind,
+            Self::InLookups => Kind::Pairs,
+        }
+    }
+}
+
+const PAIRS: Functions = Functions::Of(Kind::Pairs);
+const MARKS: Functions = Functions::Of(Kind::Marks);
+
+/// How many generated stores of pairs in each format are taken, of marks, and of pairs in lookups.
+const GENERATED: usize = 14;
 const GENERATED_MARKS: usize = 12;
+const GENERATED_IN_LOOKUPS: usize = 3;
 
 /// Generated stores have at most so many runs.
 const MOST_RUNS: usize = 330;
@@ -34,64 +59,94 @@ const MOST_RUNS: usize = 330;
 pub fn all() -> Vec<Case> {
     let mut cases = figures::all();
     cases.extend(neighbours::cases());
-    cases.extend(FORMAT1.cases(GENERATED));
-    cases.extend(FORMAT2.cases(GENERATED));
-    cases.extend(damaged(Kind::Pairs, &figures::to_damage(), &damage::all()));
+    cases.extend(OF_FORMAT1.cases(GENERATED));
+    cases.extend(OF_FORMAT2.cases(GENERATED));
+    cases.extend(damaged(PAIRS, &figures::to_damage(), &damage::all()));
     cases.extend(marks::all());
-    cases.extend(MARKS.cases(GENERATED_MARKS));
-    cases.extend(damaged(Kind::Marks, &marks::to_damage(), &damage::marks()));
+    cases.extend(OF_MARKS.cases(GENERATED_MARKS));
+    cases.extend(damaged(MARKS, &marks::to_damage(), &damage::marks()));
+    cases
+}
+
+/// The same of calls that enter new tables in lookups.
+pub fn in_lookups() -> Vec<Case> {
+    let mut cases = lookups::all();
+    cases.extend(IN_LOOKUPS.cases(GENERATED_IN_LOOKUPS));
+    let damages = damage::lookups();
+    cases.extend(damaged(
+        Functions::InLookups,
+        &lookups::to_damage(),
+        &damages,
+    ));
     cases
 }
 
 /// Stores that are generated.
 struct Generated {
     name: &'static str,
-    kind: Kind,
-    generate: fn(u64) -> generate::Case,
+    functions: Functions,
+    generate: fn(u64) -> Listed,
     plain: fn(&Store, u32) -> Store,
-    lend: fn(&Store, u32, &mut Random) -> Call<u32>,
+    lend: fn(&Listed, &mut Random) -> Call<u32>,
 }
 
-const FORMAT1: Generated = Generated {
+const OF_FORMAT1: Generated = Generated {
     name: "a generated store of format one",
-    kind: Kind::Pairs,
-    generate: generate::format1,
+    functions: PAIRS,
+    generate: |seed| unlisted(generate::format1(seed)),
     plain: plain::store,
-    lend: lend::amply,
+    lend: |case, random| lend::amply(&case.store, case.table, random),
 };
 
-const FORMAT2: Generated = Generated {
+const OF_FORMAT2: Generated = Generated {
     name: "a generated store of format two",
-    generate: generate::format2,
-    ..FORMAT1
+    generate: |seed| unlisted(generate::format2(seed)),
+    ..OF_FORMAT1
 };
 
-const MARKS: Generated = Generated {
+const OF_MARKS: Generated = Generated {
     name: "a generated store of marks",
-    kind: Kind::Marks,
-    generate: generate::marks,
+    functions: MARKS,
+    generate: |seed| unlisted(generate::marks(seed)),
     plain: plain::marks_store,
-    lend: lend::marks_amply,
+    lend: |case, random| lend::marks_amply(&case.store, case.table, random),
 };
+
+const IN_LOOKUPS: Generated = Generated {
+    name: "a generated store of pairs in lookups",
+    functions: Functions::InLookups,
+    generate: generate::lookups,
+    plain: plain::below,
+    lend: lend::in_lookups_amply,
+};
+
+/// A store whose call looks at no list.
+fn unlisted(case: generate::Case) -> Listed {
+    Listed {
+        store: case.store,
+        list: 0,
+        table: case.table,
+    }
+}
 
 impl Generated {
     fn cases(&self, count: usize) -> impl Iterator<Item = Case> + '_ {
         let calls = (0..).filter_map(|seed| self.call(seed));
         calls.take(count).map(|call| Case {
             name: self.name.into(),
-            kind: self.kind,
+            functions: self.functions,
             call,
         })
     }
 
     /// The store of a seed, if it is short to store, and the program has room for it.
     fn call(&self, seed: u64) -> Option<Call<u32>> {
-        let case = (self.generate)(seed);
+        let mut case = (self.generate)(seed);
         let rows = case.store.objects.len() + case.store.links.len();
         (rows <= MOST_RUNS).then_some(())?;
-        let store = (self.plain)(&case.store, case.table);
-        (rows + runs(&store.data) <= MOST_RUNS).then_some(())?;
-        let call = plain::lent((self.lend)(&store, case.table, &mut Random::new(seed)));
+        case.store = (self.plain)(&case.store, case.table);
+        (rows + runs(&case.store.data) <= MOST_RUNS).then_some(())?;
+        let call = plain::lent((self.lend)(&case, &mut Random::new(seed)));
         fits(&call).then_some(call)
     }
 }
@@ -118,14 +173,14 @@ fn runs<N: PartialEq>(numbers: &[N]) -> usize {
 }
 
 /// One call for each damage, which damages one of those made by hand.
-fn damaged(kind: Kind, bases: &[Call<u32>], damages: &[Damage]) -> Vec<Case> {
+fn damaged(functions: Functions, bases: &[Call<u32>], damages: &[Damage]) -> Vec<Case> {
     let mut random = Random::new(0);
     let case = |(i, damage): (usize, &Damage)| {
         let mut calls = bases.iter().cycle().skip(i).take(bases.len());
         let call = calls.find_map(|call| damage.apply(call, &mut random))?;
         Some(Case {
             name: damage.name.replace('2', "two"),
-            kind,
+            functions,
             call,
         })
     };

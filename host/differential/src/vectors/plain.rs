@@ -6,14 +6,12 @@ use crate::{
         answers,
         header::Format,
         marks::{MarkBasePos, OFFSETS},
+        reach::Seen,
         table::PairPos,
     },
     Call,
 };
 use oracle::Store;
-
-/// The most records that stay of a pair set.
-const RECORDS: usize = 2;
 
 /// Makes runs of what is lent to no use: scratch, list, and all past the counts.
 pub fn lent(mut call: Call<u32>) -> Call<u32> {
@@ -34,18 +32,34 @@ pub fn lent(mut call: Call<u32>) -> Call<u32> {
 
 /// Makes runs of the bytes of objects, as far as no cut depends on them.
 ///
-/// A pair set keeps its first records, and each row of format 2 is two runs.
+/// Pair sets stay, and each row of format 2 is two runs.
 pub fn store(old: &Store, table: u32) -> Store {
     let mut store = old.clone();
     let Ok(Some(pairpos)) = answers::open(old, table) else {
         return store;
     };
-    for object in 0..old.counts[1] {
+    let sets = pairpos.sets();
+    for object in (0..old.counts[1]).filter(|object| !sets.contains(object)) {
         let bytes = plain_bytes(&pairpos, object);
         let head = edit::head(old, object);
         store.data[head..head + bytes.len()].copy_from_slice(&bytes);
     }
     store
+}
+
+/// The same, of objects that the table leads to alone: lookups and other subtables stay.
+pub fn below(old: &Store, table: u32) -> Store {
+    let mut plain = store(old, table);
+    let Ok(Some(pairpos)) = answers::open(old, table) else {
+        return plain;
+    };
+    let mut seen = Seen::nothing(pairpos.objects);
+    seen.count(pairpos.links());
+    for object in (0..old.counts[1]).filter(|&object| object != table && !seen.has(object)) {
+        let (head, bytes) = (edit::head(old, object), edit::bytes(old, object));
+        plain.data[head..head + bytes.len()].copy_from_slice(bytes);
+    }
+    plain
 }
 
 /// The same of a MarkBasePos table: no rule looks into anchors, or at offsets.
@@ -95,12 +109,7 @@ fn plain_bytes(pairpos: &PairPos, object: u32) -> Vec<u8> {
         }
         return bytes;
     }
-    let record = 2 + header.record_size();
-    if let [0, count @ 0..=5, ..] = &mut bytes[..] {
-        *count = (*count).min(RECORDS as u8);
-    }
-    let rest = bytes.get_mut(2 + RECORDS * record..).unwrap_or_default();
-    rest.fill(object as u8);
+    bytes.fill(object as u8);
     bytes
 }
 

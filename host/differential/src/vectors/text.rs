@@ -1,12 +1,19 @@
 //! The stored text.
 
-use super::{answers::Answers, cases::Case, readings::Reading};
+use super::{
+    answers::Answers,
+    cases::{Case, Functions},
+    readings::Reading,
+};
 use crate::{Call, Scratch};
 use splitter::Kind;
 use std::fmt::Write;
 
 /// Lines are no longer than this, where the numbers allow it.
 const WIDTH: usize = 100;
+
+/// What stands in place of a lookup type where new tables are entered in lookups.
+const IN_LOOKUPS: u32 = 3;
 
 const HEAD: &str = "\
 Answers of the oracle, which the program vectors replays. Do not edit: host/differential writes them,
@@ -30,15 +37,25 @@ impl Text {
         self.end_line();
         let call = &answers.split.before;
         let store = &call.store;
-        self.word("lookup type");
-        self.number(case.kind.lookup_type());
+        match case.functions {
+            Functions::Of(kind) => {
+                self.word("lookup type");
+                self.number(kind.lookup_type());
+            }
+            Functions::InLookups => {
+                self.word("entered in lookups");
+                self.number(IN_LOOKUPS);
+                self.word("list");
+                self.number(call.lookup_list);
+            }
+        }
         self.word("table");
         self.number(call.table);
         self.array("counts", &store.counts);
         self.array("data", &store.data);
         self.array("objects", &store.objects);
         self.array("links", &store.links);
-        self.readings(case.kind, &answers.readings);
+        self.readings(case.functions.kind(), &answers.readings);
         self.call("cut plan", &call.to_plan());
         self.outcome(answers.plan_answer, answers.plan_digest);
         self.array("cut at", &answers.places);

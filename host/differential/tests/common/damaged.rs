@@ -1,8 +1,8 @@
 //! Damaged calls of one kind of table.
 
 use differential::{
-    check::{frame, Split},
-    damage::{self, Damage},
+    check::{Outcome, Split},
+    damage::Damage,
     edit, Call, Random,
 };
 
@@ -10,19 +10,34 @@ use differential::{
 pub struct Kind {
     /// Calls that are lent exactly what they need.
     pub calls: fn() -> Vec<(Call<u32>, Random)>,
-    /// All damages, in order of the numbers by which they are refused.
+    /// All damages, in the order in which they are looked for.
     pub damages: fn() -> Vec<Damage>,
+    /// The numbers by which a split refuses, in that order.
+    pub order: &'static [u32],
+    /// Changes a few things of a call at random.
+    pub scramble: fn(&Call<u32>, &mut Random) -> Call<u32>,
     /// What a split, a cut plan and a reading answer.
     pub answers: fn(&Call<u32>) -> [u32; 3],
     /// A split by the model.
     pub split: fn(&Call<u32>) -> Split,
+    /// That a split changes nothing but what it must.
+    pub frame: fn(&Split) -> Outcome,
     /// Formats that are not split.
     pub other_formats: &'static [u16],
 }
 
 impl Kind {
     fn assert_untouched(&self, call: &Call<u32>, name: &str) {
-        assert_eq!(frame(&(self.split)(call)), Ok(()), "{name}");
+        let split = (self.split)(call);
+        assert_eq!(split.after.count, 0, "{name}");
+        assert_eq!((self.frame)(&split), Ok(()), "{name}");
+    }
+
+    /// The place of a damage among the answers.
+    fn place(&self, damage: &Damage) -> usize {
+        let mut order = self.order.iter();
+        let place = order.position(|&answer| answer == damage.answers[0]);
+        place.expect("an answer of a split")
     }
 
     pub fn what_is_exactly_enough_is_enough(&self) {
@@ -52,26 +67,28 @@ impl Kind {
 
     pub fn the_first_that_applies_decides(&self) {
         let damages = (self.damages)();
-        let mut tally = [[0; 9]; 9];
+        let mut tally = vec![vec![0; self.order.len()]; self.order.len()];
         for (call, mut random) in (self.calls)() {
             for _ in 0..60 {
-                let [low, high] = in_order([random.pick(&damages), random.pick(&damages)]);
-                let [answer, higher] = [low.answers[0], high.answers[0]];
-                if answer == higher {
+                let mut two = [random.pick(&damages), random.pick(&damages)];
+                two.sort_by_key(|damage| self.place(damage));
+                let [low, high] = two;
+                let [place, higher] = two.map(|damage| self.place(&damage));
+                if place == higher {
                     continue;
                 }
                 let once = high.apply(&call, &mut random);
                 if let Some(twice) = once.and_then(|call| low.apply(&call, &mut random)) {
                     let names = format!("{} and {}", low.name, high.name);
-                    assert_eq!((self.answers)(&twice)[0], answer, "{names}");
+                    assert_eq!((self.answers)(&twice)[0], low.answers[0], "{names}");
                     self.assert_untouched(&twice, &names);
-                    tally[answer as usize][higher as usize] += 1;
+                    tally[place][higher] += 1;
                 }
             }
         }
-        for (low, counts) in tally.iter().enumerate().skip(1) {
-            println!("{low} before others: {counts:?}");
-            assert!(counts[low + 1..].iter().all(|&count| count > 0));
+        for (place, counts) in tally.iter().enumerate() {
+            println!("{} before others: {counts:?}", self.order[place]);
+            assert!(counts[place + 1..].iter().all(|&count| count > 0));
         }
     }
 
@@ -89,18 +106,11 @@ impl Kind {
     pub fn anything_may_be_wrong(&self, mut check: impl FnMut(&Call<u32>, &Split)) {
         for (call, mut random) in (self.calls)() {
             for _ in 0..60 {
-                let scrambled = damage::scramble(&call, &mut random);
+                let scrambled = (self.scramble)(&call, &mut random);
                 let split = (self.split)(&scrambled);
-                assert_eq!(frame(&split), Ok(()));
+                assert_eq!((self.frame)(&split), Ok(()));
                 check(&scrambled, &split);
             }
         }
-    }
-}
-
-fn in_order([a, b]: [Damage; 2]) -> [Damage; 2] {
-    match a.answers[0] < b.answers[0] {
-        true => [a, b],
-        false => [b, a],
     }
 }

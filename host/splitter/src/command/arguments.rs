@@ -55,6 +55,8 @@ pub enum Which {
     Rows,
     /// Marks on bases.
     Marks,
+    /// Pairs, format 1, in a lookup.
+    Lookups,
 }
 
 /// What `plan` is asked for.
@@ -245,9 +247,11 @@ fn which(words: &Words, word: &OsStr) -> Result<Which, Failure> {
         Some("sets") => Ok(Which::Sets),
         Some("rows") => Ok(Which::Rows),
         Some("marks") => Ok(Which::Marks),
+        Some("lookups") => Ok(Which::Lookups),
         _ => {
             let word = shown_word(word);
-            Err(words.failure(&format!("has sets, rows and marks, and no \"{word}\"")))
+            let has = "has sets, rows, marks and lookups";
+            Err(words.failure(&format!("{has}, and no \"{word}\"")))
         }
     }
 }

@@ -1,5 +1,6 @@
 //! `splitter font`: the tables of a font for pairs and for marks on bases.
 
+mod lookups;
 #[cfg(test)]
 mod tests;
 
@@ -16,7 +17,7 @@ use super::{
     told,
 };
 use splitter::{
-    font::{FontError, FontTable, FontTables, Listed, TABLE},
+    font::{FontError, FontTable, FontTables, Listed, OfKind, TABLE},
     store_file::{StoreFile, Table},
     Explanation, Kind, Refusal, Scratch,
 };
@@ -37,7 +38,11 @@ pub fn run(request: &Font, screen: &mut Screen) -> Result<Outcome, Failure> {
     let refused = seen.iter().filter(|seen| seen.cuts.is_err()).count();
     let outcome = Outcome::of_plan(refused > 0, seen.iter().any(Seen::is_cut));
     let tables: Vec<Json> = seen.iter().map(Seen::told).collect();
-    let values = vec![("lookups", font.lookups.into()), ("tables", tables.into())];
+    let values = vec![
+        ("lookups", font.lookups.into()),
+        ("tables", tables.into()),
+        ("listings", lookups::told(&seen)),
+    ];
     screen.json(&told::answer(Name::Font, outcome, &request.file, values))?;
 
     let name = shown(&request.file);
@@ -67,13 +72,13 @@ pub fn run(request: &Font, screen: &mut Screen) -> Result<Outcome, Failure> {
 }
 
 fn in_words(font: &FontTables) -> String {
-    let of_kind = |(kind, lookups, subtables): &(Kind, usize, usize)| {
-        let purpose = match kind {
+    let of_kind = |of_kind: &OfKind| {
+        let purpose = match of_kind.kind {
             Kind::Pairs => "pairs",
             Kind::Marks => "marks on bases",
         };
-        let subtables = counted(*subtables, "subtable");
-        format!("{lookups} for {purpose}, with {subtables}")
+        let subtables = counted(of_kind.subtables, "subtable");
+        format!("{} for {purpose}, with {subtables}", of_kind.lookups)
     };
     let [pairs, marks] = &font.of_kind;
     let all = counted(font.lookups, "lookup");
@@ -160,6 +165,7 @@ fn show(all: &[Seen], screen: &mut Screen) -> Result<(), Failure> {
     for seen in all {
         screen.lines(&seen.lines())?;
     }
+    lookups::show(all, screen)?;
     screen.line("")?;
     for refusal in Refusal::ALL {
         if all.iter().any(|seen| seen.is_refused_by(refusal)) {
@@ -170,9 +176,8 @@ fn show(all: &[Seen], screen: &mut Screen) -> Result<(), Failure> {
 }
 
 fn summary(all: &[Seen]) -> String {
-    let why =
-        "What is in a font fits its offsets already, so most tables have no cut places. But \\
-               the rule counts whole parts, where an offset only has to reach the start of one: a \\
+    let why = "What is in a font fits its offsets already, so most tables have no cut places. But \
+               the rule counts whole parts, where an offset only has to reach the start of one: a \
                table close to the limit can have them.";
     match all.iter().filter(|seen| seen.is_cut()).count() {
         0 => format!("No table would be cut. {why}"),
@@ -210,6 +215,11 @@ impl Seen {
             }
         }
         lines
+    }
+
+    /// How many tables a split makes of it.
+    fn tables(&self) -> usize {
+        1 + self.cuts.as_ref().map_or(0, Vec::len)
     }
 
     /// How much there is of it. Of a coverage that cannot be read nobody knows the glyphs.

@@ -36,7 +36,7 @@ Cuts OpenType tables for pairs of glyphs (GPOS PairPos) and for marks on bases
 functions that are proved to lose nothing.
 
     splitter                               the same as splitter sample
-    splitter sample [-o DIR]               split three samples and show them
+    splitter sample [-o DIR]               split four samples and show them
     splitter plan FILE [TABLE]             show where tables would be cut
     splitter split FILE [TABLE] -o FILE    split tables
     splitter pair FILE [TABLE] G1 G2       read what tables say of two glyphs
@@ -59,15 +59,16 @@ standard error: a refusal says what is at fault, where, and what is wanted.
 ";
 
 const SAMPLE: &str = "\
-splitter sample [sets | rows | marks] [-o DIR] [--ascii]
+splitter sample [sets | rows | marks | lookups] [-o DIR] [--ascii]
 
-Splits built-in stores: pairs in each format, and marks on bases. Shows the old
-table, where it is cut, what comes of it, and that every pair or attachment
-reads as before.
+Splits built-in stores: pairs in each format, marks on bases, and pairs in a
+lookup, in which the new tables are entered. Shows the old table, where it is
+cut, what comes of it, and that every pair or attachment reads as before.
 
     sets, rows, marks   one of them: pairs in format 1, pairs in format 2, marks
-    -o, --output DIR    write the stores into a directory, as sample1.krns,
-                        sample2.krns and sample3.krns, and split nothing
+    lookups             pairs in format 1, the first of two tables in a lookup
+    -o, --output DIR    write the stores into a directory, as sample1.krns to
+                        sample4.krns, and split nothing
     --ascii             draw bars in ASCII, whatever the locale
 
 Columns: items are the pair sets or rows of a table; glyphs, the first glyphs
@@ -165,7 +166,8 @@ font, or of the first font of a collection: the subtables of lookups of types 2
 and 4, and those of type 9 that extend these. For each: lookup, subtable, kind,
 format, bytes with all that it leads to, items (pair sets, rows or mark
 classes), covered glyphs, and cut places or why it is refused. A table that is
-listed more than once is shown once.
+listed more than once is shown once. Then each lookup: which subtables it lists,
+and what a split would make of them.
 
     -o, --output DIR    write each table into a directory as a store file, as
                         lookupL-subtableS-KIND.krns, for plan, split, pair, mark

@@ -1,5 +1,6 @@
-//! `splitter sample`: three stores that are there to be tried.
+//! `splitter sample`: four stores that are there to be tried.
 
+mod lookups;
 mod marks;
 mod rows;
 mod sets;
@@ -8,7 +9,7 @@ mod words;
 use super::{
     arguments::{Sample, Which},
     failure::Failure,
-    files,
+    files, lookups as in_lookups,
     outcome::Outcome,
     report::Amount,
     screen::Screen,
@@ -27,6 +28,8 @@ struct Example {
     file_name: &'static str,
     store: Store,
     table: Table,
+    /// The lookup list in which new tables are entered.
+    list: Option<u32>,
 }
 
 /// Splits the samples and shows what comes of it, or writes them.
@@ -45,7 +48,7 @@ pub fn run(request: &Sample, screen: &mut Screen) -> Result<Outcome, Failure> {
 fn examples(which: Option<Which>) -> Result<Vec<Example>, Refusal> {
     match which {
         Some(which) => Ok(vec![example(which)?]),
-        None => [Which::Sets, Which::Rows, Which::Marks]
+        None => [Which::Sets, Which::Rows, Which::Marks, Which::Lookups]
             .into_iter()
             .map(example)
             .collect(),
@@ -53,25 +56,35 @@ fn examples(which: Option<Which>) -> Result<Vec<Example>, Refusal> {
 }
 
 fn example(which: Which) -> Result<Example, Refusal> {
+    let mut list = None;
     let (title, file_name, (store, number)) = match which {
         Which::Sets => (
-            "Sample 1 of 3: a table of pair sets, for glyph before glyph",
+            "Sample 1 of 4: a table of pair sets, for glyph before glyph",
             "sample1.krns",
             sets::store()?,
         ),
         Which::Rows => (
-            "Sample 2 of 3: a table of rows, for class before class",
+            "Sample 2 of 4: a table of rows, for class before class",
             "sample2.krns",
             rows::store()?,
         ),
         Which::Marks => (
-            "Sample 3 of 3: a table of anchors, for mark on base",
+            "Sample 3 of 4: a table of anchors, for mark on base",
             "sample3.krns",
             marks::store()?,
         ),
+        Which::Lookups => {
+            let (store, table, of_lookups) = lookups::store()?;
+            list = Some(of_lookups);
+            (
+                "Sample 4 of 4: a table of pair sets, the first of two in a lookup",
+                "sample4.krns",
+                (store, table),
+            )
+        }
     };
     let table = match which {
-        Which::Sets | Which::Rows => Table::pairs(number),
+        Which::Sets | Which::Rows | Which::Lookups => Table::pairs(number),
         Which::Marks => Table::marks(number),
     };
     Ok(Example {
@@ -79,6 +92,7 @@ fn example(which: Which) -> Result<Example, Refusal> {
         file_name,
         store,
         table,
+        list,
     })
 }
 
@@ -95,7 +109,12 @@ fn show(examples: Vec<Example>, screen: &mut Screen) -> Result<(), Failure> {
         screen.heading(example.title)?;
         screen.line("")?;
         let (mut store, table) = (example.store, example.table);
-        show.split(&mut store, table, &mut scratch, screen)?;
+        match example.list {
+            None => drop(show.split(&mut store, table, &mut scratch, screen)?),
+            Some(list) => {
+                in_lookups::show(&mut store, list, table.number, &mut scratch, screen)?;
+            }
+        }
     }
     screen.line("")?;
     let files =

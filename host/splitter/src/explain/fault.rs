@@ -135,6 +135,8 @@ pub enum Part {
     Table,
     /// The coverage of a PairPos table.
     Coverage,
+    /// A pair set.
+    PairSet,
     /// Class definition 1.
     ClassDef1,
     /// Class definition 2.
@@ -168,6 +170,7 @@ impl Part {
         match self {
             Self::Table => "table",
             Self::Coverage => "coverage",
+            Self::PairSet => "pair set",
             Self::ClassDef1 => "class definition 1",
             Self::ClassDef2 => "class definition 2",
             Self::MarkCoverage => "mark coverage",

@@ -13,10 +13,21 @@ pub struct FontTables<'a> {
     budget: Budget,
     /// How many lookups the font has.
     pub lookups: usize,
-    /// The lookups that have tables of each kind, and how often these list one.
-    pub of_kind: [(Kind, usize, usize); 2],
+    /// How many of them have tables of each kind.
+    pub of_kind: [OfKind; 2],
     /// The tables, in the order in which they are first listed.
     pub tables: Vec<FontTable>,
+}
+
+/// How many lookups have tables of a kind.
+#[derive(Clone, Copy, Debug, PartialEq, Eq)]
+pub struct OfKind {
+    /// The kind.
+    pub kind: Kind,
+    /// How many lookups have such tables.
+    pub lookups: usize,
+    /// How many such tables they list, some of them perhaps more than once.
+    pub subtables: usize,
 }
 
 /// A table of a font.
@@ -50,19 +61,24 @@ impl<'a> FontTables<'a> {
             gpos: find_gpos(file)?,
             budget: Budget::for_font(file.len()),
             lookups: 0,
-            of_kind: Kind::ALL.map(|kind| (kind, 0, 0)),
+            of_kind: Kind::ALL.map(|kind| OfKind {
+                kind,
+                lookups: 0,
+                subtables: 0,
+            }),
             tables: Vec::new(),
         };
         let Some(gpos) = font.gpos else {
             return Ok(font);
         };
         let mut listed: HashMap<(Kind, usize), Vec<Listed>> = HashMap::new();
-        for (kind, of_kind, count) in &mut font.of_kind {
-            let lookups = Lookups::read(gpos, *kind)?;
+        for of_kind in &mut font.of_kind {
+            let lookups = Lookups::read(gpos, of_kind.kind)?;
             font.lookups = lookups.count;
-            (*of_kind, *count) = (lookups.of_kind, lookups.subtables.len());
+            of_kind.lookups = lookups.of_kind;
+            of_kind.subtables = lookups.subtables.len();
             for subtable in lookups.subtables {
-                let places = listed.entry((*kind, subtable.start)).or_default();
+                let places = listed.entry((of_kind.kind, subtable.start)).or_default();
                 places.push(Listed {
                     lookup: subtable.lookup,
                     subtable: subtable.number,

@@ -1,8 +1,8 @@
 //! The shapes that the exported functions have: how slices and arrays are passed to them.
 
-/// A function that splits tables of one kind.
+/// A function that splits tables of one kind; it may be told another object before the table.
 macro_rules! split_function {
-    ($(#[$about:meta])* $name:ident) => {
+    ($(#[$about:meta])* $name:ident $(, $other:ident)?) => {
         $(#[$about])*
         #[expect(clippy::too_many_arguments)]
         pub fn $name(
@@ -10,6 +10,7 @@ macro_rules! split_function {
             objects: &mut [u32],
             links: &mut [u32],
             counts: &mut [u32; 3],
+            $($other: u32,)?
             table: u32,
             walk: &mut [u32],
             glyph_set: &mut [u8],
@@ -28,6 +29,7 @@ macro_rules! split_function {
                     links: *mut u32,
                     links_len: usize,
                     counts: *mut u32,
+                    $($other: u32,)?
                     table: u32,
                     walk: *mut u32,
                     walk_len: usize,
@@ -54,6 +56,7 @@ macro_rules! split_function {
                     links.as_mut_ptr(),
                     links.len(),
                     counts.as_mut_ptr(),
+                    $($other,)?
                     table,
                     walk.as_mut_ptr(),
                     walk.len(),

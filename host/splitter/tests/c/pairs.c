@@ -3,8 +3,8 @@
 
 #include "expect.h"
 
-/* Three pair sets of 30,000 bytes, and exactly the room that a cut at 2 needs. */
-enum { SET = 30000, USED = 26 + 3 * SET, ROOM = 26 };
+/* Three pair sets of 7,500 records, and exactly the room that a cut at 2 needs. */
+enum { RECORDS = 7500, SET = 2 + 4 * RECORDS, USED = 26 + 3 * SET, ROOM = 26 };
 
 typedef struct {
     uint8_t *data;
@@ -23,8 +23,8 @@ typedef struct {
     uint16_t behind;
 } scratch;
 
-/* A format 1 table with X advances, its coverage of glyphs 10, 20 and 30, and three sets, each with a
- * pair with glyph 70 whose advance is minus the set's number. */
+/* A format 1 table with X advances, its coverage of glyphs 10, 20 and 30, and three sets, whose pairs with
+ * glyphs 0, 1 and so on have an advance of minus the set's number. */
 static void make(store *s) {
     static const uint16_t head[] = {1, 0, 4, 0, 3, 0, 0, 0, 1, 3, 10, 20, 30};
     static const uint32_t ends[] = {0, 16, 26, 26 + SET, 26 + 2 * SET, 26 + 3 * SET};
@@ -38,8 +38,12 @@ static void make(store *s) {
     }
     row(s->links, 0, 2, 1);
     for (uint32_t i = 0; i < 3; i++) {
-        const uint16_t set[] = {1, 70, (uint16_t)(0x10000 - i)};
-        put(s->data + ends[i + 2], set, 3);
+        const uint16_t set_count = RECORDS;
+        put(s->data + ends[i + 2], &set_count, 1);
+        for (uint16_t second = 0; second < RECORDS; second++) {
+            const uint16_t record[] = {second, (uint16_t)(0x10000 - i)};
+            put(s->data + ends[i + 2] + 2 + 4 * second, record, 2);
+        }
         row(s->links + 4 * (i + 1), 0, 10 + 2 * i, i + 2);
     }
     s->counts[0] = USED;
@@ -119,6 +123,12 @@ static void refusals(void) {
     EXPECT(split(&s, 5, &w, &table, 1, &count) == SPLITTER_NO_TABLE && is_zero(&w));
     EXPECT(split(&s, 1, &w, &table, 1, &count) == SPLITTER_BAD_TABLE && is_zero(&w));
     EXPECT(pair(&s, 5, 30, values, &found) == SPLITTER_NO_TABLE && found == 0);
+    EXPECT(memcmp(values, zeros, sizeof zeros) == 0);
+    /* The second record of the last set has the glyph of the first. */
+    s.data[26 + 2 * SET + 7] = 0;
+    EXPECT(plan(&s, 0, &w, &place, 1, &count) == SPLITTER_UNSORTED_SETS && count == 0 && is_zero(&w));
+    EXPECT(split(&s, 0, &w, &table, 1, &count) == SPLITTER_UNSORTED_SETS && count == 0 && is_zero(&w));
+    EXPECT(pair(&s, 0, 10, values, &found) == SPLITTER_UNSORTED_SETS && found == 0);
     EXPECT(memcmp(values, zeros, sizeof zeros) == 0);
     s.counts[2] = 5;
     EXPECT(plan(&s, 0, &w, &place, 1, &count) == SPLITTER_UNSOUND && count == 0 && is_zero(&w));

@@ -21,23 +21,45 @@ pub fn bytes(words: &[u16]) -> Vec<u8> {
     words.iter().flat_map(|word| word.to_be_bytes()).collect()
 }
 
-/// A format 1 table, object 0, with X advances, of glyphs 10, 20 and so on and a pair set of each
-/// length. Its coverage is object 1, and the sets are objects 2 and on, each of one pair: in front of
-/// glyph 70 the advance is the set's number.
-pub fn format1(lengths: &[usize]) -> Store {
-    let sets = lengths.len() as u16;
+/// A format 1 table, object 0, with X advances, and its coverage of glyphs 10, 20 and so on, object 1. No slot
+/// has a link.
+fn format1_slots(sets: u16) -> Store {
     let mut table = bytes(&[1, 0, 4, 0, sets]);
-    table.resize(10 + 2 * lengths.len(), 0);
+    table.resize(10 + 2 * usize::from(sets), 0);
     let glyphs = (1..=sets).map(|set| 10 * set);
     let coverage: Vec<u16> = [1, sets].into_iter().chain(glyphs).collect();
     let mut store = Store::new();
     store.add_object(&table).unwrap();
     store.add_object(&bytes(&coverage)).unwrap();
     store.add_link(0, 2, 1).unwrap();
-    for (set, &length) in (0..).zip(lengths) {
-        let mut bytes = bytes(&[1, 70, set + 1]);
-        bytes.resize(length, 0);
-        let object = store.add_object(&bytes).unwrap();
+    store
+}
+
+/// A format 1 table, object 0, with X advances, of glyphs 10, 20 and so on and a pair set for each length.
+/// Its coverage is object 1, and the sets are objects 2 and on, each of one pair: in front of glyph 70 the
+/// advance is the set's number. Behind them comes, for each set, what it leads to and makes up its length.
+pub fn format1(lengths: &[usize]) -> Store {
+    let mut store = format1_slots(lengths.len() as u16);
+    let mut sets = Vec::new();
+    for set in 0..lengths.len() as u16 {
+        let object = store.add_object(&bytes(&[1, 70, set + 1])).unwrap();
+        store.add_link(0, 10 + 2 * u32::from(set), object).unwrap();
+        sets.push(object);
+    }
+    for (set, length) in sets.into_iter().zip(lengths) {
+        let rest = store.add_object(&vec![0; length - 6]).unwrap();
+        store.add_link(set, 0, rest).unwrap();
+    }
+    store
+}
+
+/// The same with a pair set of so many records each: of glyphs 0, 1 and so on, each with the set's number.
+pub fn format1_records(records: &[u16]) -> Store {
+    let mut store = format1_slots(records.len() as u16);
+    for (set, &count) in (0..).zip(records) {
+        let pairs = (0..count).flat_map(|second| [second, set + 1]);
+        let words: Vec<u16> = [count].into_iter().chain(pairs).collect();
+        let object = store.add_object(&bytes(&words)).unwrap();
         store.add_link(0, 10 + 2 * u32::from(set), object).unwrap();
     }
     store
@@ -76,14 +98,14 @@ pub fn cut_marks() -> (Store, Room) {
     (marks([40_000; 3]), room)
 }
 
-/// W7: it is cut at 2, and needs exactly this room.
+/// Three sets of 30,002 bytes: as in W7 it is cut at 2, and needs exactly this room.
 pub fn w7() -> (Store, Room) {
     let room = Room {
         data: 26,
         objects: 3,
         links: 1,
     };
-    (format1(&[30_000; 3]), room)
+    (format1_records(&[7_500; 3]), room)
 }
 
 /// W12: 170 rows of 200 columns, X advances, and glyph 100 + c in class c. It is cut at 162.
@@ -106,5 +128,58 @@ pub fn w12() -> Store {
     for (position, part) in [(2, 1), (8, 2), (10, 3)] {
         store.add_link(0, position, part).unwrap();
     }
+    store
+}
+
+/// The list of [`listed`].
+pub const LIST: u32 = 5;
+/// The lookup of [`listed`].
+pub const LOOKUP: u32 = 6;
+
+/// Three sets, cut at 2; a list, object 5, of an empty slot and a lookup, object 6, which has a mark filtering
+/// set and lists the table, nothing, object 7 of another format, and the table again. Object 8 leads to the
+/// lookup. It needs exactly this room: the split's, and 2 bytes and a link for each of two listings more than
+/// the lookup has.
+pub fn listed() -> (Store, Room) {
+    let mut store = format1_records(&[7_500; 3]);
+    for words in [
+        &[2, 0, 0][..],
+        &[2, 0x0010, 4, 0, 0, 0, 0, 0x0ABC],
+        &[3],
+        &[0, 0],
+    ] {
+        store.add_object(&bytes(words)).unwrap();
+    }
+    for [parent, position, child] in [
+        [LIST, 4, LOOKUP],
+        [LOOKUP, 6, 0],
+        [LOOKUP, 10, 7],
+        [LOOKUP, 12, 0],
+        [8, 2, LOOKUP],
+    ] {
+        store.add_link(parent, position, child).unwrap();
+    }
+    let room = Room {
+        data: 26 + 16 + 2 * 2,
+        objects: 3 + 1,
+        links: 1 + 3 + 2,
+    };
+    (store, room)
+}
+
+/// Pair sets with X advances that are not sorted, or not as long as they say.
+pub const UNSORTED: [&[u16]; 5] = [
+    &[2, 70, 1, 70, 2],
+    &[2, 71, 1, 70, 2],
+    &[1, 70, 1, 0],
+    &[1, 70],
+    &[],
+];
+
+/// A format 1 table of glyph 10, object 0, with this pair set.
+pub fn one_set(set: &[u16]) -> Store {
+    let mut store = format1_slots(1);
+    let set = store.add_object(&bytes(set)).unwrap();
+    store.add_link(0, 10, set).unwrap();
     store
 }

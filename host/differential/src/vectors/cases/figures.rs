@@ -1,14 +1,13 @@
 //! Stores made by hand: document 01's figures, limits, and shapes that seldom come by chance.
 
-use super::{super::plain, Case};
+use super::{super::plain, Case, PAIRS};
 use crate::{
-    by_hand::{format1_slots, format2},
+    by_hand::{format1_slots, format2, lengthen},
     edit, lend,
     model::{answers, cuts::weigh, numbers::bytes},
     Call, Random,
 };
 use oracle::Store;
-use splitter::Kind;
 
 /// The table of each of these stores.
 const TABLE: usize = 0;
@@ -21,18 +20,20 @@ pub fn all() -> Vec<Case> {
         let name = name.into();
         cases.push(Case {
             name,
-            kind: Kind::Pairs,
+            functions: PAIRS,
             call,
         });
     };
     let three = [10, 20, 30];
     add("no sets", format1(&[], &[]));
     add("three sets, one cut", format1(&three, &[30_000; 3]));
+    add("a set below the limit", format1(&[10], &[65_516]));
     add("a set at the limit", format1(&[10], &[65_517]));
     add(
         "a set past the limit, cut at nought",
         format1(&[10], &[65_518]),
     );
+    add("a set well past the limit", format1(&[10], &[65_519]));
     add(
         "two cuts, and a glyph too many",
         format1(&[10, 20, 30, 40], &[40_000; 3]),
@@ -90,29 +91,32 @@ fn lent(store: Store) -> Call<u32> {
     plain::lent(call)
 }
 
-/// Format 1 with a pair set of each length, from object 2 on. Coverage is object 1.
+/// Format 1 with a pair set for each length, from object 2 on. Coverage is object 1, and what makes up the
+/// lengths comes behind the sets.
 fn format1(glyphs: &[u16], lengths: &[usize]) -> Store {
     let mut store = format1_slots(glyphs, lengths.len());
-    for (i, &length) in lengths.iter().enumerate() {
-        let set = store.push_object(&pair_set(length, i));
+    for i in 0..lengths.len() {
+        let set = store.push_object(&pair_set(i));
         store.push_link(TABLE, 10 + 2 * i as u32, set);
+    }
+    for (i, &length) in lengths.iter().enumerate() {
+        lengthen(&mut store, 2 + i, length);
     }
     store
 }
 
 /// Two records: of glyph 5, and of glyph 7 with a value below 0.
-fn pair_set(length: usize, i: usize) -> Vec<u8> {
-    let mut set = bytes([2, 5, 1 + i as u16, 7, u16::MAX - i as u16]);
-    set.resize(length, 0);
-    set
+fn pair_set(i: usize) -> Vec<u8> {
+    bytes([2, 5, 1 + i as u16, 7, u16::MAX - i as u16])
 }
 
 fn empty_slots() -> Store {
     let glyphs: Vec<u16> = (200..212).collect();
     let mut store = format1_slots(&glyphs, 12);
     for (i, slot) in [1, 2, 5, 6, 10].into_iter().enumerate() {
-        let set = store.push_object(&pair_set(20_000, i));
+        let set = store.push_object(&pair_set(i));
         store.push_link(TABLE, 10 + 2 * slot, set);
+        lengthen(&mut store, set, 20_000);
     }
     store
 }
@@ -121,15 +125,16 @@ fn empty_slots() -> Store {
 fn shared() -> Store {
     let mut store = format1(&[10, 20, 30], &[100, 30_000, 20_000]);
     let below = store.push_object(&[0; 40_000]);
-    store.push_link(2, 12, below);
-    store.push_link(3, 12, below);
+    store.push_link(2, 4, below);
+    store.push_link(3, 4, below);
     store
 }
 
 fn one_set(slots: usize, length: usize) -> Store {
     let glyphs: Vec<u16> = (0..slots as u16).map(|slot| 3 * slot).collect();
     let mut store = format1_slots(&glyphs, slots);
-    let set = store.push_object(&pair_set(length, 0));
+    let set = store.push_object(&pair_set(0));
+    lengthen(&mut store, set, length);
     for slot in 0..slots as u32 {
         store.push_link(TABLE, 10 + 2 * slot, set);
     }
@@ -140,8 +145,8 @@ fn one_set(slots: usize, length: usize) -> Store {
 fn loops() -> Store {
     let mut store = format1(&[10, 20, 30], &[30_000; 3]);
     let [first, second, outside] = [400, 500, 4].map(|length| store.push_object(&vec![0; length]));
-    store.push_link(2, 20, 2);
-    store.push_link(3, 30, first);
+    store.push_link(2, 4, 2);
+    store.push_link(3, 8, first);
     store.push_link(first, 0, second);
     store.push_link(second, 1, first);
     store.push_link(outside, 2, TABLE);

@@ -1,6 +1,6 @@
 //! Mark-to-base tables made by hand: limits, and shapes that seldom come by chance.
 
-use super::{super::plain, Case};
+use super::{super::plain, Case, MARKS};
 use crate::{
     by_hand::{marks, push_anchor, BASE_ARRAY, BASE_COVERAGE, MARK_ARRAY},
     edit, lend,
@@ -8,7 +8,6 @@ use crate::{
     Call, Random,
 };
 use oracle::Store;
-use splitter::Kind;
 
 /// The table of each of these stores.
 const TABLE: u32 = 0;
@@ -37,7 +36,7 @@ pub fn all() -> Vec<Case> {
     ];
     let case = |(name, store): (&str, Store)| Case {
         name: name.into(),
-        kind: Kind::Marks,
+        functions: MARKS,
         call: lent(store),
     };
     stores.map(case).into()

@@ -1,13 +1,15 @@
 //! Calls to which two neighbouring refusals apply at once: the first one answers.
 
-use super::{super::plain, Case};
+use super::{super::plain, Case, PAIRS};
 use crate::{
-    by_hand::format1_slots, edit, lend, model::numbers::bytes, Call, Model, Random, Subject,
+    by_hand::{format1_slots, lengthen},
+    edit, lend,
+    model::numbers::bytes,
+    Call, Model, Random, Subject,
 };
 use oracle::Store;
-use splitter::Kind;
 
-/// Two neighbours in the order of document 01's table.
+/// Two neighbours in the order in which refusals are looked for.
 pub struct Neighbours {
     /// Which they are.
     pub name: &'static str,
@@ -29,10 +31,9 @@ fn with(call: &Call<u32>, change: impl Fn(&mut Call<u32>)) -> Call<u32> {
 /// A table of format 1 with one set of a length, under these glyphs, in so many slots; it is lent what it needs.
 fn call(glyphs: &[u16], slots: usize, length: usize) -> Call<u32> {
     let mut store = format1_slots(glyphs, slots);
-    let mut set = bytes([1, 5, 7]);
-    set.resize(length, 0);
-    let set = store.push_object(&set);
+    let set = store.push_object(&bytes([1, 5, 7]));
     store.push_link(0, 10, set);
+    lengthen(&mut store, set, length);
     lent(&store)
 }
 
@@ -61,6 +62,10 @@ fn short_cuts(call: &mut Call<u32>) {
 
 fn link_at_no_slot(call: &mut Call<u32>) {
     edit::link(&mut call.store, 0, 4, 1);
+}
+
+fn long_set(call: &mut Call<u32>) {
+    edit::replace(&mut call.store, 2, &[0, 1, 0, 5, 0, 7, 0]);
 }
 
 /// Each two neighbours, in the order of the table.
@@ -136,16 +141,22 @@ pub fn all() -> Vec<Neighbours> {
             [6, 7],
         ),
         neighbours(
-            "a link at no slot, and no cut",
-            with(&uncut, link_at_no_slot),
-            uncut.clone(),
-            [7, 0],
+            "a link at no slot, and a set that is too long",
+            with(&with(&uncut, link_at_no_slot), long_set),
+            with(&uncut, long_set),
+            [7, 11],
         ),
         neighbours(
-            "a link at no slot, and no room for the cut",
-            with(&with(&cut, link_at_no_slot), |call| call.list.clear()),
+            "a set that is too long, and no cut",
+            with(&uncut, long_set),
+            uncut.clone(),
+            [11, 0],
+        ),
+        neighbours(
+            "a set that is too long, and no room for the cut",
+            with(&with(&cut, long_set), |call| call.list.clear()),
             with(&cut, |call| call.list.clear()),
-            [7, 8],
+            [11, 8],
         ),
         neighbours(
             "no cut, and no room",
@@ -165,7 +176,7 @@ impl Neighbours {
         let name = self.name.into();
         Case {
             name,
-            kind: Kind::Pairs,
+            functions: PAIRS,
             call,
         }
     }
@@ -183,7 +194,7 @@ mod tests {
     /// So that both apply: the first one answers, and where it is mended the second does.
     #[test]
     fn the_first_of_two_answers() {
-        assert_eq!(cases().len(), 11);
+        assert_eq!(cases().len(), 12);
     }
 
     /// Each refusal is the first of two, and the second, but for 1 and 8.
@@ -196,7 +207,8 @@ mod tests {
                 b.push(second);
                 [a, b]
             });
-        assert!((1..8).all(|answer| firsts.contains(&answer)));
-        assert!((2..9).all(|answer| seconds.contains(&answer)));
+        let answers = [1, 2, 3, 4, 5, 6, 7, 11, 8];
+        assert!(answers[..8].iter().all(|answer| firsts.contains(answer)));
+        assert!(answers[1..].iter().all(|answer| seconds.contains(answer)));
     }
 }

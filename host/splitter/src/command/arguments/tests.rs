@@ -46,6 +46,7 @@ fn requests() {
     for (words, which, directory) in [
         ("sample sets", Which::Sets, None),
         ("sample rows", Which::Rows, None),
+        ("sample lookups", Which::Lookups, None),
         ("sample -o D marks", Which::Marks, Some("D")),
     ] {
         assert_eq!(of(words), Ok(sample(Some(which), directory)));
@@ -174,7 +175,10 @@ fn words_that_cannot_be_followed() {
             "wants MARK to be a number from 0 to 65535",
         ),
         ("font f --marks", "has no option --marks"),
-        ("sample x", "has sets, rows and marks, and no \"x\""),
+        (
+            "sample x",
+            "has sets, rows, marks and lookups, and no \"x\"",
+        ),
         ("sample sets x", "no use for the word \"x\""),
     ] {
         let sentence = of(words).unwrap_err();

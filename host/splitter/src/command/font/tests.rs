@@ -126,6 +126,36 @@ fn lookups_of_both_kinds() {
     assert_eq!(found, expected);
 }
 
+/// Subtables of one lookup in order, each kind by itself.
+#[test]
+fn lookups_and_what_a_split_makes_of_them() {
+    let mut seen = look_into(&small_font()).unwrap();
+    let words = |seen: &[Seen]| -> Vec<String> {
+        let lookups = lookups::by_lookup(seen);
+        lookups.iter().map(|lookup| lookup.words()).collect()
+    };
+    let as_they_are = ["0, 1: as they are", "0: as they are", "1: as they are"];
+    assert_eq!(words(&seen), as_they_are);
+    seen[0].cuts = Ok(vec![3, 7]);
+    seen[3].cuts = Ok(vec![1]);
+    let cut = [
+        "0, 1: 4 in their place, 0 becomes 3",
+        "0: as they are",
+        "1: 2 in their place, 1 becomes 2",
+    ];
+    assert_eq!(words(&seen), cut);
+    seen[1].cuts = Ok(vec![0; 65_532]);
+    assert_eq!(
+        words(&seen)[0],
+        "0, 1: refused, 65,536 are too many",
+        "a lookup counts up to 65,535"
+    );
+    seen[1].cuts = Ok(vec![0; 65_531]);
+    assert!(words(&seen)[0].ends_with("0 becomes 3, 1 becomes 65,532"));
+    seen[1].cuts = Err(FontError::Store(Refusal::BadParts));
+    assert_eq!(words(&seen)[0], "0, 1: refused, 1 of 2");
+}
+
 #[test]
 fn the_first_font_of_a_collection() {
     let fonts = [small_font(), font(&[])];
@@ -160,8 +190,11 @@ fn cut_places_on_disk() {
     let mut table = words(&[1, 16, 4, 0, 3, 26, 30_026, 60_026]);
     table.extend(words(&[1, 3, 5, 7, 9]));
     for _ in 0..3 {
-        let set = [&[7_499, 0], &[1; 14_998][..]].concat();
-        table.extend(words(&set));
+        let records = (0..7_499).flat_map(|second| [second, 1]);
+        table.extend(words(
+            &[7_499].into_iter().chain(records).collect::<Vec<_>>(),
+        ));
+        table.extend([0; 2]);
     }
     let store = load(table).unwrap();
     assert_eq!(store.view().counts(), [16 + 10 + 3 * 29_998, 5, 4]);
@@ -194,6 +227,8 @@ fn refusals() {
     assert_eq!(refusal(load(odd_coverage).unwrap()), Refusal::BadParts);
     let few_glyphs = words(&[1, 14, 4, 0, 2, 0, 0, 1, 1, 5]);
     assert_eq!(refusal(load(few_glyphs).unwrap()), Refusal::FewGlyphs);
+    let unsorted = words(&[1, 12, 4, 0, 1, 18, 1, 1, 5, 2, 8, 1, 7, 2]);
+    assert_eq!(refusal(load(unsorted).unwrap()), Refusal::UnsortedSets);
 }
 
 /// A list of lookups that leads to the same long lookup again and again is soon given up.
@@ -229,7 +264,12 @@ fn a_table_that_is_listed_often() {
     often.extend(words(&[1, 0, 4, 0, 0]));
     let file = font(&[(b"GPOS", gpos(&[often]))]);
     let tables = FontTables::read(&file).unwrap();
-    assert_eq!(tables.of_kind[0], (Kind::Pairs, 1, 1_000));
+    let of_kind = OfKind {
+        kind: Kind::Pairs,
+        lookups: 1,
+        subtables: 1_000,
+    };
+    assert_eq!(tables.of_kind[0], of_kind);
     let seen = look_into(&file).unwrap();
     assert_eq!(seen.len(), 1);
     let lines = seen[0].lines();

@@ -2,13 +2,13 @@
 
 use super::*;
 use crate::command::look::Look;
-use splitter::{read_mark, Kind};
+use splitter::{read_mark, read_pair, Kind, Lookup};
 
 /// Each is cut into three tables at least, and has devices and objects that are shared. The pieces are
 /// all of the table.
 #[test]
 fn samples_are_worth_a_look() {
-    for (example, format) in examples(None).unwrap().into_iter().zip([1, 2, 1]) {
+    for (example, format) in examples(None).unwrap().into_iter().zip([1, 2, 1, 1]) {
         let Example { store, table, .. } = example;
         let view = store.view();
         assert_eq!(view.object(table.number).unwrap()[..2], [0, format]);
@@ -46,4 +46,26 @@ fn marks_as_fonts_have_them() {
     let read = |(mark, base)| read_mark(&store, table.number, mark, base).unwrap();
     let found = all.step_by(7).filter_map(read).count();
     assert!((800..1_300).contains(&found), "{found}");
+}
+
+/// The lookup lists the table first and another one behind it, which has pairs that the table does not have
+/// and others for the same glyphs.
+#[test]
+fn a_lookup_of_two_subtables() {
+    let Example {
+        store, table, list, ..
+    } = example(Which::Lookups).unwrap();
+    let view = store.view();
+    let lookup = view.child(list.unwrap(), 2).unwrap();
+    let subtables: Vec<u32> = Lookup::read(&store, lookup).unwrap().subtables().collect();
+    assert_eq!((subtables.len(), subtables[0]), (2, table.number));
+    let read = |table, first, second| read_pair(&store, table, first, second).unwrap().is_some();
+    let glyphs = (36..236).flat_map(|first| (36..220).map(move |second| (first, second)));
+    let mut counts = [0; 4];
+    for (first, second) in glyphs.step_by(7) {
+        let [a, b] = [subtables[0], subtables[1]].map(|table| read(table, first, second));
+        counts[usize::from(a) + 2 * usize::from(b)] += 1;
+    }
+    let [_, _, second_alone, both] = counts;
+    assert!(second_alone > 500 && both > 1_000, "{counts:?}");
 }
