@@ -5,7 +5,6 @@ use mathlib.Core.Bool.{true, _&&_}
 use mathlib.Core.List.{List}
 use mathlib.Core.Option.{Option}
 use lib.ListN.{length, getD}
-use Rattle.folds.specs.Folds.{upto}
 use Rattle.folds.proofs.Tests.{and-both, and-intro}
 use Rattle.folds.proofs.Folds.{upto-same}
 use Rattle.folds.proofs.Failing.{all-same}

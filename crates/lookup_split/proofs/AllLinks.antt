@@ -12,7 +12,7 @@ use Rattle.folds.proofs.TwoParts.{upto-split}
 use Rattle.store_rules.specs.Store.{Store, Link, lent, perLink, rowParent, rowPosition, rowWidth, rowChild, linkAt, linkNumber, linksOf}
 use Rattle.store_rules.specs.Appended.{rowNumbers}
 use Rattle.store_rules.proofs.LinkRows.{links-back}
-use Rattle.store_link_rows.specs.Copies.{inUse, RowsRoom, Copied}
+use Rattle.store_link_rows.specs.Copies.{inUse, Copied}
 use Rattle.store_link_rows.proofs.Copying.{still-in-use}
 
 module _ (ls counts : List ℕ) (new : List Link) (room : perLink * (getD counts 2 0 + length new) ≤ length ls) (out : List ℕ) (r : ℕ)

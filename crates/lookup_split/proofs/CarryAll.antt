@@ -1,15 +1,14 @@
 -- A split for which there is room together with its lookups: what is known once it is carried out, and what the lookups then leave. Assumes nothing.
-use Prim.Native.Nat.{ℕ, _+_, _*_, _<_, _≤_}
+use Prim.Native.Nat.{ℕ, _+_, _<_, _≤_}
 use mathlib.Core.Path.{_≡_, sym, ap, ap₂, subst, _∙_}
 use mathlib.Core.Bool.{true, false}
 use mathlib.Core.List.{List, _++_, map}
-use mathlib.Core.Option.{Option}
 use native.Mathlib.Omega.{arith}
 use lib.ListN.{length, getD, take}
 use lib.Dec.{leb}
 use borrow.Author.Tests.{leb-true}
 use Rattle.folds.specs.Folds.{sum}
-use Rattle.folds.specs.Lists.{put, join}
+use Rattle.folds.specs.Lists.{join}
 use Rattle.folds.proofs.Folds.{all-at}
 use Rattle.folds.proofs.Put.{length-put, put-front}
 use Rattle.store_rules.specs.Store.{Store, Link, linksOf}
@@ -24,10 +23,9 @@ use Rattle.pair_split.proofs.SplitAt.{tables-many}
 use Rattle.pair_after.proofs.Ready.{objects-then}
 use Rattle.pair_after.proofs.SoundThen.{sound-then}
 use Rattle.pair_after.proofs.Taken.{links-then, links-length}
-use Rattle.lookup_rules.specs.Listed.{rewritten, goodLookup}
+use Rattle.lookup_rules.specs.Listed.{rewritten}
 use Rattle.lookup_rules.specs.Marks.{Marked}
-use Rattle.lookup_rules.specs.Rewritable.{Rewritable}
-use Rattle.lookup_rules.specs.Written.{newSlots, newLookups, newLookupLinks, redirected, enteredStore, countsFit, linksNeeded, lookupsNeed}
+use Rattle.lookup_rules.specs.Written.{newSlots, newLookupLinks, redirected, enteredStore, countsFit, linksNeeded, lookupsNeed}
 use Rattle.lookup_rules.proofs.Counts.{all-needed}
 use Rattle.lookup_after.proofs.Entering.{Entering, entering}
 use Rattle.lookup_after.proofs.NewLookups.{named, room, many-lookups}

@@ -13,7 +13,7 @@ use Rattle.store_rules.specs.Appended.{rowNumbers, appended}
 use Rattle.store_rules.proofs.LinkRows.{rows-numbers}
 use Rattle.store_rules.proofs.LinksFit.{rows-many}
 use Rattle.store_object_rows.specs.Objects.{Written}
-use Rattle.store_link_rows.specs.Copies.{inUse, Copied}
+use Rattle.store_link_rows.specs.Copies.{Copied}
 use Rattle.store_link_rows.proofs.Links.{numbers-append}
 use Rattle.lookup_rules.specs.Written.{newSlots, newLookup, newLookups, newLookupLinks, redirected, enteredStore}
 use Rattle.lookup_links.specs.Redirecting.{linksIn}

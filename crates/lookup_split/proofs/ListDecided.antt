@@ -1,7 +1,7 @@
 -- What is decided of a list and a table: by the checks of the list, and then as for a split. Assumes nothing.
 use Prim.Native.Nat.{ℕ}
 use mathlib.Core.Path.{_≡_, sym, ap, _∙_}
-use mathlib.Core.Bool.{true, not}
+use mathlib.Core.Bool.{true}
 use mathlib.Core.List.{List}
 use mathlib.Core.Option.{none}
 use native.Mathlib.Omega.{arith}
@@ -9,16 +9,14 @@ use lib.ListN.{length}
 use borrow.Author.Tests.{not-false}
 use Rattle.store_rules.specs.Store.{Store, sound}
 use Rattle.call_rules.specs.declared.Answer.{Answer}
-use Rattle.call_rules.specs.declared.Lengths.{Lengths}
 use Rattle.call_rules.specs.Answers.{number, firstCase}
 use Rattle.call_rules.specs.Scratch.{Scratch, scratchOf, lengthsOf, lengthsShort}
 use Rattle.call_rules.proofs.Cases.{first-head, first-skip, first-stands}
 use Rattle.pair_rules.specs.Table.{shape, glyphsOf}
 use Rattle.pair_rules.specs.Calls.{scratchShort, cutCases}
-use Rattle.pair_plan.specs.declared.Plan.{Plan}
 use Rattle.pair_plan.specs.declared.Decision.{Decision}
 use Rattle.pair_plan.specs.declared.Decision.the-variants as Decision
-use Rattle.pair_plan.specs.Decided.{Planned, Decided}
+use Rattle.pair_plan.specs.Decided.{Decided}
 use Rattle.lookup_rules.specs.Calls.{listCases}
 use Rattle.lookup_split.specs.declared.deciding.Listing.{Listing}
 use Rattle.lookup_split.specs.declared.deciding.Listing.the-variants.{Good, Settled}

@@ -1,7 +1,7 @@
 -- New tables entered as planned: nothing to cut, or what is left of the call at the plan's places and in the list's lookups. Assumes nothing.
 use Prim.Native.Nat.{ℕ, _+_, _≤_}
 use mathlib.Core.Path.{_≡_, sym, ap, ap₂, subst, _∙_}
-use mathlib.Core.Bool.{true, false, cond}
+use mathlib.Core.Bool.{false, cond}
 use mathlib.Core.List.{List}
 use native.Mathlib.Omega.{arith}
 use lib.ListN.{length, take, length-take}
@@ -13,7 +13,7 @@ use Rattle.store_rules.specs.Store.{Store}
 use Rattle.store_rules.proofs.Sound.{sound-fits}
 use Rattle.call_rules.specs.Answers.{firstCase}
 use Rattle.call_rules.specs.Scratch.{Scratch, cleared}
-use Rattle.call_rules.specs.Outcomes.{Outcome, settle, outcome}
+use Rattle.call_rules.specs.Outcomes.{settle, outcome}
 use Rattle.call_lists.proofs.Split.{is-empty, not-empty}
 use Rattle.pair_rules.specs.Table.{cutPlaces}
 use Rattle.pair_plan.specs.declared.Plan.{Plan}

@@ -1,10 +1,10 @@
 -- New lookups, their links and the redirection, step by step: what each asks, and that the counts fit. Assumes nothing.
-use Prim.Native.Nat.{ℕ, _+_, _*_, _<_, _≤_}
-use mathlib.Core.Path.{_≡_, refl}
+use Prim.Native.Nat.{ℕ, _+_, _<_, _≤_}
+use mathlib.Core.Path.{refl}
 use mathlib.Core.List.{List}
 use native.Mathlib.Omega.{arith}
 use lib.ListN.{length, getD}
-use Rattle.store_rules.specs.Store.{Store, lent, perLink}
+use Rattle.store_rules.specs.Store.{Store, lent}
 use Rattle.store_link_rows.specs.Copies.{Copied}
 use Rattle.store_link_rows.proofs.Copying.{copied-long}
 use Rattle.store_object_rows.specs.Objects.{Written}

@@ -73,6 +73,8 @@ returns-3 c =
     let start = some .before .before .before .before .before .before .before .before .before in
     entered (start .pre) (some .if1 .left) (ordered .order-lookups .ensures) (start .args .new-tables .now) (at .enter-at .ensures) (c .if2 .left)
 
+-- what the search finds, each by itself: in one declaration they take more steps than it may
+
 sub-enter-at : tie.Need-sub-enter-at
 sub-enter-at c = search needs
 
