@@ -290,7 +290,7 @@ fn refused_tables() {
         (
             Refusal::NoTable,
             "9",
-            "the number of the table is 9; it must be below 5, how many objects are in use",
+            "the number of the table is 9; it must be below 8, how many objects are in use",
         ),
         (
             Refusal::BadTable,
@@ -348,7 +348,7 @@ fn stores_that_are_not_sound() {
     let directory = Directory::new("unsound");
     let whole = fs::read(directory.store("a.krns", three_sets(), &[0])).unwrap();
     let file = directory.file("b.krns");
-    let rows = whole.len() - 4 - 4 * 16;
+    let rows = whole.len() - 4 - 7 * 16;
     for (at, number, fault) in [
         (
             rows + 16 + 4,
@@ -363,11 +363,11 @@ fn stores_that_are_not_sound() {
         (
             rows + 48 + 12,
             99,
-            "link row 3 of object 0 at position 14: its child is 99; it must be below 5, how many \
+            "link row 3 of object 0 at position 14: its child is 99; it must be below 8, how many \
              objects are in use",
         ),
         (
-            rows - 8 * 5,
+            rows - 8 * 8,
             1,
             "the head of object row 1 is 15; it must be at least 16, where the row before ends",
         ),

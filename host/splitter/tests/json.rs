@@ -291,7 +291,7 @@ fn standard_input_and_output() {
     assert_eq!((code, out), (Some(0), split.clone()));
     let (code, out) = run_with(&["plan", "-"], &whole);
     assert_eq!(code, Some(4));
-    assert!(out.starts_with(b"standard input: 5 objects"));
+    assert!(out.starts_with(b"standard input: 8 objects"));
     let (code, out) = run_with(&["pair", "-", "30", "70", "--json"], &split);
     assert_eq!(code, Some(0));
     let told = parse(&String::from_utf8(out).unwrap());
@@ -415,7 +415,7 @@ fn a_dump() {
     let unlisted = directory.store("b.krns", format1(&[100]), &[]);
     let tree = "\n0: pair table, 12 bytes\n  at 2 to 1: coverage, 6 bytes\n  at 10 to 2: pair set";
     assert!(done(run!("dump", unlisted, "0")).contains(tree));
-    assert!(done(run!("dump", unlisted)).contains("The file lists no table. Its objects: 3"));
+    assert!(done(run!("dump", unlisted)).contains("The file lists no table. Its objects: 4"));
     assert!(one.contains("To it there are 4 links:\n  at       4 of 3: mark array"));
     let told = parse(&done(run!("dump", file, "--json")));
     let objects = told.at("objects");
