@@ -9,7 +9,9 @@ pub mod Taken
 pub mod SoundThen
 pub mod ViewReach
 pub mod ViewParts
-pub mod Resulting
+pub mod ViewReads
 pub mod SameReach
+pub mod NewChecked
+pub mod Resulting
 pub mod KeptUncut
 pub mod SplitLinks

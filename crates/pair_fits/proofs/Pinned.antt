@@ -44,7 +44,7 @@ unfoldable pub threeRows : Store
 threeRows =
     record {
       bytes = words (2 ∷ 0 ∷ 0x44 ∷ 0 ∷ 0 ∷ 0 ∷ 3 ∷ 2 ∷ []) ++ replicate 24 0 ++ words (2 ∷ 1 ∷ 10 ∷ 14 ∷ 0 ∷ []) ++ words (1 ∷ 11 ∷ 4 ∷ 1 ∷ 1 ∷ 2 ∷ 3 ∷ [])
-      ++ words (2 ∷ 0 ∷ []) ++ replicate 65682 0;
+          ++ words (2 ∷ 0 ∷ []) ++ replicate 65682 0;
       objects = packed 0 (40 ∷ 10 ∷ 14 ∷ 4 ∷ 30000 ∷ 35482 ∷ []) ++ replicate 10 0;
       links = linkRow 0 2 1 ++ linkRow 0 8 2 ++ linkRow 0 10 3 ++ linkRow 0 18 4 ++ linkRow 0 26 5 ++ replicate 12 0;
       byteCount = 65550;
