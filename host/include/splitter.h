@@ -1,8 +1,13 @@
 /* The proved splitter of PairPos and MarkBasePos tables, for hosts in C and C++ on x86-64 Linux.
  *
- * `rt staticlib splitter`, at the top of the repository, proves the functions and writes the archive
- * to link, target/staticlib/libsplitter.a. It needs nothing else, allocates nothing, keeps nothing
- * between calls, and may be called from any thread.
+ * A table that is too large is cut into several that fit: for which the rule counts at most 65,535
+ * bytes, of the table, all that its items lead to, each object once, and its coverage and class
+ * definitions, of which in PairPos format 2 the largest is left out. It is a count and no layout, and
+ * an item that is too large by itself stays so.
+ *
+ * The archive to link is libsplitter.a of a release folder; or `rt staticlib splitter`, at the top of
+ * the repository, proves the functions and writes it to target/staticlib. It needs nothing else,
+ * allocates nothing, keeps nothing between calls, and may be called from any thread.
  *
  * The object store
  *   data     the bytes of all objects
@@ -20,14 +25,21 @@
  *   and each has its answer.
  *
  * What is left to the host
- *   The lookup must list the new tables directly behind the old one, in order. Tables that each fit may
- *   together want extension lookups, and copies of what they share. In PairPos format 2 the largest of
- *   the coverage and the two class definitions is packed last. Nothing may lead to the old coverage,
- *   class definition 1 or arrays any more.
+ *   The lookup must list the new tables directly behind the old one, in order. In PairPos format 2 the
+ *   largest of the coverage and the two class definitions is packed last: in order of object numbers a
+ *   table can overflow (400 rows of 101 records with a class definition 2 of 3,006 bytes have a
+ *   greatest offset of 67,732 by number, and of 65,482 in link order). Tables that each fit may together
+ *   be too far from their lookup, and usually want extension lookups. What they share may have to be
+ *   there more than once. The old coverage, class definition 1 or arrays stay, and may be left with
+ *   nothing that leads to them.
  *
  * Answers
  *   Each function returns one of the numbers below, the first that applies. Where it is not
- *   SPLITTER_DONE nothing has changed but the scratch and the outputs that the function names. */
+ *   SPLITTER_DONE nothing has changed but the scratch and the outputs that the function names. What is
+ *   at fault the command `splitter plan` says, of the store in a file (docs/STORE_FILE.md).
+ *
+ * Cost
+ *   Every call looks at the whole store first. A reading costs as much as the store is large. */
 #ifndef SPLITTER_H
 #define SPLITTER_H
 

@@ -1,10 +1,11 @@
 -- The first case that applies. Assumes nothing.
 use Prim.Native.Nat.{ℕ}
-use mathlib.Core.Path.{_≡_, refl}
+use mathlib.Core.Path.{_≡_, refl, ap, _∙_}
 use mathlib.Core.Bool.{Bool, true, false, cond}
 use mathlib.Core.List.{List, [], _∷_, _++_}
-use mathlib.Core.Option.{some, none}
+use mathlib.Core.Option.{Option, some, none}
 use native.Mathlib.Omega.{arith}
+use Rattle.folds.specs.Folds.{orElse}
 use Rattle.call_rules.specs.Answers.{Case, firstCase}
 
 pub first-head : (c : Case) (cs : List Case) → firstCase (c ∷ cs) ≡ none → (c .applies ≡ false) × (firstCase cs ≡ none)
@@ -23,24 +24,23 @@ first-append (x ∷ xs) ys h =
     let (c, d) = first-append xs ys b in
     (rw (a, c), d)
 
-pub first-skip : (xs ys : List Case) → firstCase xs ≡ none → firstCase (xs ++ ys) ≡ firstCase ys
+-- the first of those in front, or else the first of those behind
+pub first-either : (xs ys : List Case) → firstCase (xs ++ ys) ≡ orElse (firstCase xs) (firstCase ys)
 unfolding firstCase
-first-skip [] ys h = refl
-first-skip (x ∷ xs) ys h = go (x .applies) h (first-skip xs ys)
+first-either [] ys = refl
+first-either (x ∷ xs) ys = go (x .applies) (first-either xs ys)
   where
-    go : (b : Bool) → cond b (some (x .answer)) (firstCase xs) ≡ none → (firstCase xs ≡ none → firstCase (xs ++ ys) ≡ firstCase ys) → cond b (some (x .answer)) (firstCase (xs ++ ys)) ≡ firstCase ys
-    go true e ih = let z : _≡_ {A = ℕ} 0 1 = cc in absurd (omega arith)
-    go false e ih = ih e
+    go : (b : Bool) → firstCase (xs ++ ys) ≡ orElse (firstCase xs) (firstCase ys)
+        → cond b (some (x .answer)) (firstCase (xs ++ ys)) ≡ orElse (cond b (some (x .answer)) (firstCase xs)) (firstCase ys)
+    go true i = refl
+    go false i = i
+
+pub first-skip : (xs ys : List Case) → firstCase xs ≡ none → firstCase (xs ++ ys) ≡ firstCase ys
+first-skip xs ys h = first-either xs ys ∙ ap (λ (o : Option ℕ). orElse o (firstCase ys)) h
 
 -- a case that applies stands before others
 pub first-stands : (xs ys : List Case) (n : ℕ) → firstCase xs ≡ some n → firstCase (xs ++ ys) ≡ some n
-unfolding firstCase
-first-stands [] ys n h = let z : _≡_ {A = ℕ} 0 1 = cc in absurd (omega arith)
-first-stands (x ∷ xs) ys n h = go (x .applies) h (first-stands xs ys n)
-  where
-    go : (b : Bool) → cond b (some (x .answer)) (firstCase xs) ≡ some n → (firstCase xs ≡ some n → firstCase (xs ++ ys) ≡ some n) → cond b (some (x .answer)) (firstCase (xs ++ ys)) ≡ some n
-    go true e ih = e
-    go false e ih = ih e
+first-stands xs ys n h = first-either xs ys ∙ ap (λ (o : Option ℕ). orElse o (firstCase ys)) h
 
 -- and one behind them stands too, or another before it does
 pub some-case : (xs ys : List Case) → (n : ℕ) × (firstCase ys ≡ some n) → (n : ℕ) × (firstCase (xs ++ ys) ≡ some n)

@@ -23,6 +23,7 @@ use Rattle.call_rules.specs.declared.Answer.the-variants.{
   FewGlyphs,
   ShortScratch,
   BadLinks,
+  UnsortedSets,
   ManySubtables,
   NoRoom,
 }
@@ -90,8 +91,8 @@ pins =
     -- `number`: the table of answers
     same
     (number Done ∷ number Unsound ∷ number NoTable ∷ number BadList ∷ number BadTable ∷ number BadParts ∷ number FewGlyphs ∷ number ShortScratch
-    ∷ number BadLinks ∷ number ManySubtables ∷ number NoRoom ∷ [])
-    (0 ∷ 1 ∷ 2 ∷ 9 ∷ 3 ∷ 4 ∷ 5 ∷ 6 ∷ 7 ∷ 10 ∷ 8 ∷ [])
+    ∷ number BadLinks ∷ number UnsortedSets ∷ number ManySubtables ∷ number NoRoom ∷ [])
+    (0 ∷ 1 ∷ 2 ∷ 9 ∷ 3 ∷ 4 ∷ 5 ∷ 6 ∷ 7 ∷ 11 ∷ 10 ∷ 8 ∷ [])
     -- `firstCase`: the first that applies
     ∷ eqb (answered (firstCase (case NoTable false ∷ case BadLinks true ∷ case NoRoom true ∷ []))) 7
     ∷ eqb (answered (firstCase (case NoTable false ∷ []))) 99

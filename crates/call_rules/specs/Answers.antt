@@ -14,11 +14,12 @@ use Rattle.call_rules.specs.declared.Answer.the-variants.{
   FewGlyphs,
   ShortScratch,
   BadLinks,
+  UnsortedSets,
   ManySubtables,
   NoRoom,
 }
 
--- the number of each answer: document 01's, and 9 and 10 of document 02; the order in which they are asked is that of the names
+-- the number of each answer: document 01's, and 9 to 11 of document 02; the order in which they are asked is that of the names
 abbrev pub number : Answer → ℕ
 number Done = 0
 number Unsound = 1
@@ -29,6 +30,7 @@ number BadParts = 4
 number FewGlyphs = 5
 number ShortScratch = 6
 number BadLinks = 7
+number UnsortedSets = 11
 number ManySubtables = 10
 number NoRoom = 8
 

@@ -3,7 +3,7 @@ ghost use mathlib.Core.Path.{_≡_};
 ghost use Rattle.call_rules.specs.Answers.{number};
 
 // Every answer, those of refusals in the one order in which they are asked: a call skips what it does not have. `Done` is also asked: for another format between
-// the two clauses of `BadTable`, and where there is no cut behind `BadLinks`. specs/Answers.antt gives each its number.
+// the two clauses of `BadTable`, and where there is no cut behind `UnsortedSets`. specs/Answers.antt gives each its number.
 pub enum Answer {
     Done,
     Unsound,
@@ -14,6 +14,7 @@ pub enum Answer {
     FewGlyphs,
     ShortScratch,
     BadLinks,
+    UnsortedSets,
     ManySubtables,
     NoRoom,
 }
@@ -62,6 +63,7 @@ pub fn number_of(answer: Answer) -> u32
         Answer::FewGlyphs => 5,
         Answer::ShortScratch => 6,
         Answer::BadLinks => 7,
+        Answer::UnsortedSets => 11,
         Answer::ManySubtables => 10,
         Answer::NoRoom => 8,
     }

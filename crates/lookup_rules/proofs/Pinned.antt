@@ -196,7 +196,7 @@ answering =
     -- no cut before 8: there is no room at all
     ∷ eqb (lookupCall (bareLookups ((1 ∷ 0 ∷ []) ∷ (2 ∷ 0 ∷ 1 ∷ 0 ∷ []) ∷ []) (linkRow 5 2 6 ++ linkRow 6 6 0)) 5 0 scratch [] .answer) 0
     -- all of them, in their order
-    ∷ same (numbers (lookupCases plain 5 0 scratch [])) (1 ∷ 2 ∷ 2 ∷ 9 ∷ 1 ∷ 2 ∷ 3 ∷ 0 ∷ 3 ∷ 4 ∷ 5 ∷ 6 ∷ 7 ∷ 0 ∷ 10 ∷ 8 ∷ [])
+    ∷ same (numbers (lookupCases plain 5 0 scratch [])) (1 ∷ 2 ∷ 2 ∷ 9 ∷ 1 ∷ 2 ∷ 3 ∷ 0 ∷ 3 ∷ 4 ∷ 5 ∷ 6 ∷ 7 ∷ 11 ∷ 0 ∷ 10 ∷ 8 ∷ [])
     ∷ []
 
 -- ---- 10
@@ -212,17 +212,18 @@ counting =
     fits 32766 (6 ∷ []) ∷ not (fits 32767 (6 ∷ [])) ∷ not (fits 32767 (6 ∷ 8 ∷ [])) ∷ not (fits 32767 (8 ∷ 6 ∷ [])) ∷ fits 65533 (8 ∷ []) ∷ not (fits 65534 (8 ∷ []))
     ∷ []
 
--- ---- a call that goes ahead, with room for it and nothing more: W9's table and set, a list and a lookup
+-- ---- a call that goes ahead, with room for it and nothing more: W9's table, a list and a lookup; the table's set has no records, and leads to an object
+-- with which it is as long as W9's
 
 unfoldable pub tight : ℕ → ℕ → ℕ → Store
 tight bytes objects links =
     record {
       bytes = words (1 ∷ 0 ∷ 0 ∷ 0 ∷ 1 ∷ 0 ∷ []) ++ words (1 ∷ 1 ∷ 10 ∷ []) ++ words (1 ∷ 0 ∷ []) ++ words (2 ∷ 0 ∷ 1 ∷ 0 ∷ []) ++ replicate (65518 + bytes) 0;
-      objects = packed 0 (12 ∷ 6 ∷ 4 ∷ 8 ∷ 65518 ∷ []) ++ replicate (2 * objects) 77;
-      links = linkRow 0 2 1 ++ linkRow 0 10 4 ++ linkRow 2 2 3 ++ linkRow 3 6 0 ++ replicate (perLink * links) 77;
+      objects = packed 0 (12 ∷ 6 ∷ 4 ∷ 8 ∷ 2 ∷ 65516 ∷ []) ++ replicate (2 * objects) 77;
+      links = linkRow 0 2 1 ++ linkRow 0 10 4 ++ linkRow 2 2 3 ++ linkRow 3 6 0 ++ linkRow 4 0 5 ++ replicate (perLink * links) 77;
       byteCount = 65548;
-      objectCount = 5;
-      linkCount = 4;
+      objectCount = 6;
+      linkCount = 5;
     }
 
 -- the answer, the count, what the result list starts with and the lookup list's slots
@@ -230,12 +231,12 @@ unfoldable pub ends : ℕ → ℕ → List ℕ → List ℕ → Outcome → Bool
 ends n k entries slots o = eqb (o .answer) n && eqb (o .count) k && same (o .list) entries && same (shown (listSlots (o .store) 2)) slots
 
 unfoldable pub called : ℕ → ℕ → ℕ → List ℕ → Outcome
-called bytes objects links list = lookupCall (tight bytes objects links) 2 0 (fives 10 8192 1 1 1) list
+called bytes objects links list = lookupCall (tight bytes objects links) 2 0 (fives 12 8192 1 1 1) list
 
 -- `lookupCall`, `enterCases`: the new table, two coverages and the lookup are 12 + 6 + 4 and 10 bytes; each of 8 one short
 unfoldable pub calling : List Bool
 calling =
-    ends 0 1 (5 ∷ []) (9 ∷ []) (called 32 4 3 (0 ∷ [])) ∷ ends 8 0 (0 ∷ []) (4 ∷ []) (called 31 4 3 (0 ∷ [])) ∷ ends 8 0 (0 ∷ []) (4 ∷ []) (called 32 3 3 (0 ∷ []))
+    ends 0 1 (6 ∷ []) (10 ∷ []) (called 32 4 3 (0 ∷ [])) ∷ ends 8 0 (0 ∷ []) (4 ∷ []) (called 31 4 3 (0 ∷ [])) ∷ ends 8 0 (0 ∷ []) (4 ∷ []) (called 32 3 3 (0 ∷ []))
     ∷ ends 8 0 (0 ∷ []) (4 ∷ []) (called 32 4 2 (0 ∷ [])) ∷ ends 8 0 [] (4 ∷ []) (called 32 4 3 [])
     ∷ []
 

@@ -16,7 +16,11 @@ use store_link_rows::put_header;
 use store_link_rows::put_link;
 use store_reader::Child;
 use store_reader::LinkRows;
-use store_reader::child_near;
+use store_reader::child_in;
+use store_reader::held_rows::held_row;
+use store_reader::held_rows::hold_row;
+use store_reader::held_rows::rows_each;
+use store_reader::row_near;
 use store_reader::rows_of;
 
 // The table's arrays and its base coverage as objects, and how many classes and bases it has.
@@ -34,8 +38,14 @@ struct ArrayRows {
     bases: LinkRows,
 }
 
+// Where the next row goes, and the row of the old array behind those that have been copied.
+struct Reached {
+    at: usize,
+    old: usize,
+}
+
 // Copies the link that the old array has at `position`, if it has one, to a slot of the new array, as row `at`. It is looked for among the old array's rows,
-// first at the one that stands `near` rows behind the first. Returns where the next row goes.
+// near a row.
 fn copy_slot(
     links: &mut [u32],
     counts: [u32; 3],
@@ -46,16 +56,31 @@ fn copy_slot(
     at: usize,
     parent: u32,
     slot: u32,
-) -> usize
-    requires { ⌜ Source (now links) counts array rows × (near < 4294967296) ⌝ }
+) -> Reached
+    requires { ⌜ Source (now links) counts array rows ⌝ }
     requires { ⌜ RowsRoom (now links) counts at (slotCopy (inUse (now links) counts) array position parent slot) ⌝ }
-    ensures { λ r. ⌜ Copied (came links) at (slotCopy (inUse (came links) counts) array position parent slot) (left links) r ⌝ }
+    ensures { λ r. ⌜
+        Copied (came links) at (slotCopy (inUse (came links) counts) array position parent slot) (left links) (r .at)
+        × (r .old ≤ getD counts 2 0 + 1)
+        ⌝ }
 {
-    let Child::Of(child) = child_near(links, counts, rows, near, array, position) else {
-        return at;
+    let row = row_near(
+        links,
+        counts[2] as usize,
+        rows.first,
+        rows.after,
+        near,
+        array,
+        position,
+    );
+    let Child::Of(child) = child_in(links, counts, row, array, position) else {
+        return Reached { at, old: row };
     };
     put_link(links, at, parent, slot, child);
-    at + 1
+    Reached {
+        at: at + 1,
+        old: row + 1,
+    }
 }
 
 // Copies the links of the marks at these places to the mark array `parent`, from row `at` on. Returns where the next row goes.
@@ -76,23 +101,25 @@ fn copy_marks(
     let mut k = 0;
     while k < places.len() {
         let place = places[k] as usize;
-        next = copy_slot(
+        let reached = copy_slot(
             links,
             counts,
             array,
             rows,
-            place,
+            rows.first + place,
             (4 + 4 * place) as u32,
             next,
             parent,
             (4 + 4 * k) as u32,
         );
+        next = reached.at;
         k += 1;
     }
     next
 }
 
-// Copies the links of the classes `lo` up to `hi` of each base to the base array `parent`, from row `at` on. Returns where the next row goes.
+// Copies the links of the classes `lo` up to `hi` of each base to the base array `parent`, from row `at` on. Returns where the next row goes. How far the rows
+// of each base have been gone through is held for the classes from `hi` on.
 fn copy_bases(
     links: &mut [u32],
     counts: [u32; 3],
@@ -104,6 +131,7 @@ fn copy_bases(
     hi: usize,
     at: usize,
     parent: u32,
+    held: &mut [u32; 4096],
 ) -> usize
     requires { ⌜ Source (now links) counts array rows ⌝ }
     requires { ⌜ (lo ≤ hi) × (hi ≤ classes) × (classes < 65536) × (2 + 2 * (bases * classes) < 4294967296) ⌝ }
@@ -112,28 +140,36 @@ fn copy_bases(
 {
     let width = hi - lo;
     let slots = bases * width;
+    let apart = rows_each(rows, bases, width);
     let mut next = at;
+    let mut near = held_row(held, 0, rows.first);
+    let mut base = 0;
     let mut column = 0;
     let mut old = lo;
     let mut k = 0;
     while k < slots {
-        next = copy_slot(
+        let reached = copy_slot(
             links,
             counts,
             array,
             rows,
-            old,
+            near,
             (2 + 2 * old) as u32,
             next,
             parent,
             (2 + 2 * k) as u32,
         );
+        next = reached.at;
+        near = reached.old;
         k += 1;
         old += 1;
         column += 1;
         if column == width {
+            hold_row(held, base, near);
             column = 0;
+            base += 1;
             old += classes - width;
+            near = held_row(held, base, near + apart);
         }
     }
     next
@@ -151,6 +187,7 @@ fn copy_arrays(
     hi: u16,
     at: usize,
     parent: u32,
+    held: &mut [u32; 4096],
 ) -> usize
     requires { ⌜ Sources (now links) counts arrays rows × (length (now places) ≤ 16777216) ⌝ }
     requires { ⌜ (lo ≤ hi) × (hi ≤ arrays .classes) × (parent + 1 < 4294967296) ⌝ }
@@ -177,6 +214,7 @@ fn copy_arrays(
         hi as usize,
         middle,
         parent + 1,
+        held,
     )
 }
 
@@ -191,6 +229,7 @@ fn copy_table(
     hi: u16,
     at: usize,
     table: u32,
+    held: &mut [u32; 4096],
 ) -> usize
     requires { ⌜ Sources (now links) counts arrays rows × (length (now places) ≤ 16777216) ⌝ }
     requires { ⌜ (lo ≤ hi) × (hi ≤ arrays .classes) × (table + 3 < 4294967296) ⌝ }
@@ -210,6 +249,7 @@ fn copy_table(
         hi,
         at + heads.len(),
         table + 2,
+        held,
     )
 }
 
@@ -236,6 +276,7 @@ fn copy_tables(
         Copied (came links) at (tablesCopies (inUse (came links) counts) arrays (came places) (came classes) (came cuts) first) (left links) r
         ⌝ }
 {
+    let mut held = [0u32; 4096];
     let mut from = start;
     let mut next = at;
     let mut table = first;
@@ -254,6 +295,7 @@ fn copy_tables(
             hi,
             next,
             table as u32,
+            &mut held,
         );
         table += 4;
         from = to;
@@ -297,6 +339,7 @@ fn copy_new(
         first,
     );
     let parent = first + 4 * cuts.len() + 1;
+    let mut held = [0u32; 4096];
     copy_arrays(
         links,
         counts,
@@ -307,6 +350,7 @@ fn copy_new(
         lo,
         at,
         parent as u32,
+        &mut held,
     )
 }
 

@@ -14,10 +14,11 @@ use Rattle.ot_layouts.specs.Numbers.{be16, words}
 use Rattle.ot_layouts.specs.Coverage.{coverageBytes}
 use Rattle.ot_layouts.proofs.Numbers.{length-be16, length-words}
 use Rattle.ot_layouts.proofs.Words.{words-append}
+use Rattle.store_object_rows.specs.Objects.{Laid}
 use Rattle.store_object_rows.proofs.Joining.{join-cons, join-one}
 use Rattle.mark_rules.specs.Written.{newTable, newBaseArray}
 use Rattle.mark_new_objects.specs.Planned.{Classes}
-use Rattle.mark_new_objects.specs.Objects.{markOf, markArrayOf, arraysOf, partsOf, partsLength, Laid}
+use Rattle.mark_new_objects.specs.Objects.{markOf, markArrayOf, arraysOf, partsOf, partsLength}
 
 -- ---- how long
 

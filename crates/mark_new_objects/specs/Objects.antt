@@ -1,10 +1,8 @@
 -- The new objects of a split, from the glyphs and the classes of the marks. Assumes nothing.
 use Prim.Native.Nat.{ℕ, _+_, _-_, _*_}
-use mathlib.Core.Path.{_≡_}
 use mathlib.Core.List.{List, [], _∷_}
 use lib.ListN.{length, getD}
 use Rattle.folds.specs.Folds.{flat}
-use Rattle.folds.specs.Lists.{put}
 use Rattle.ot_layouts.specs.Numbers.{words}
 use Rattle.ot_layouts.specs.Coverage.{coverageBytes}
 use Rattle.cut_rules.specs.Ranges.{from, to}
@@ -42,8 +40,3 @@ tablesOf gs ks bases n cs = flat (tableObjects gs ks bases n cs) (length cs)
 -- all new objects
 abbrev pub objectsOf : List ℕ → List ℕ → ℕ → ℕ → List ℕ → List (List ℕ)
 objectsOf gs ks bases n cs = newObjects (marksFrom gs ks) bases n cs
-
--- bytes xs stand from `at` on, and end at r
-pub record Laid (d : List ℕ) (at : ℕ) (xs d′ : List ℕ) (r : ℕ) : Type 0 where
-  pub bytes : d′ ≡ put d at xs
-  pub ends : r ≡ at + length xs

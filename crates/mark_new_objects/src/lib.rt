@@ -14,11 +14,11 @@ ghost use lib.ListN.{length, getD};
 ghost use Rattle.folds.specs.Lists.{put, join};
 ghost use Rattle.folds.specs.Moments.{came, left};
 ghost use Rattle.ot_layouts.specs.Numbers.{words};
-ghost use Rattle.store_object_rows.specs.Objects.{ObjectsRoom, Written};
+ghost use Rattle.store_object_rows.specs.Objects.{Laid, ObjectsRoom, Written};
 ghost use Rattle.cut_parts.specs.Tables.{PartEnd};
 ghost use Rattle.mark_rules.specs.Written.{newTable, newBaseArray};
 ghost use Rattle.mark_new_objects.specs.Planned.{Classes, Marked, PlannedParts};
-ghost use Rattle.mark_new_objects.specs.Objects.{markArrayOf, arraysOf, partsOf, partsLength, tablesOf, objectsOf, Laid};
+ghost use Rattle.mark_new_objects.specs.Objects.{markArrayOf, arraysOf, partsOf, partsLength, tablesOf, objectsOf};
 
 // The objects of a new table: itself, its coverage, its mark array and its base array.
 const PER_TABLE: usize = 4;

@@ -1,4 +1,5 @@
 // The cut places of a table that has passed the checks: its marks' places are put in the order of their classes on the way.
+use call_rules::Settings;
 use mark_checks::MarkTable;
 use mark_order::order_places;
 use mark_points::TableInfo;
@@ -59,6 +60,7 @@ pub fn cut_table(
     let count = marks.count as usize;
     let array = bytes_of(data, objects, marks.object as usize);
     let info = info_of(objects, opened);
+    let settings = Settings { edition: 1 };
     order_places(
         array,
         &mut glyphs[0..count],
@@ -70,6 +72,7 @@ pub fn cut_table(
         links,
         counts,
         info,
+        settings,
         &glyphs[0..count],
         &classes[0..count],
         walk,

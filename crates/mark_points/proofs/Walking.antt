@@ -68,6 +68,10 @@ gathered true b x y = refl
 gathered false true x y = refl
 gathered false false x y = refl
 
+-- the rows in use are few
+pub goes-few : {o l c : List ℕ} {e : ℕ} {w : List ℕ} → Goes o l c e w → getD c 2 0 ≤ 262144
+goes-few (from, g) = sound-fits _ (g .is-sound) .linksMost
+
 module _ {o l c : List ℕ} {p e : ℕ} where
   -- a walk can go on after others
   pub walks-on : {qs w w′ : List ℕ} {r : ℕ} → Goes o l c e w → WalksAt o l c p qs e w w′ r → Goes o l c e w′

@@ -1,8 +1,8 @@
 -- The anchors of a class: which link rows they are, and what a walk of them adds. Assumes nothing.
-use Prim.Native.Nat.{ℕ, _+_, _*_}
+use Prim.Native.Nat.{ℕ, _+_, _*_, _≤_}
 use mathlib.Core.Path.{_≡_}
 use mathlib.Core.Bool.{Bool, true, false}
-use mathlib.Core.List.{List, map}
+use mathlib.Core.List.{List, [], _∷_, map}
 use lib.ListN.{getD}
 use Rattle.folds.specs.Folds.{upto}
 use Rattle.ot_layouts.specs.MarkBasePos.{markSlot, baseSlot}
@@ -13,6 +13,7 @@ use Rattle.store_walk.specs.Marks.{alsoAt, Marks, WalkReady, Grown}
 use Rattle.cut_rules.specs.Cuts.{second}
 use Rattle.mark_points.specs.declared.«table_info».TableInfo.{TableInfo}
 use Rattle.mark_points.specs.declared.anchors.ArrayRows.{ArrayRows}
+use Rattle.mark_points.specs.declared.anchors.Slot.{Slot}
 
 -- the slots of class c in a base array of n classes: one a base
 abbrev pub columnSlots : ℕ → ℕ → ℕ → List ℕ
@@ -35,6 +36,12 @@ pub record RowsKnown (l c : List ℕ) (x : TableInfo) (rows : ArrayRows) : Type 
 pub record WalksAt (o l c : List ℕ) (p : ℕ) (qs : List ℕ) (e : ℕ) (w w′ : List ℕ) (r : ℕ) : Type 0 where
   pub grown : (b : List ℕ) (from : ℕ → Bool) → sound (lent b o l c) ≡ true → Marks (lent b o l c) from e w
       → Grown (lent b o l c) from (alsoAt (lent b o l c) from p qs) e w′ r
+
+-- the row of object p at position q was, if there is one; both rows that are told are rows in use, or right behind them
+pub record WalksSlot (o l c : List ℕ) (p q e : ℕ) (w w′ : List ℕ) (r : Slot) : Type 0 where
+  pub walked : WalksAt o l c p (q ∷ []) e w w′ (r .size)
+  pub row-most : r .row ≤ getD c 2 0
+  pub next-most : r .next ≤ getD c 2 0
 
 -- row k is one of `from`, or of the column of class i, or of a mark at one of these places
 abbrev pub alsoClass : Store → (ℕ → Bool) → TableInfo → ℕ → List ℕ → ℕ → Bool

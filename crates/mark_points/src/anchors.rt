@@ -2,14 +2,17 @@
 // of an array stands at a slot, so that an anchor's link is the row at its slot's position, if there is one.
 use crate::table_info::TableInfo;
 use store_reader::LinkRows;
+use store_reader::held_rows::held_row;
+use store_reader::held_rows::hold_row;
+use store_reader::held_rows::rows_each;
 use store_reader::next_row;
 use store_reader::row_near;
 use store_walk::subgraph_size;
-ghost use mathlib.Core.List.{[], _∷_, map};
+ghost use mathlib.Core.List.{map};
 ghost use Prim.Native.Nat.{_+_, _*_, _<_};
 ghost use Rattle.ot_layouts.specs.MarkBasePos.{markSlot, baseSlot};
 ghost use Rattle.folds.specs.Moments.{came, left};
-ghost use Rattle.mark_points.specs.Anchors.{columnSlots, RowsKnown, Goes, Walkable, WalksAt, WalksClass, WalksAtCut};
+ghost use Rattle.mark_points.specs.Anchors.{columnSlots, RowsKnown, Goes, Walkable, WalksAt, WalksSlot, WalksClass, WalksAtCut};
 
 // The link rows of the mark array and of the base array.
 pub struct ArrayRows {
@@ -17,7 +20,14 @@ pub struct ArrayRows {
     pub bases: LinkRows,
 }
 
-// The size of all anchors of `class`, whose marks are at these places.
+// What a slot's anchor adds, the first row at or past the slot, and the first row past it: there is a link where these are two.
+struct Slot {
+    size: u64,
+    row: usize,
+    next: usize,
+}
+
+// The size of all anchors of `class`, whose marks are at these places. How far the rows of each base have been gone through is held for the next class.
 pub fn class_size(
     objects: &[u32],
     links: &[u32],
@@ -27,6 +37,7 @@ pub fn class_size(
     class: u16,
     places: &[u16],
     epoch: u32,
+    held: &mut [u32; 4096],
     walk: &mut [u32],
 ) -> u64
     requires { ⌜ (class < info .classes) × (baseSlot (info .bases * info .classes) + 1 < 4294967296) ⌝ }
@@ -43,6 +54,7 @@ pub fn class_size(
         info.classes,
         class,
         epoch,
+        held,
         walk,
     );
     let marks = marks_size(
@@ -70,6 +82,7 @@ pub fn class_size_at_cut(
     size: u64,
     edition: u32,
     epoch: u32,
+    held: &mut [u32; 4096],
     walk: &mut [u32],
 ) -> u64
     requires { ⌜ (class < info .classes) × (baseSlot (info .bases * info .classes) + 1 < 4294967296) ⌝ }
@@ -88,35 +101,38 @@ pub fn class_size_at_cut(
             class,
             places,
             epoch,
+            held,
             walk,
         );
     }
     size
 }
 
-// The size of the anchor at `position` of `array`, the slot of that number; 0 where there is no link.
+// The size of the anchor at `position` of `array`, 0 where there is no link. Its row is looked for near a row.
 fn slot_size(
     objects: &[u32],
     links: &[u32],
     counts: [u32; 3],
     array: u32,
     rows: LinkRows,
-    slot: usize,
+    near: usize,
     position: u32,
     epoch: u32,
     walk: &mut [u32],
-) -> u64
-    requires { ⌜ (slot < 4294967296) × (position + 1 < 4294967296) ⌝ }
+) -> Slot
+    requires { ⌜ position + 1 < 4294967296 ⌝ }
     requires { ⌜ Walkable (now objects) (now links) counts array rows epoch (now walk) ⌝ }
-    ensures { λ r. ⌜ WalksAt (came objects) (came links) counts array (position ∷ []) epoch (came walk) (left walk) r ⌝ }
+    ensures { λ r. ⌜ WalksSlot (came objects) (came links) counts array position epoch (came walk) (left walk) r ⌝ }
 {
     let count = counts[2] as usize;
-    let row = row_near(links, count, rows.first, rows.after, slot, array, position);
+    let row = row_near(links, count, rows.first, rows.after, near, array, position);
     let next = next_row(links, count, row, array, position + 1);
-    subgraph_size(objects, links, counts, row, next, epoch, walk)
+    let size = subgraph_size(objects, links, counts, row, next, epoch, walk);
+    Slot { size, row, next }
 }
 
-// The size of the bases' anchors for `class`, one of `classes`: a column of the base array.
+// The size of the bases' anchors for `class`, one of `classes`: a column of the base array. A base's row is expected where the class before ended, and where
+// that is not held, as far behind the one of the base before as an even array has it.
 fn column_size(
     objects: &[u32],
     links: &[u32],
@@ -127,6 +143,7 @@ fn column_size(
     classes: u16,
     class: u16,
     epoch: u32,
+    held: &mut [u32; 4096],
     walk: &mut [u32],
 ) -> u64
     requires { ⌜ (class < classes) × (baseSlot (bases * classes) + 1 < 4294967296) ⌝ }
@@ -135,21 +152,26 @@ fn column_size(
         WalksAt (came objects) (came links) counts array (columnSlots bases classes class) epoch (came walk) (left walk) r
         ⌝ }
 {
+    let each = rows_each(rows, bases as usize, 0);
+    let mut near = rows.first;
     let mut size: u64 = 0;
     let mut base: u16 = 0;
     while base < bases {
         let slot = (base as usize) * (classes as usize) + (class as usize);
-        size += slot_size(
+        let anchor = slot_size(
             objects,
             links,
             counts,
             array,
             rows,
-            slot,
+            held_row(held, base as usize, near),
             (2 + 2 * slot) as u32,
             epoch,
             walk,
         );
+        hold_row(held, base as usize, anchor.next);
+        near = anchor.row + each;
+        size += anchor.size;
         base += 1;
     }
     size
@@ -173,17 +195,18 @@ fn marks_size(
     let mut i: usize = 0;
     while i < places.len() {
         let place = places[i] as usize;
-        size += slot_size(
+        let anchor = slot_size(
             objects,
             links,
             counts,
             array,
             rows,
-            place,
+            rows.first + place,
             (4 + 4 * place) as u32,
             epoch,
             walk,
         );
+        size += anchor.size;
         i += 1;
     }
     size

@@ -53,6 +53,7 @@ pub fn compute_split_points(
         from: 0,
         partial: 4,
     };
+    let mut held = [0u32; 4096];
     let mut class: u16 = 0;
     while class < info.classes {
         columns = weigh_class(
@@ -66,6 +67,7 @@ pub fn compute_split_points(
             class,
             places,
             classes,
+            &mut held,
             walk,
             cuts,
         );
@@ -86,6 +88,7 @@ fn weigh_class(
     class: u16,
     places: &[u16],
     classes: &[u16],
+    held: &mut [u32; 4096],
     walk: &mut [u32],
     cuts: &mut [u16],
 ) -> Columns
@@ -109,7 +112,18 @@ fn weigh_class(
     let marks = (to - from) as u64;
     let epoch = info.epoch + (filling.cuts as u32);
     let own = &places[from..to];
-    let size = class_size(objects, links, counts, info, rows, class, own, epoch, walk);
+    let size = class_size(
+        objects,
+        links,
+        counts,
+        info,
+        rows,
+        class,
+        own,
+        epoch,
+        held,
+        walk,
+    );
     let slots = 2 * (info.bases as u64) + 4 * marks;
     let alone = 4 + 2 * marks;
     let partial = columns.partial + 2 * marks;
@@ -125,6 +139,7 @@ fn weigh_class(
             size,
             settings.edition,
             epoch + 1,
+            held,
             walk,
         );
         return Columns {

@@ -22,7 +22,7 @@ use Rattle.ot_layouts.specs.Coverage.{Entry, coverReadable, coverageOf, 
 use Rattle.ot_layouts.specs.ClassDef as ClassDef
 use Rattle.ot_layouts.specs.ClassDef.{classReadable, classDefOf, classOf, firstGlyph, lastGlyph, span, inRanges, classIn, classDefBytes}
 use Rattle.ot_layouts.specs.PairPos as PairPos
-use Rattle.ot_layouts.specs.PairPos.{Shape, shapeOf, heads, itemAt, exact, isSlot, recordSize, deviceSlots, setReadable, valuesAt, firstRecord}
+use Rattle.ot_layouts.specs.PairPos.{Shape, shapeOf, heads, itemAt, exact, isSlot, recordSize, deviceSlots, setReadable, valuesAt, firstRecord, setSorted}
 use Rattle.ot_layouts.specs.MarkBasePos as MarkBasePos
 use Rattle.ot_layouts.specs.MarkBasePos.{
   classCount,
@@ -172,6 +172,11 @@ pairs =
     ∷ setReadable (words (1 ∷ 5 ∷ 3 ∷ [])) 2 ∷ not (setReadable (words (2 ∷ 5 ∷ 3 ∷ [])) 2) ∷ not (setReadable (0 ∷ []) 2)
     ∷ setReadable (words (0 ∷ [])) 2 ∷ not (setReadable (words (1 ∷ 5 ∷ []) ++ (3 ∷ [])) 2) ∷ eqb (valuesAt 6 0) 4 ∷ eqb (valuesAt 6 3) 28
     ∷ not (isSome (firstRecord (words (1 ∷ 5 ∷ 3 ∷ [])) 2 0)) ∷ not (isSome (firstRecord (words (2 ∷ 5 ∷ 3 ∷ [])) 2 5))
+    -- `setSorted`, `ascending`: neither equal nor falling, from glyph 0 on, by the record's size; a byte too many, one too few, under 2 bytes, no records
+    ∷ setSorted (words (2 ∷ 5 ∷ 9 ∷ 6 ∷ 3 ∷ [])) 2 ∷ not (setSorted (words (2 ∷ 5 ∷ 3 ∷ 5 ∷ 4 ∷ [])) 2) ∷ not (setSorted (words (2 ∷ 6 ∷ 3 ∷ 5 ∷ 4 ∷ [])) 2)
+    ∷ setSorted (words (3 ∷ 0 ∷ 1 ∷ 65535 ∷ [])) 0 ∷ not (setSorted (words (3 ∷ 0 ∷ 7 ∷ 7 ∷ [])) 0) ∷ not (setSorted (words (3 ∷ 7 ∷ 0 ∷ 8 ∷ [])) 0)
+    ∷ not (setSorted (words (2 ∷ 5 ∷ 9 ∷ 6 ∷ 3 ∷ []) ++ (0 ∷ [])) 2) ∷ not (setSorted (words (2 ∷ 5 ∷ 9 ∷ 6 ∷ []) ++ (0 ∷ [])) 2) ∷ not (setSorted (words (1 ∷ 5 ∷ 9 ∷ 6 ∷ 3 ∷ [])) 2)
+    ∷ setSorted (words (0 ∷ [])) 2 ∷ not (setSorted (0 ∷ []) 2) ∷ not (setSorted [] 2)
     ∷ eqb (placed (firstRecord (words (2 ∷ 5 ∷ 3 ∷ 5 ∷ 4 ∷ [])) 2 5)) 0 ∷ eqb (placed (firstRecord (words (2 ∷ 5 ∷ 3 ∷ 6 ∷ 4 ∷ [])) 2 6)) 1 ∷ not (isSome (firstRecord (words (1 ∷ 5 ∷ 3 ∷ [])) 2 3))
     ∷ []
 

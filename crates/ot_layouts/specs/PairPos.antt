@@ -1,9 +1,9 @@
 -- PairPos formats 1 and 2: what stands where in a table and in a pair set. Assumes nothing.
-use Prim.Native.Nat.{ℕ, _+_, _-_, _*_, _%_}
-use mathlib.Core.Bool.{Bool, cond, _&&_, _||_}
+use Prim.Native.Nat.{ℕ, zero, suc, _+_, _-_, _*_, _%_}
+use mathlib.Core.Bool.{Bool, true, cond, _&&_, _||_}
 use mathlib.Core.List.{List, [], _∷_, _++_, map}
 use mathlib.Core.Option.{Option, none}
-use lib.ListN.{length}
+use lib.ListN.{length, drop}
 use lib.Dec.{leb, eqb}
 use Rattle.folds.specs.Folds.{firstAt}
 use Rattle.folds.specs.Lists.{among}
@@ -129,7 +129,16 @@ valuesAt size r = 4 + (2 + size) * r
 unfoldable pub firstRecord : List ℕ → ℕ → ℕ → Option ℕ
 firstRecord b size g = cond (setReadable b size) (firstAt (λ r. eqb (u16At b (2 + (2 + size) * r)) g) (u16At b 0)) none
 
+-- "strictly ascending": n records stand at the front of b, the first glyph is no less than `least`, and each is above the one before it
+unfoldable pub ascending : ℕ → ℕ → ℕ → List ℕ → Bool
+ascending size least zero b = true
+ascending size least (suc n) b = leb least (u16At b 0) && ascending size (u16At b 0 + 1) n (drop (2 + size) b)
+
+-- "of sorted sets only, strictly ascending, length exactly 2 plus the records": one under 2 bytes never is
+unfoldable pub setSorted : List ℕ → ℕ → Bool
+setSorted b size = eqb (length b) (2 + (2 + size) * u16At b 0) && ascending size 0 (u16At b 0) (drop 2 b)
+
 -- all of this file's definitions, for checks that compute
 unfoldable pub computes : Unit {0}
-unfolding recordSize deviceSlots shape1 shape2 shapeOf exact isSlot setReadable firstRecord
+unfolding recordSize deviceSlots shape1 shape2 shapeOf exact isSlot setReadable firstRecord ascending setSorted
 computes = tt

@@ -7,6 +7,7 @@ pub mod ViewPairs
 pub mod LinksCounted
 pub mod Taken
 pub mod SoundThen
+pub mod SortedThen
 pub mod ViewReach
 pub mod ViewParts
 pub mod ViewReads

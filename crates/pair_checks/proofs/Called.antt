@@ -1,4 +1,4 @@
--- The checks that need no scratch but its lengths, and the look for a cycle after them, decide in document 01's order. Assumes nothing.
+-- The checks that need no scratch but its lengths, and after them the looks for a cycle and for unsorted sets, decide in the one order. Assumes nothing.
 use Prim.Native.Nat.{ℕ, _<_}
 use mathlib.Core.Path.{_≡_, refl, sym, ap, ap₂, _∙_}
 use mathlib.Core.Bool.{Bool, true, false, cond, not, _||_}
@@ -13,13 +13,13 @@ use Rattle.store_reader.proofs.Rows.{in-order}
 use Rattle.ot_pairpos.specs.declared.Layout.{Layout}
 use Rattle.ot_pairpos.specs.Layout.{layoutOf}
 use Rattle.call_rules.specs.declared.Answer.{Answer}
-use Rattle.call_rules.specs.declared.Answer.the-variants.{Unsound, ShortScratch, BadLinks}
+use Rattle.call_rules.specs.declared.Answer.the-variants.{Unsound, ShortScratch, BadLinks, UnsortedSets}
 use Rattle.store_rules.specs.Store.{Store, lent, sound}
 use Rattle.store_rules.specs.Reach.{onCycle}
-use Rattle.pair_rules.specs.Table.{allAtSlots}
+use Rattle.pair_rules.specs.Table.{allAtSlots, setsSorted}
 use Rattle.call_rules.specs.Scratch.{Scratch}
 use Rattle.call_rules.specs.Answers.{number, firstCase, case}
-use Rattle.pair_rules.specs.Calls.{readCases, scratchShort, cutCases}
+use Rattle.pair_rules.specs.Calls.{readCases, unsortedCase, scratchShort, cutCases}
 use Rattle.store_rules.proofs.Sound.{sound-fits}
 use Rattle.call_rules.proofs.Scratch.{LongEnough, long-enough}
 use Rattle.call_rules.proofs.Cases.{first-skip, first-stands}
@@ -74,12 +74,12 @@ module _ (s : Store) (t : ℕ) {x : Checked} (e : checkedAs x ≡ checkedOf s t)
 pub call-unsound : (s : Store) (t : ℕ) (n : Lengths) {b : Bool} → b ≡ sound s → not b ≡ true → checkedAs (Settled Unsound) ≡ calledOf s t n
 call-unsound s t n e h = call-settled s t {x = Settled Unsound} (not-sound s t e h) n {a = Unsound} refl
 
--- ---- the cases 1 to 7
+-- ---- the cases 1 to 7, and 11
 
--- the number of the answer, if there is one, where the look for a cycle comes last
-abbrev pub lookedLast : ℕ ⊎ PairTable → Bool → Option ℕ
-lookedLast (inl n) cycle = some n
-lookedLast (inr p) cycle = cond cycle (some (number BadLinks)) none
+-- the number of the answer, if there is one, where the looks for a cycle and for unsorted sets come last
+abbrev pub lookedLast : ℕ ⊎ PairTable → Bool → Bool → Option ℕ
+lookedLast (inl n) cycle sorted = some n
+lookedLast (inr p) cycle sorted = cond cycle (some (number BadLinks)) (cond (not sorted) (some (number UnsortedSets)) none)
 
 module _ (s : Store) (t : ℕ) (w : Scratch) where
   -- 6, by the table's own numbers
@@ -87,23 +87,27 @@ module _ (s : Store) (t : ℕ) (w : Scratch) where
   unfolding lengthsShort scratchShort layoutOf
   same-short o = ap₂ (λ (g i : ℕ). lengthsShort (lengthsOf w) (s .objectCount) g i) (o .glyphs) (ap (λ (l : Layout). l .count) (o .layout))
 
-  -- 6 and 7
+  -- 6, 7 and 11
   lent-cases : (p : PairTable) → Opens s t p
-      → firstCase (case ShortScratch (scratchShort s t w) ∷ case BadLinks (not (allAtSlots s t) || onCycle s t) ∷ []) ≡ lookedLast (lentBy s t (lengthsOf w) p) (onCycle s t)
+      → firstCase (case ShortScratch (scratchShort s t w) ∷ case BadLinks (not (allAtSlots s t) || onCycle s t) ∷ unsortedCase s t ∷ [])
+      ≡ lookedLast (lentBy s t (lengthsOf w) p) (onCycle s t) (setsSorted s t)
   unfolding firstCase lentBy
   lent-cases p o = rw (same-short o) (go (scratchShort s t w) (allAtSlots s t) (onCycle s t))
     where
-      go : (short slots cycle : Bool) → cond short (some (number ShortScratch)) (cond (not slots || cycle) (some (number BadLinks)) none)
-          ≡ lookedLast (cond short (inl (number ShortScratch)) (cond (not slots) (inl (number BadLinks)) (inr p))) cycle
+      eleven : Option ℕ
+      eleven = cond (not (setsSorted s t)) (some (number UnsortedSets)) none
+
+      go : (short slots cycle : Bool) → cond short (some (number ShortScratch)) (cond (not slots || cycle) (some (number BadLinks)) eleven)
+          ≡ lookedLast (cond short (inl (number ShortScratch)) (cond (not slots) (inl (number BadLinks)) (inr p))) cycle (setsSorted s t)
       go true slots cycle = refl
       go false true cycle = refl
       go false false cycle = refl
 
-  pub called : firstCase (cutCases s t w) ≡ lookedLast (calledOf s t (lengthsOf w)) (onCycle s t)
+  pub called : firstCase (cutCases s t w) ≡ lookedLast (calledOf s t (lengthsOf w)) (onCycle s t) (setsSorted s t)
   unfolding cutCases calledOf
   called = go (checkedOf s t) refl
     where
-      go : (x : ℕ ⊎ PairTable) → checkedOf s t ≡ x → firstCase (cutCases s t w) ≡ lookedLast (calledBy s t (lengthsOf w) x) (onCycle s t)
+      go : (x : ℕ ⊎ PairTable) → checkedOf s t ≡ x → firstCase (cutCases s t w) ≡ lookedLast (calledBy s t (lengthsOf w) x) (onCycle s t) (setsSorted s t)
       go (inr p) e = first-skip (readCases s t) _ (refusals s t ∙ ap settledAs e) ∙ lent-cases p (opens s t p e)
       go (inl n) e = first-stands (readCases s t) _ n (refusals s t ∙ ap settledAs e)
 

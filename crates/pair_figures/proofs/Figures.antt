@@ -1,4 +1,4 @@
--- "Figures to check against": "W1 to W12 are proved jointly, as a single check over their list". Stores are sound, their pair sets sorted and of exact
+-- "Figures to check against": "W1 to W12 are proved jointly, as a single check over their list", and beside them what two of them give in edition 2. Stores are sound, their pair sets sorted and of exact
 -- length, and each goes through the whole outcome of a cut plan and of a split. Assumes nothing.
 use Prim.Native.Nat.{ℕ, zero, suc, _+_, _-_, _*_, _/_, _%_}
 use mathlib.Core.Path.{_≡_, refl}
@@ -17,9 +17,11 @@ use Rattle.ot_layouts.specs.ClassDef.{classDefBytes}
 use Rattle.store_rules.specs.Store.{Store, Link, perLink, sizeOf}
 use Rattle.store_rules.specs.Appended.{link, rowsFrom, rowNumbers}
 use Rattle.cut_rules.specs.Cuts.{cutsOf}
+use Rattle.call_rules.specs.Settings.{firstEdition, secondEdition}
 use Rattle.call_rules.specs.Scratch.{Scratch}
 use Rattle.call_rules.specs.Outcomes.{Outcome}
 use Rattle.pair_rules.specs.Rules.{bareRule}
+use Rattle.pair_rules.specs.Table.{cutsBy}
 use Rattle.pair_rules.specs.Calls.{splitCall, planCall}
 use Rattle.pair_rules.specs.Computing as definitions
 
@@ -117,7 +119,7 @@ splitInto bytes kept new s = splits bytes kept new s (splitCall s 0 scratch (9 �
 unfoldable pub keptWhole : Store → Bool
 keptWhole s = whole s (splitCall s 0 scratch (9 ∷ 9 ∷ []))
 
--- W1 to W12; W8's set has an odd length, as no pair set has, and is one of the rule over sizes
+-- W1 to W12, and in edition 2 "W10 then gives cuts 1 and 2, and W9 none"; W8's set has an odd length, as no pair set has, and is one of the rule over sizes
 unfoldable pub figures : List Bool
 figures =
     (eqb (fieldCount 0x00F5) 6 && same (devices 0x00F5) (2 ∷ 3 ∷ 4 ∷ 5 ∷ []))
@@ -127,11 +129,13 @@ figures =
     ∷ writtenAs 1 10 (coverageBytes (5 ∷ 6 ∷ 7 ∷ []))
     ∷ (writtenAs 1 4 (coverageBytes []) && writtenAs 2 4 (classDefBytes []))
     ∷ (planned (2 ∷ []) store7 && splitInto 26 14 12 store7)
-    ∷ same (cutsOf (bareRule (65517 ∷ []) 6)) []
+    ∷ same (cutsOf (bareRule firstEdition (65517 ∷ []) 6)) []
     ∷ (planned (0 ∷ []) store9 && splitInto 22 10 12 store9)
     ∷ (planned (1 ∷ []) store10 && splitInto 28 12 14 store10)
     ∷ (planned [] store11 && keptWhole store11)
     ∷ (planned (162 ∷ []) store12 && splitInto 3584 64816 3216 store12)
+    ∷ same (cutsBy secondEdition store10 0) (1 ∷ 2 ∷ [])
+    ∷ same (cutsBy secondEdition store9 0) []
     ∷ []
 
 pub figures-hold : every figures ≡ true

@@ -1,6 +1,7 @@
 // The cut places of a table that has passed the checks, but for the look for a cycle, which the walks of its items make on the way. In format 2 the
 // covered glyphs are put in the order of their classes on the way.
 use buffers::clear_u8;
+use call_rules::Settings;
 use glyph_by_class::order_by_class;
 use ot_class_def_reader::classes_into;
 use ot_coverage_reader::glyphs_into;
@@ -53,7 +54,8 @@ fn cut_sets(
 {
     let coverage = opened.coverage;
     let info = info_of(objects, table, opened, coverage.object);
-    compute_format1_split_points(objects, links, counts, info, walk, cuts)
+    let settings = Settings { edition: 1 };
+    compute_format1_split_points(objects, links, counts, info, settings, walk, cuts)
 }
 
 // The covered glyphs of a table of format 2 with their classes, in the order of these. The set may hold anything, before and after.
@@ -114,12 +116,14 @@ fn cut_rows(
 {
     let class2 = opened.class2;
     let info = info_of(objects, table, opened, class2.object);
+    let settings = Settings { edition: 1 };
     clear_u8(glyph_set);
     compute_format2_split_points(
         objects,
         links,
         counts,
         info,
+        settings,
         glyphs,
         classes,
         walk,

@@ -1,4 +1,4 @@
-// What a split and a cut plan decide before anything is written: the checks, the cut places, and the loop of check 7. Then the cut plan itself,
+// What a split and a cut plan decide before anything is written: the checks, the cut places, the loop of check 7, and check 11. Then the cut plan itself,
 // which is the first half of `split_format1` and `split_format2` in the Rust text.
 pub mod cutting;
 
@@ -11,10 +11,13 @@ use cutting::cut_table;
 use pair_checks::Checked;
 use pair_checks::PairTable;
 use pair_checks::call::check_call;
+use pair_sets::linked::sets_sorted;
 use store_reader::is_sound;
 use store_walk::begin_walk;
 ghost use mathlib.Core.Path.{_≡_};
 ghost use mathlib.Core.Bool.{true};
+ghost use Prim.Native.Nat.{_<_};
+ghost use lib.ListN.{length};
 ghost use Rattle.call_rules.specs.Outcomes.{outcome};
 ghost use Rattle.pair_rules.specs.Calls.{planCall};
 ghost use Rattle.call_rules.specs.Scratch.{lengthsOf};
@@ -24,8 +27,10 @@ ghost use Rattle.store_rules.specs.Moments.{storeCameWith, storeNowWith};
 ghost use Rattle.call_rules.specs.Moments.{scratchCame, scratchLeft, scratchNow};
 ghost use Rattle.pair_checks.specs.Checked.{checkedAs};
 ghost use Rattle.pair_checks.specs.Called.{calledOf};
+ghost use Rattle.pair_checks.specs.Opens.{Opens};
+ghost use Rattle.pair_points.specs.Filled.{TellsCycle};
 ghost use Rattle.call_lists.specs.Handed.{handed, handedBy};
-ghost use Rattle.pair_plan.specs.Decided.{decidedAs, Decided, plannedCuts, HandingOut};
+ghost use Rattle.pair_plan.specs.Decided.{settledBy, decidedAs, Decided, plannedCuts, HandingOut};
 
 // A table that is not refused, and how many cuts it gets; they stand at the front of the scratch.
 pub struct Plan {
@@ -39,7 +44,33 @@ pub enum Decision {
     Settled(Answer),
 }
 
-// The cut places, and the rest of check 7: what finds them has walked all that the table leads to. The scratch may hold anything.
+// The rest of check 7, and check 11. What has found the places has walked all that the table leads to, and the walk tells of a cycle; after that its
+// scratch serves to look at each pair set once.
+fn settle_cuts(
+    data: &[u8],
+    objects: &[u32],
+    links: &[u32],
+    counts: [u32; 3],
+    table: u32,
+    plan: Plan,
+    walk: &mut [u32],
+) -> Decision
+    requires { ⌜ Opens (storeNowWith «data» objects links counts) table (plan .table) ⌝ }
+    requires { ⌜ TellsCycle (storeNowWith «data» objects links counts) table (now walk) × (table < length (now walk)) ⌝ }
+    ensures { λ r. ⌜ r ≡ settledBy (storeCameWith «data» objects links counts) table plan ⌝ }
+{
+    if walk[table as usize] != 0 {
+        return Decision::Settled(Answer::BadLinks);
+    }
+    let opened = plan.table;
+    let layout = opened.layout;
+    if !sets_sorted(data, objects, links, counts, table, layout, walk) {
+        return Decision::Settled(Answer::UnsortedSets);
+    }
+    Decision::Cut(plan)
+}
+
+// The cut places, and what is asked once they are found. The scratch may hold anything.
 pub fn decide_cuts(
     data: &[u8],
     objects: &[u32],
@@ -77,13 +108,11 @@ pub fn decide_cuts(
         classes,
         cuts,
     );
-    if walk[table as usize] != 0 {
-        return Decision::Settled(Answer::BadLinks);
-    }
-    Decision::Cut(Plan {
+    let plan = Plan {
         table: opened,
         cuts: count,
-    })
+    };
+    settle_cuts(data, objects, links, counts, table, plan, walk)
 }
 
 // Decides for a table of a store that is known to be sound, with any scratch.

@@ -16,17 +16,17 @@ use Rattle.pair_rules.specs.Pairs as Pairs
 use Rattle.pair_rules.specs.Pairs.{spotOf, noPair, pairAt, pairOf}
 use Rattle.pair_rules.specs.Calls.{PairOutcome, reported, settlePair, pairCall}
 use Rattle.call_rules.specs.Answers.{number}
-use Rattle.pair_checks.specs.Checked.{checkedAs, checkedOf, settledAs}
+use Rattle.pair_checks.specs.Checked.{checkedAs, settledAs}
 use Rattle.pair_checks.specs.declared.PairTable.{PairTable}
 use Rattle.pair_checks.specs.declared.Checked.{Checked}
 use Rattle.pair_checks.specs.declared.Checked.the-variants.{Open, Settled}
-use Rattle.pair_checks.proofs.Refusals.{refusals}
 use Rattle.pair_checks.specs.Opens.{Opens}
-use Rattle.pair_reading.specs.Reading.{spotFound, asPair, pairOutcome, ValueRecord, valuePair}
+use Rattle.pair_reading.specs.Reading.{spotFound, asPair, pairOutcome, pairChecked, ValueRecord, valuePair}
 use Rattle.pair_reading.specs.declared.PairAnswer.{PairAnswer}
 use Rattle.pair_reading.specs.declared.Spot.{Spot}
 use Rattle.pair_reading.specs.declared.Spot.the-variants as Spot
 use Rattle.pair_reading.proofs.Spots.{Whole, same-size, spot-whole}
+use Rattle.pair_reading.proofs.Checking.{pair-refusals}
 
 -- ---- the pair at a spot
 
@@ -63,10 +63,10 @@ found-reported n p e f = λ i. record { answer = n; found = cond (sym e i) 1 0; 
 pub none-reported : (n : ℕ) (p : PairAnswer) {v : List ℤ} → p .found ≡ false → v ≡ p .first ++ p .second → pairOutcome n 0 v ≡ reported n (asPair p)
 none-reported n p e f = λ i. record { answer = n; found = cond (sym e i) 1 0; values = f i }
 
-module _ (s : Store) (t a b : ℕ) {x : Checked} (e : checkedAs x ≡ checkedOf s t) where
+module _ (s : Store) (t a b : ℕ) {x : Checked} (e : checkedAs x ≡ pairChecked s t) where
   called : {z : Checked} → x ≡ z → pairCall s t a b ≡ settlePair (settledAs (checkedAs z)) (pairOf s t a b)
   unfolding pairCall
-  called y = ap (λ (o : Option ℕ). settlePair o (pairOf s t a b)) (refusals s t ∙ ap settledAs (sym e ∙ ap checkedAs y))
+  called y = ap (λ (o : Option ℕ). settlePair o (pairOf s t a b)) (pair-refusals s t ∙ ap settledAs (sym e ∙ ap checkedAs y))
 
   pub settled-call : {out : PairOutcome} {v : Pairs.Pair} {n : ℕ} {w : Answer} → x ≡ Settled w → n ≡ number w → v ≡ noPair → out ≡ reported n v → out ≡ pairCall s t a b
   unfolding settlePair

@@ -12,7 +12,7 @@ use Rattle.folds.specs.Lists.{andThen}
 use Rattle.folds.proofs.Tests.{by-test}
 use Rattle.ot_layouts.specs.Coverage.{coverageOf, coverPlace}
 use Rattle.ot_layouts.specs.ClassDef.{classDefOf, classOf}
-use Rattle.ot_layouts.specs.PairPos.{value1, value2, recordSize, firstRecord, valuesAt}
+use Rattle.ot_layouts.specs.PairPos.{value1, value2, recordSize, firstRecord, valuesAt, setSorted}
 use Rattle.ot_layouts.proofs.Values.{fieldCount-le}
 use Rattle.ot_coverage_reader.specs.Coverage.{placeFound}
 use Rattle.ot_coverage_reader.specs.declared.Place.{Place}
@@ -23,8 +23,9 @@ use Rattle.store_reader.specs.declared.Child.{Child}
 use Rattle.store_reader.specs.declared.Child.the-variants as Child
 use Rattle.store_reader.proofs.Bytes.{inside}
 use Rattle.ot_pairpos.specs.declared.Layout.{Layout}
-use Rattle.store_rules.specs.Store.{Store, sound, bytesOf, childAt}
-use Rattle.pair_rules.specs.Table.{shape}
+use Rattle.store_rules.specs.Store.{Store, lent, sound, bytesOf, childAt}
+use Rattle.pair_rules.specs.Table.{shape, setsSorted}
+use Rattle.pair_rules.proofs.SortedSets.{set-sorted}
 use Rattle.pair_rules.specs.Pairs as Pairs
 use Rattle.pair_rules.specs.Pairs.{spotOf}
 use Rattle.store_rules.proofs.Sound.{sound-fits}
@@ -34,13 +35,14 @@ use Rattle.glyph_parts.proofs.Parts.{part-read}
 use Rattle.pair_checks.specs.declared.PairTable.{PairTable}
 use Rattle.pair_checks.proofs.Refusals.{format-one, format-two}
 use Rattle.pair_checks.specs.Opens.{Opens}
-use Rattle.pair_reading.specs.Reading.{recordFound, spotFound, fieldBytes, inSet, bySet, byClasses}
-use Rattle.pair_reading.specs.declared.Found.{Found}
-use Rattle.pair_reading.specs.declared.Found.the-variants as Found
+use Rattle.pair_sets.specs.Sets.{recordFound}
+use Rattle.pair_sets.specs.declared.Found.{Found}
+use Rattle.pair_sets.specs.declared.Found.the-variants as Found
+use Rattle.pair_reading.specs.Reading.{spotFound, fieldBytes, SlotSorted, inSet, bySet, byClasses}
 use Rattle.pair_reading.specs.declared.Spot.{Spot}
 use Rattle.pair_reading.specs.declared.Spot.the-variants as Spot
-use Rattle.pair_reading.proofs.Sets.{values-within}
-use Rattle.pair_reading.proofs.Spots.{spot-by-set, spot-by-classes, same-unit}
+use Rattle.pair_sets.proofs.Halved.{values-within}
+use Rattle.pair_reading.proofs.Spots.{same-count, same-size, slot-place, spot-by-set, spot-by-classes, same-unit}
 
 -- ---- in a pair set
 
@@ -78,6 +80,12 @@ module _ (s : Store) (t : ℕ) (l : Layout) (b k : ℕ) where
 
       pub set-inside : sound s ≡ true → Inside (length (s .bytes)) (s .objects) c
       set-inside a = inside s (sound-fits s a) c (child-used s t (sound-fits s a) (10 + 2 * k) c linked)
+
+      -- whatever the links: a set's bytes are those of its object
+      pub set-is-sorted : SlotSorted s t l k → {size : ℕ} → size ≡ fieldBytes l
+          → (links counts : List ℕ) → setSorted (bytesOf (lent (s .bytes) (s .objects) links counts) c) size ≡ true
+      unfolding bytesOf
+      set-is-sorted sorted z links counts = rw z (sorted c h linked)
 
       pub in-linked-set : {size : ℕ} {o : Option Pairs.Spot} → size ≡ fieldBytes l → o ≡ inSet s size b c → o ≡ bySet s t l b k
       unfolding bySet andThen
@@ -126,6 +134,11 @@ module _ {s : Store} {t : ℕ} {p : PairTable} (o : Opens s t p) where
     module _ {k : ℕ} (y : x ≡ Place.At k) where
       covered : coverPlace (bytesOf s (p .coverage .object)) a ≡ some k
       covered = sym e ∙ ap placeFound y
+
+      pub slot-sorted : p .layout .format ≡ 1 → setsSorted s t ≡ true → SlotSorted s t (p .layout) k
+      slot-sorted f sorted c l child =
+          let one = format-one o f in
+          rw (same-size o) (set-sorted s t sorted one k c (omega (arith, same-count o)) (ap (childAt s t) (slot-place o one k) ∙ child))
 
       pub by-its-set : {r : Option Pairs.Spot} → p .layout .format ≡ 1 → r ≡ bySet s t (p .layout) b k → r ≡ spotOf s t a b
       unfolding andThen

@@ -1,7 +1,7 @@
 pub mod Widths
-pub mod Sets
 pub mod Spots
 pub mod Filled
 pub mod Fields
 pub mod Finding
+pub mod Checking
 pub mod Answering

@@ -12,7 +12,7 @@ use Rattle.folds.specs.Lists.{given, andThen}
 use Rattle.folds.proofs.Tests.{and-both, by-test, true-false}
 use Rattle.ot_layouts.specs.Coverage.{coverPlace}
 use Rattle.ot_layouts.specs.ClassDef.{classOf}
-use Rattle.ot_layouts.specs.PairPos.{columns, recordSize, shape1, shape2, firstRecord, valuesAt}
+use Rattle.ot_layouts.specs.PairPos.{columns, itemAt, recordSize, shape1, shape2, firstRecord, valuesAt}
 use Rattle.ot_layouts.proofs.Shapes as Shapes
 use Rattle.ot_layouts.proofs.Shapes.{Format1, by-format, format-test}
 use Rattle.ot_pairpos.specs.Layout.{layoutOf}
@@ -25,8 +25,8 @@ use Rattle.store_rules.proofs.Lookups.{child-used}
 use Rattle.pair_checks.specs.declared.PairTable.{PairTable}
 use Rattle.pair_checks.specs.Opens.{Opens}
 use Rattle.pair_reading.specs.Reading.{fieldBytes, inSet, bySet, byClasses}
-use Rattle.pair_reading.proofs.Widths.{record-within}
-use Rattle.pair_reading.proofs.Sets.{values-within}
+use Rattle.pair_sets.proofs.Widths.{record-within}
+use Rattle.pair_sets.proofs.Halved.{values-within}
 
 -- ---- one answer after another
 
@@ -42,7 +42,7 @@ given-some false a x e = let z : _≡_ {A = ℕ} 0 1 = cc in absurd (omega arith
 -- ---- by the code's parts
 
 module _ {s : Store} {t : ℕ} {p : PairTable} (o : Opens s t p) where
-  same-count : p .layout .count ≡ shape s t .count
+  pub same-count : p .layout .count ≡ shape s t .count
   unfolding layoutOf
   same-count = ap (λ (x : Layout). x .count) (o .layout)
 
@@ -56,6 +56,9 @@ module _ {s : Store} {t : ℕ} {p : PairTable} (o : Opens s t p) where
   module _ (one : eqb (shape s t .format) 1 ≡ true) where
     form1 : Format1 (shape s t)
     form1 = Shapes.format-one (bytesOf s t) one
+
+    pub slot-place : (k : ℕ) → itemAt (shape s t) k ≡ 10 + 2 * k
+    slot-place k = λ i. form1 .headerIs i + form1 .itemIs i * k
 
     pub spot-by-set : (a b : ℕ) → spotOf s t a b ≡ andThen (coverPlace (bytesOf s (p .coverage .object)) a) (bySet s t (p .layout) b)
     unfolding spotOf spot1 bySet inSet

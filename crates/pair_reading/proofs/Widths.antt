@@ -1,13 +1,9 @@
--- Records in a row, over their width: each ends within the row. Pair sets, rows of records and value records are read by this one fact. Assumes nothing.
-use Prim.Native.Nat.{ℕ, suc, _+_, _*_, _^_, _≤_, _<_}
-use native.Mathlib.Nat.{mul-suc, mul-le-mul-left}
+-- The place of a record by its row and column. Assumes nothing.
+use Prim.Native.Nat.{ℕ, _+_, _*_, _^_, _≤_, _<_}
+use native.Mathlib.Nat.{mul-le-mul-left}
 use native.Mathlib.Omega.{arith}
 
--- record r of n, each w wide
-pub record-within : (w r n : ℕ) → r < n → w * r + w ≤ w * n
-record-within w r n h = let a : w * suc r ≤ w * n = mul-le-mul-left w h in rw (mul-suc w r) at a
-
--- a record's number by row and column, and its place behind a header, are counted without wrapping
+-- its number, and its place behind a header, are counted without wrapping
 pub row-fits : (x m : ℕ) → x < 65536 → m < 65536 → x * m < 2 ^ 32
 row-fits x m h k = let a : x * m ≤ x * 65536 = mul-le-mul-left x (omega arith) in omega arith
 

@@ -1,8 +1,9 @@
 -- What the functions of a pair reading take and answer, beside what document 01 says of one. Assumes nothing.
 use Prim.Native.Nat.{ℕ, _+_, _*_, _≤_, _<_}
 use mathlib.Core.Path.{_≡_}
-use mathlib.Core.Bool.{true, _&&_}
+use mathlib.Core.Bool.{true, cond, _&&_}
 use mathlib.Core.List.{List}
+use mathlib.Core.Logic.{_⊎_, inl, inr}
 use mathlib.Core.Option.{Option, some, none}
 use lib.ListN.{length}
 use lib.IntN.{ℤ}
@@ -11,24 +12,21 @@ use Rattle.folds.specs.Folds.{upto}
 use Rattle.folds.specs.Lists.{given, andThen}
 use Rattle.ot_layouts.specs.Values.{fieldCount}
 use Rattle.ot_layouts.specs.ClassDef.{classOf}
-use Rattle.ot_layouts.specs.PairPos.{firstRecord, valuesAt}
+use Rattle.ot_layouts.specs.PairPos.{firstRecord, valuesAt, setSorted}
 use Rattle.ot_pairpos.specs.declared.Layout.{Layout}
 use Rattle.store_rules.specs.Store.{Store, sound, bytesOf, childAt}
+use Rattle.call_rules.specs.declared.Answer.the-variants.{UnsortedSets}
+use Rattle.call_rules.specs.Answers.{number}
+use Rattle.pair_rules.specs.Table.{setsSorted}
 use Rattle.pair_rules.specs.Pairs as Pairs
 use Rattle.pair_rules.specs.Calls.{PairOutcome}
 use Rattle.pair_checks.specs.declared.PairTable.{PairTable}
-use Rattle.pair_reading.specs.declared.Found.{Found}
-use Rattle.pair_reading.specs.declared.Found.the-variants as Found
+use Rattle.pair_checks.specs.Checked.{checkedOf}
 use Rattle.pair_reading.specs.declared.Spot.{Spot}
 use Rattle.pair_reading.specs.declared.Spot.the-variants as Spot
 use Rattle.pair_reading.specs.declared.PairAnswer.{PairAnswer}
 
 -- ---- answers
-
--- which record was found, if any
-abbrev pub recordFound : Found → Option ℕ
-recordFound (Found.At r) = some r
-recordFound Found.Nothing = none
 
 -- where a pair's values were found, if anywhere
 abbrev pub spotFound : Spot → Option Pairs.Spot
@@ -43,11 +41,26 @@ asPair a = record { found = a .found; first = a .first; second = a .second }
 abbrev pub pairOutcome : ℕ → ℕ → List ℤ → PairOutcome
 pairOutcome n f v = record { answer = n; found = f; values = v }
 
+-- ---- checks
+
+-- 11, where 1 to 5 have been asked
+abbrev pub sortedBy : Store → ℕ → ℕ ⊎ PairTable → ℕ ⊎ PairTable
+sortedBy s t (inl n) = inl n
+sortedBy s t (inr p) = cond (setsSorted s t) (inr p) (inl (number UnsortedSets))
+
+-- 1 to 5, and 11
+unfoldable pub pairChecked : Store → ℕ → ℕ ⊎ PairTable
+pairChecked s t = sortedBy s t (checkedOf s t)
+
 -- ---- where the values stand, by what the code holds of a table
 
 -- the bytes of a pair's two value records
 abbrev pub fieldBytes : Layout → ℕ
 fieldBytes l = 2 * (fieldCount (l .value1) + fieldCount (l .value2))
+
+-- where slot k leads to a pair set, that set is sorted
+abbrev pub SlotSorted : Store → ℕ → Layout → ℕ → Type 0
+SlotSorted s t l k = (c : ℕ) → k < l .count → childAt s t (10 + 2 * k) ≡ some c → setSorted (bytesOf s c) (fieldBytes l) ≡ true
 
 -- "the first record in that set with the second glyph"
 unfoldable pub inSet : Store → ℕ → ℕ → ℕ → Option Pairs.Spot

@@ -1,14 +1,14 @@
 // Where a pair's values stand: in format 1 by the set of the first glyph's place, in format 2 by the classes of both glyphs.
-use crate::Found;
 use crate::Spot;
 use glyph_parts::class_in;
 use glyph_parts::place_in;
 use ot_coverage_reader::Place;
 use ot_pairpos::Layout;
 use ot_pairpos::record_size;
-use ot_wire::u16_at;
 use pair_checks::Checked;
 use pair_checks::PairTable;
+use pair_sets::Found;
+use pair_sets::record_in_set;
 use store_reader::Child;
 use store_reader::bytes_of;
 use store_reader::child_at;
@@ -19,42 +19,20 @@ ghost use Prim.Native.Nat.{ℕ, _+_, _*_, _≤_};
 ghost use lib.ListN.{length};
 ghost use Rattle.store_reader.specs.Rows.{Inside};
 ghost use Rattle.ot_layouts.specs.ClassDef.{classDefOf};
-ghost use Rattle.ot_layouts.specs.PairPos.{firstRecord};
+ghost use Rattle.ot_layouts.specs.PairPos.{setSorted};
 ghost use Rattle.glyph_parts.specs.Parts.{ReadPart};
-ghost use Rattle.store_rules.specs.Store.{lent, sound};
+ghost use Rattle.store_rules.specs.Store.{lent, sound, bytesOf};
+ghost use Rattle.pair_rules.specs.Table.{setsSorted};
 ghost use Rattle.pair_rules.specs.Pairs.{spotOf};
 ghost use Rattle.pair_checks.specs.Checked.{checkedAs, checkedOf};
 ghost use Rattle.folds.specs.Moments.{came};
 ghost use Rattle.store_rules.specs.Moments.{storeCameWith, storeNowWith};
-ghost use Rattle.pair_reading.specs.Reading.{recordFound, spotFound, inSet, bySet, byClasses};
+ghost use Rattle.pair_reading.specs.Reading.{spotFound, SlotSorted, inSet, bySet, byClasses};
 
-// The first record of a pair set with the second glyph, where a record has `size` bytes behind its glyph.
-// A set under two bytes or too short for its count has no pairs.
-fn record_in_set(set: &[u8], size: usize, glyph: u16) -> Found
-    requires { ⌜ size ≤ 32 ⌝ }
-    ensures { λ r. ⌜ recordFound r ≡ firstRecord (came set) size glyph ⌝ }
-{
-    if set.len() < 2 {
-        return Found::Nothing;
-    }
-    let count = u16_at(set, 0) as usize;
-    if set.len() < 2 + (2 + size) * count {
-        return Found::Nothing;
-    }
-    let mut r: usize = 0;
-    while r < count {
-        if u16_at(set, 2 + (2 + size) * r) == glyph {
-            return Found::At(r);
-        }
-        r += 1;
-    }
-    Found::Nothing
-}
-
-// The values of the second glyph in the pair set `object`.
+// The values of the second glyph in the pair set `object`, which is sorted.
 fn spot_in_set(data: &[u8], objects: &[u32], object: u32, size: usize, second: u16) -> Spot
     requires { ⌜ Inside (length (now «data»)) (now objects) object ⌝ }
-    requires { ⌜ size ≤ 32 ⌝ }
+    requires { ⌜ (size ≤ 32) × ((l c : List ℕ) → setSorted (bytesOf (lent (now «data») (now objects) l c) object) size ≡ true) ⌝ }
     ensures { λ r. ⌜ ((l c : List ℕ) → spotFound r ≡ inSet (lent (came «data») (came objects) l c) size second object) ⌝ }
 {
     let set = bytes_of(data, objects, object as usize);
@@ -79,7 +57,7 @@ fn spot_by_set(
     k: usize,
     second: u16,
 ) -> Spot
-    requires { ⌜ sound (storeNowWith «data» objects links counts) ≡ true ⌝ }
+    requires { ⌜ (sound (storeNowWith «data» objects links counts) ≡ true) × SlotSorted (storeNowWith «data» objects links counts) table layout k ⌝ }
     ensures { λ r. ⌜ spotFound r ≡ bySet (storeCameWith «data» objects links counts) table layout second k ⌝ }
 {
     if (layout.count as usize) <= k {
@@ -143,6 +121,7 @@ pub fn spot_of(
     second: u16,
 ) -> Spot
     requires { ⌜ checkedOf (storeNowWith «data» objects links counts) table ≡ checkedAs (Checked.Open opened) ⌝ }
+    requires { ⌜ setsSorted (storeNowWith «data» objects links counts) table ≡ true ⌝ }
     ensures { λ r. ⌜ spotFound r ≡ spotOf (storeCameWith «data» objects links counts) table first second ⌝ }
 {
     let coverage = opened.coverage;

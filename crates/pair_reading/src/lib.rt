@@ -1,27 +1,25 @@
-// The pair reading: what a table says of two glyphs, or the first of the checks 1 to 5 that refuses it.
+// The pair reading: what a table says of two glyphs, or the first of the checks 1 to 5 and 11 that refuses it.
 mod find_spot;
 mod values;
 
+use call_rules::Answer;
 use call_rules::number_of;
 use find_spot::spot_of;
 use pair_checks::Checked;
 use pair_checks::PairTable;
 use pair_checks::check_table;
+use pair_sets::linked::sets_sorted;
 use values::pair_at;
 ghost use mathlib.Core.Path.{_≡_};
+ghost use mathlib.Core.Bool.{true};
 ghost use mathlib.Core.List.{_++_};
+ghost use Rattle.pair_rules.specs.Table.{setsSorted};
 ghost use Rattle.pair_rules.specs.Pairs.{noPair, pairOf};
 ghost use Rattle.pair_rules.specs.Calls.{reported, pairCall};
 ghost use Rattle.pair_checks.specs.Checked.{checkedAs, checkedOf};
 ghost use Rattle.folds.specs.Moments.{left};
 ghost use Rattle.store_rules.specs.Moments.{storeCameWith, storeNowWith};
-ghost use Rattle.pair_reading.specs.Reading.{asPair, pairOutcome};
-
-// The record of a pair set that a search finds.
-pub enum Found {
-    At(usize),
-    Nothing,
-}
+ghost use Rattle.pair_reading.specs.Reading.{asPair, pairOutcome, pairChecked};
 
 // Where a pair's values stand: in which object, and from which byte on.
 pub enum Spot {
@@ -47,7 +45,7 @@ fn no_pair() -> PairAnswer
     }
 }
 
-// What an open table says of two glyphs.
+// What an open table with sorted pair sets says of two glyphs.
 fn pair_of(
     data: &[u8],
     objects: &[u32],
@@ -59,6 +57,7 @@ fn pair_of(
     second: u16,
 ) -> PairAnswer
     requires { ⌜ checkedOf (storeNowWith «data» objects links counts) table ≡ checkedAs (Checked.Open opened) ⌝ }
+    requires { ⌜ setsSorted (storeNowWith «data» objects links counts) table ≡ true ⌝ }
     ensures { λ r. ⌜ asPair r ≡ pairOf (storeCameWith «data» objects links counts) table first second ⌝ }
 {
     let spot = spot_of(data, objects, links, counts, table, opened, first, second);
@@ -102,6 +101,37 @@ fn report(answer: u32, pair: PairAnswer, values: &mut [i32; 16], found: &mut u32
     answer
 }
 
+// Check 11 of a table that is open. There is no scratch: a set that stands in several slots is looked at again where another one took its place of 64.
+fn check_sorted(
+    data: &[u8],
+    objects: &[u32],
+    links: &[u32],
+    counts: [u32; 3],
+    table: u32,
+    opened: PairTable,
+) -> Checked
+    requires { ⌜ checkedOf (storeNowWith «data» objects links counts) table ≡ checkedAs (Checked.Open opened) ⌝ }
+    ensures { λ r. ⌜ checkedAs r ≡ pairChecked (storeCameWith «data» objects links counts) table ⌝ }
+{
+    let layout = opened.layout;
+    let mut seen = [0u32; 64];
+    if !sets_sorted(data, objects, links, counts, table, layout, &mut seen) {
+        return Checked::Settled(Answer::UnsortedSets);
+    }
+    Checked::Open(opened)
+}
+
+// The checks 1 to 5, and 11.
+fn check_pairs(data: &[u8], objects: &[u32], links: &[u32], counts: [u32; 3], table: u32) -> Checked
+    ensures { λ r. ⌜ checkedAs r ≡ pairChecked (storeCameWith «data» objects links counts) table ⌝ }
+{
+    let checked = check_table(data, objects, links, counts, table);
+    match checked {
+        Checked::Settled(answer) => Checked::Settled(answer),
+        Checked::Open(opened) => check_sorted(data, objects, links, counts, table, opened),
+    }
+}
+
 // Reads the pair of two glyphs by a table of any store: the answer, whether there is a pair, and the sixteen numbers.
 pub fn read_pair(
     data: &[u8],
@@ -116,7 +146,7 @@ pub fn read_pair(
 ) -> u32
     ensures { λ r. ⌜ pairOutcome r (left found) (left values) ≡ pairCall (storeCameWith «data» objects links counts) table first second ⌝ }
 {
-    let checked = check_table(data, objects, links, counts, table);
+    let checked = check_pairs(data, objects, links, counts, table);
     match checked {
         Checked::Settled(answer) => report(number_of(answer), no_pair(), values, found),
         Checked::Open(opened) => {

@@ -10,5 +10,6 @@ pub mod NamedRuns
 pub mod NewCounts
 pub mod NewTable
 pub mod TableLinks
+pub mod SortedSets
 pub mod SameReading
 pub mod SameCuts

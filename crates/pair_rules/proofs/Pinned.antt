@@ -1,5 +1,5 @@
 -- Pair tables held against small whole stores, as one check; each list pins what its comment says. Assumes nothing.
-use Prim.Native.Nat.{ℕ, _+_, _*_}
+use Prim.Native.Nat.{ℕ, zero, suc, _+_, _*_, _/_, _%_}
 use mathlib.Core.Path.{_≡_, refl}
 use mathlib.Core.Bool.{Bool, true, false, cond, _&&_}
 use mathlib.Core.List.{List, [], _∷_, _++_}
@@ -48,13 +48,21 @@ samePair p q = agree (p .found) (q .found) && sameℤs (p .first) (q .first) && 
 
 -- ---- stores
 
--- format 1, value formats 0011 and 0004, under a coverage: sets 2 and 3 at the first and the last of three slots, and a device, 4, of set 2
+-- format 1, value formats 0011 and 0004, under a coverage: object 0, with three slots; two pair sets, 2 and 3, and a device, 4
+unfoldable pub withSets : List ℕ → List ℕ → List ℕ → List ℕ → Store
+withSets first last cover links =
+    storeOf (words (1 ∷ 0 ∷ 0x11 ∷ 0x04 ∷ 3 ∷ 0 ∷ 0 ∷ 0 ∷ []) ++ words cover ++ first ++ last ++ words (12 ∷ 13 ∷ 1 ∷ []))
+    (16 ∷ 2 * length cover ∷ length first ∷ length last ∷ 6 ∷ []) links
+
+unfoldable pub twoRecords : List ℕ
+twoRecords = words (2 ∷ 5 ∷ 65535 ∷ 999 ∷ 7 ∷ 6 ∷ 1 ∷ 0 ∷ 2 ∷ [])
+
+unfoldable pub oneRecord : List ℕ
+oneRecord = words (1 ∷ 5 ∷ 3 ∷ 0 ∷ 65534 ∷ [])
+
+-- sets 2 and 3 stand at the first and the last slot, and the device belongs to set 2
 unfoldable pub bare1 : List ℕ → List ℕ → Store
-bare1 cover links =
-    storeOf
-    (words (1 ∷ 0 ∷ 0x11 ∷ 0x04 ∷ 3 ∷ 0 ∷ 0 ∷ 0 ∷ []) ++ words cover ++ words (2 ∷ 5 ∷ 65535 ∷ 999 ∷ 7 ∷ 6 ∷ 1 ∷ 0 ∷ 2 ∷ [])
-    ++ words (1 ∷ 5 ∷ 3 ∷ 0 ∷ 65534 ∷ []) ++ words (12 ∷ 13 ∷ 1 ∷ []))
-    (16 ∷ 2 * length cover ∷ 18 ∷ 10 ∷ 6 ∷ []) links
+bare1 cover links = withSets twoRecords oneRecord cover links
 
 unfoldable pub under1 : List ℕ → List ℕ → Store
 under1 cover links = roomy 400 20 20 (bare1 cover links)
@@ -99,16 +107,24 @@ unfoldable pub parts : List ℕ → Store
 parts links = storeOf (words (2 ∷ 0 ∷ []) ++ words (2 ∷ 0 ∷ 0 ∷ 0 ∷ 0 ∷ 0 ∷ 0 ∷ 0 ∷ []) ++ words (9 ∷ [])) (4 ∷ 16 ∷ 2 ∷ []) links
 
 -- one set of 65,518 bytes under a coverage of 6: with room for its cut, at 0, and as many bytes, objects, links as are to spare
-unfoldable pub store9 : ℕ → ℕ → ℕ → Store
-store9 bytes objects links =
+unfoldable pub largeSet : List ℕ → ℕ → ℕ → ℕ → Store
+largeSet set bytes objects links =
     record {
-      bytes = words (1 ∷ 0 ∷ 4 ∷ 0 ∷ 1 ∷ 0 ∷ 1 ∷ 1 ∷ 10 ∷ []) ++ replicate (65518 + bytes) 0;
+      bytes = words (1 ∷ 0 ∷ 4 ∷ 0 ∷ 1 ∷ 0 ∷ 1 ∷ 1 ∷ 10 ∷ []) ++ set ++ replicate bytes 0;
       objects = packed 0 (12 ∷ 6 ∷ 65518 ∷ []) ++ replicate (2 * objects) 77;
       links = linkRow 0 2 1 ++ linkRow 0 10 2 ++ replicate (perLink * links) 77;
       byteCount = 65536;
       objectCount = 3;
       linkCount = 2;
     }
+
+-- n records of one field, for second glyphs from g on
+unfoldable pub records : ℕ → ℕ → List ℕ
+records zero g = []
+records (suc n) g = g / 256 ∷ g % 256 ∷ 0 ∷ 0 ∷ records n (g + 1)
+
+unfoldable pub store9 : ℕ → ℕ → ℕ → Store
+store9 bytes objects links = largeSet (words (16379 ∷ []) ++ records 16379 0) bytes objects links
 
 -- just enough for store1 and store2
 unfoldable pub enough : Scratch
@@ -242,6 +258,12 @@ refusals =
     ∷ splits (under1 tens (linkRow 0 2 1 ++ linkRow 0 4 1 ++ slots1)) 7 enough ∷ splits (under1 tens (linkRow 0 2 1 ++ slots1 ++ linkRow 3 4 0)) 7 enough
     ∷ splits (rows2 3 fifties (heads2 ++ linkRow 0 16 4)) 7 enough ∷ splits (rows2 3 fifties (heads2 ++ linkRow 0 18 4)) 0 enough
     ∷ splits store1 0 enough ∷ splits store2 0 enough
+    -- `setsSorted`: equal glyphs at the first slot, a byte too many at the last, a record without the second glyph's field; what is at no slot is no set
+    ∷ refuses (withSets (words (2 ∷ 5 ∷ 0 ∷ 0 ∷ 0 ∷ 5 ∷ 0 ∷ 0 ∷ 0 ∷ [])) oneRecord tens (linkRow 0 2 1 ++ slots1)) 0 11
+    ∷ refuses (withSets twoRecords (oneRecord ++ (0 ∷ [])) tens (linkRow 0 2 1 ++ slots1)) 0 11
+    ∷ refuses (withSets twoRecords (words (1 ∷ 5 ∷ 3 ∷ 0 ∷ [])) tens (linkRow 0 2 1 ++ slots1)) 0 11
+    ∷ splits (withSets [] oneRecord tens (linkRow 0 2 1 ++ linkRow 0 12 3)) 0 enough
+    ∷ reads (withSets [] oneRecord tens (linkRow 0 2 1 ++ linkRow 0 11 2 ++ linkRow 0 14 3)) 0 20 5 0 nothing
     ∷ []
 
 -- scratch with a cut too few
@@ -267,6 +289,17 @@ orders =
     ∷ splits (under1 (1 ∷ 2 ∷ 10 ∷ 20 ∷ []) (linkRow 0 2 1 ++ slots1)) 5 short
     -- 6 before 7
     ∷ splits (under1 tens (linkRow 0 2 1 ++ linkRow 0 4 1 ++ slots1)) 6 short
+    -- 5 before 11
+    ∷ refuses (withSets [] oneRecord (1 ∷ 2 ∷ 10 ∷ 20 ∷ []) (linkRow 0 2 1 ++ linkRow 0 10 2)) 0 5
+    -- 6 before 11
+    ∷ splits (withSets [] oneRecord tens (linkRow 0 2 1 ++ linkRow 0 10 2)) 6 short
+    -- 7 before 11, which a reading answers
+    ∷ splits (withSets [] oneRecord tens (linkRow 0 2 1 ++ linkRow 0 4 1 ++ linkRow 0 10 2)) 7 enough
+    ∷ reads (withSets [] oneRecord tens (linkRow 0 2 1 ++ linkRow 0 4 1 ++ linkRow 0 10 2)) 0 10 5 11 nothing
+    -- 11 before "no cut"
+    ∷ splits (withSets [] oneRecord tens (linkRow 0 2 1 ++ linkRow 0 10 2)) 11 enough
+    -- 11 before 8: a place, and no list
+    ∷ splits (largeSet (replicate 65518 0) 0 0 0) 11 enough
     -- 7 before "no cut"
     ∷ splits (under1 tens (linkRow 0 2 1 ++ linkRow 0 4 1 ++ slots1)) 7 enough
     -- "no cut" before 8: there is no room at all
@@ -346,5 +379,5 @@ splittings =
     ∷ []
 
 pub pinned : every (readings ++ cuttings ++ refusals ++ orders ++ tables ++ splittings ++ inOrder) ≡ true
-unfolding definitions.computes compared.computes packed sameℤs samePair storeOf roomy bare1 under1 tens slots1 store1 bare2 rows2 fifties heads2 store2 storeFields parts store9 fives enough reads found nothing readings cutSets cutRows sharing fiveSets twoSets threeRows cuttings refuses splits refusals short orders having keepsIn keeps splitsAt0 afresh tables splittings readAs inOrder
+unfolding definitions.computes compared.computes packed sameℤs samePair storeOf roomy withSets twoRecords oneRecord bare1 under1 tens slots1 store1 bare2 rows2 fifties heads2 store2 storeFields parts largeSet records store9 fives enough reads found nothing readings cutSets cutRows sharing fiveSets twoSets threeRows cuttings refuses splits refusals short orders having keepsIn keeps splitsAt0 afresh tables splittings readAs inOrder
 pinned = refl

@@ -7,24 +7,27 @@ use mathlib.Core.Option.{Option, some, none, Option·getD}
 use lib.ListN.{length}
 use lib.IntN.{pos}
 use lib.Dec.{leb, ltb, eqb}
-use Rattle.folds.specs.Folds.{upto}
+use Rattle.folds.specs.Folds.{all, orElse, upto}
 use Rattle.folds.specs.Lists.{given, andThen, isSome}
 use Rattle.folds.proofs.Tests.{by-test}
 use Rattle.folds.proofs.Folds.{upto-same}
+use Rattle.folds.proofs.Failing.{all-same}
 use Rattle.ot_layouts.specs.Numbers.{u16At, signed16}
 use Rattle.ot_layouts.specs.Values.{bit, fieldAt, fieldCount, position}
 use Rattle.ot_layouts.specs.Coverage.{coverReadable, coverGlyphs, coverPlace}
 use Rattle.ot_layouts.specs.ClassDef.{classReadable, classOf}
-use Rattle.ot_layouts.specs.PairPos.{shapeOf, formatOf, value1, value2, columns, recordSize, itemAt, valuesAt, firstRecord, exact}
+use Rattle.ot_layouts.specs.PairPos.{shapeOf, formatOf, value1, value2, columns, recordSize, itemAt, valuesAt, firstRecord, exact, setSorted}
 use Rattle.store_rules.specs.Store.{Store, sound, bytesOf, childAt, linkedBytes}
 use Rattle.store_rules.proofs.Lookups.{linked-some}
-use Rattle.call_rules.specs.declared.Answer.the-variants.{Done, Unsound, NoTable, BadTable, BadParts, FewGlyphs}
+use Rattle.call_rules.specs.declared.Answer.the-variants.{Done, Unsound, NoTable, BadTable, BadParts, FewGlyphs, UnsortedSets}
 use Rattle.call_rules.specs.Answers.{Case, case, firstCase}
-use Rattle.pair_rules.specs.Table.{shape, partsReadable, glyphsOf}
+use Rattle.call_rules.proofs.Cases.{first-either}
+use Rattle.pair_rules.specs.Table.{shape, partsReadable, glyphsOf, sortedIn, setsSorted}
 use Rattle.pair_rules.specs.Pairs.{Spot, spot1, spot2, spotOf, deviceNumber, numberOf, pairAt, pairOf}
 use Rattle.pair_rules.specs.Reads.{Reads}
-use Rattle.pair_rules.specs.Calls.{readCases, settlePair, pairCall}
-use Rattle.pair_rules.proofs.Checks.{Parts, no-case-reads, parts-read}
+use Rattle.pair_rules.specs.Calls.{readCases, pairCases, settlePair, pairCall}
+use Rattle.pair_rules.proofs.Checks.{Parts, parts-read}
+use Rattle.pair_rules.proofs.SortedSets.{no-case-pairs}
 
 -- object u, and what it leads to, are the same in s′ as in s
 pub record SameAround (s s′ : Store) (u : ℕ) : Type 0 where
@@ -87,9 +90,9 @@ module _ {s s′ : Store} {u : ℕ} (same : SameAround s s′ u) where
   missing e = rw e
 
   -- a table whose coverage is missing is refused, whatever its glyphs
-  pub refusal-same : firstCase (readCases s′ u) ≡ firstCase (readCases s u)
+  checks-same : firstCase (readCases s′ u) ≡ firstCase (readCases s u)
   unfolding readCases firstCase
-  refusal-same =
+  checks-same =
       (λ d. firstCase (casesBy (same .sounds d) (same .used d) (same .bytes d) (parts-same d) (length (glyphsOf s′ u))))
       ∙ go (childAt s u 2) refl
     where
@@ -100,6 +103,31 @@ module _ {s s′ : Store} {u : ℕ} (same : SameAround s s′ u) where
           ap (λ (b : List ℕ). firstCase (casesBy (sound s) (leb (s .objectCount) u) (bytesOf s u) (partsReadable s u) (length (coverGlyphs b))))
           (linked-same 2 c e)
       go none e = rw (missing e)
+
+  -- 11, by the slots of a table with these bytes
+  abbrev slotsBy : Store → (ℕ → Option ℕ) → List ℕ → Bool
+  slotsBy r link own = cond (eqb (shapeOf own .format) 1) (all (λ k. sortedIn r (recordSize own) (link (itemAt (shapeOf own) k))) (shapeOf own .count)) true
+
+  sorted-same : setsSorted s′ u ≡ setsSorted s u
+  unfolding setsSorted
+  sorted-same =
+      (λ d. slotsBy s′ (λ q. same .links q d) (same .bytes d))
+      ∙ ap (λ (x : Bool). cond (eqb (shape s u .format) 1) x true)
+      (all-same _ _ (shape s u .count)
+      (λ k l. let q = itemAt (shape s u) k in set-same-at (childAt s u q) (same .childBytes q)))
+    where
+      set-same-at : (o : Option ℕ) → ((c : ℕ) → o ≡ some c → bytesOf s′ c ≡ bytesOf s c)
+          → sortedIn s′ (recordSize (bytesOf s u)) o ≡ sortedIn s (recordSize (bytesOf s u)) o
+      set-same-at none h = refl
+      set-same-at (some c) h = ap (λ (b : List ℕ). setSorted b (recordSize (bytesOf s u))) (h c refl)
+
+  -- 1 to 5 and 11
+  pub refusal-same : firstCase (pairCases s′ u) ≡ firstCase (pairCases s u)
+  unfolding pairCases
+  refusal-same =
+      first-either (readCases s′ u) _
+      ∙ ap₂ (λ (o : Option ℕ) (x : Bool). orElse o (firstCase (case UnsortedSets (not x) ∷ []))) checks-same sorted-same
+      ∙ sym (first-either (readCases s u) _)
 
   -- ---- the sixteen numbers
 
@@ -218,8 +246,8 @@ module _ {s s′ : Store} {u : ℕ} (same : SameAround s s′ u) where
   -- the same answer, the same pair, the same sixteen numbers
   pub reading-same : (a b : ℕ) → pairCall s′ u a b ≡ pairCall s u a b
   unfolding pairCall settlePair
-  reading-same a b = ap (λ (o : Option ℕ). settlePair o (pairOf s′ u a b)) refusal-same ∙ go (firstCase (readCases s u)) refl
+  reading-same a b = ap (λ (o : Option ℕ). settlePair o (pairOf s′ u a b)) refusal-same ∙ go (firstCase (pairCases s u)) refl
     where
-      go : (o : Option ℕ) → firstCase (readCases s u) ≡ o → settlePair o (pairOf s′ u a b) ≡ settlePair o (pairOf s u a b)
+      go : (o : Option ℕ) → firstCase (pairCases s u) ≡ o → settlePair o (pairOf s′ u a b) ≡ settlePair o (pairOf s u a b)
       go (some n) e = refl
-      go none e = ap (settlePair none) (pair-same a b (no-case-reads s u e))
+      go none e = ap (settlePair none) (pair-same a b (no-case-pairs s u e .reads))

@@ -10,12 +10,12 @@ use Rattle.folds.specs.Lists.{isEmpty}
 use Rattle.ot_layouts.specs.PairPos.{formatOf, exact}
 use Rattle.store_rules.specs.Store.{Store, sound, bytesOf}
 use Rattle.store_rules.specs.Reach.{onCycle}
-use Rattle.call_rules.specs.declared.Answer.the-variants.{Done, Unsound, NoTable, BadTable, BadParts, FewGlyphs, ShortScratch, BadLinks, NoRoom}
+use Rattle.call_rules.specs.declared.Answer.the-variants.{Done, Unsound, NoTable, BadTable, BadParts, FewGlyphs, ShortScratch, BadLinks, UnsortedSets, NoRoom}
 use Rattle.call_rules.specs.Answers.{Case, case, firstCase}
 use Rattle.call_rules.specs.Scratch.{Scratch, lengthsOf, lengthsShort}
 use Rattle.call_rules.specs.Needs.{roomShort}
 use Rattle.call_rules.specs.Outcomes.{Outcome, done, settle}
-use Rattle.pair_rules.specs.Table.{shape, partsReadable, glyphsOf, allAtSlots, cutPlaces}
+use Rattle.pair_rules.specs.Table.{shape, partsReadable, glyphsOf, allAtSlots, setsSorted, cutPlaces}
 use Rattle.pair_rules.specs.Written.{needed, splitStore, newTables}
 use Rattle.pair_rules.specs.Pairs.{Pair, noPair, pairOf}
 
@@ -33,23 +33,32 @@ readCases s t =
     ∷ case FewGlyphs (eqb (formatOf (bytesOf s t)) 1 && ltb (length (glyphsOf s t)) (shape s t .count))
     ∷ []
 
+-- 11: "a linked pair set unsorted or of wrong length"
+abbrev pub unsortedCase : Store → ℕ → Case
+unsortedCase s t = case UnsortedSets (not (setsSorted s t))
+
+-- 1 to 5 and 11: "last in the pair reading"
+unfoldable pub pairCases : Store → ℕ → List Case
+pairCases s t = readCases s t ++ (unsortedCase s t ∷ [])
+
 -- 6: "glyphs and classes, one entry each per covered glyph; cuts, one entry per item (pair set or class-1 row)"
 unfoldable pub scratchShort : Store → ℕ → Scratch → Bool
 scratchShort s t w = lengthsShort (lengthsOf w) (s .objectCount) (length (glyphsOf s t)) (shape s t .count)
 
--- 1 to 7
+-- 1 to 7, and 11 "after 7 and before 8"
 unfoldable pub cutCases : Store → ℕ → Scratch → List Case
 cutCases s t w =
     readCases s t
     ++ (case ShortScratch (scratchShort s t w)
     ∷ case BadLinks (not (allAtSlots s t) || onCycle s t)
+    ∷ unsortedCase s t
     ∷ [])
 
 -- what is left of a split then: "With no cut, 0 also changes nothing"; "No cut needs no room."; 8
 unfoldable pub lastCases : Store → ℕ → List ℕ → List Case
 lastCases s t list = case Done (isEmpty (cutPlaces s t)) ∷ case NoRoom (roomShort s list (needed s t (cutPlaces s t))) ∷ []
 
--- 1 to 8
+-- all of a split's
 unfoldable pub splitCases : Store → ℕ → Scratch → List ℕ → List Case
 splitCases s t w list = cutCases s t w ++ lastCases s t list
 
@@ -81,14 +90,14 @@ pub record PairOutcome : Type 0 where
 abbrev pub reported : ℕ → Pair → PairOutcome
 reported n p = record { answer = n; found = cond (p .found) 1 0; values = p .first ++ p .second }
 
--- "refuses by 1 to 5 in this order with no pair and sixteen zeros; another format is 0 and no pair"
+-- "refuses by 1 to 5 in this order with no pair and sixteen zeros; another format is 0 and no pair"; 11 refuses as they do
 unfoldable pub settlePair : Option ℕ → Pair → PairOutcome
 settlePair (some n) p = reported n noPair
 settlePair none p = reported 0 p
 
 -- the outcome of a pair reading, which "takes 16-bit glyph numbers and no scratch, writes nothing"
 unfoldable pub pairCall : Store → ℕ → ℕ → ℕ → PairOutcome
-pairCall s t a b = settlePair (firstCase (readCases s t)) (pairOf s t a b)
+pairCall s t a b = settlePair (firstCase (pairCases s t)) (pairOf s t a b)
 
 -- pair readings of several tables, one after the other: the first with a pair decides
 unfoldable pub readInOrder : Store → List ℕ → ℕ → ℕ → PairOutcome
@@ -97,5 +106,5 @@ readInOrder s (u ∷ us) a b = cond (eqb (pairCall s u a b .found) 1) (pairCall 
 
 -- all of this file's definitions, for checks that compute
 unfoldable pub computes : Unit {0}
-unfolding readCases scratchShort cutCases lastCases splitCases planCases splitCall planCall settlePair pairCall readInOrder
+unfolding readCases pairCases scratchShort cutCases lastCases splitCases planCases splitCall planCall settlePair pairCall readInOrder
 computes = tt

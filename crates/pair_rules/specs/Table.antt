@@ -2,13 +2,14 @@
 use Prim.Native.Nat.{ℕ}
 use mathlib.Core.Bool.{Bool, true, cond, _&&_}
 use mathlib.Core.List.{List, map}
+use mathlib.Core.Option.{Option, some, none}
 use lib.ListN.{length, getD}
 use lib.Dec.{eqb}
-use Rattle.folds.specs.Folds.{upto}
+use Rattle.folds.specs.Folds.{all, upto}
 use Rattle.folds.specs.Lists.{isSome}
 use Rattle.ot_layouts.specs.Coverage.{Entry, coverReadable, coverGlyphs}
 use Rattle.ot_layouts.specs.ClassDef.{classReadable, classOf}
-use Rattle.ot_layouts.specs.PairPos.{Shape, coverAt, class1At, class2At, shapeOf, itemAt, isSlot}
+use Rattle.ot_layouts.specs.PairPos.{Shape, coverAt, class1At, class2At, recordSize, shapeOf, itemAt, isSlot, setSorted}
 use Rattle.store_rules.specs.Store.{Store, Link, bytesOf, sizeOf, childAt, linkedAt, linkedBytes, ofSpan, allAt}
 use Rattle.store_rules.specs.Reach.{itemSize}
 use Rattle.cut_rules.specs.Cuts.{Rule, cutsOf}
@@ -42,6 +43,18 @@ entriesOf s t =
 unfoldable pub allAtSlots : Store → ℕ → Bool
 allAtSlots s t = allAt s t (isSlot (shape s t))
 
+-- where a slot leads to a pair set, that set is sorted; records have so many bytes behind their glyph
+abbrev pub sortedIn : Store → ℕ → Option ℕ → Bool
+sortedIn s size none = true
+sortedIn s size (some c) = setSorted (bytesOf s c) size
+
+-- 11 does not apply: "a linked pair set unsorted or of wrong length"; a table of format 2 has no pair sets
+unfoldable pub setsSorted : Store → ℕ → Bool
+setsSorted s t =
+    cond (eqb (shape s t .format) 1)
+    (all (λ k. sortedIn s (recordSize (bytesOf s t)) (childAt s t (itemAt (shape s t) k))) (shape s t .count))
+    true
+
 -- a link of the items lo up to hi of table t, hi left out: check 7 has seen that it stands at a slot
 abbrev pub ofItems : ℕ → Shape → ℕ → ℕ → Link → Bool
 ofItems t sh lo hi = ofSpan t (itemAt sh lo) (itemAt sh hi)
@@ -63,5 +76,5 @@ cutPlaces s t = cutsBy firstEdition s t
 
 -- all of this file's definitions, for checks that compute
 unfoldable pub computes : Unit {0}
-unfolding partsReadable entriesOf allAtSlots ruleOf cutsBy
+unfolding partsReadable entriesOf allAtSlots setsSorted ruleOf cutsBy
 computes = tt

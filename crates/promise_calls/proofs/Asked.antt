@@ -1,4 +1,4 @@
--- What the checks 6 to 8 of any call ask, where none of its cases applies, and the other way round. Assumes nothing.
+-- What the checks from 6 on ask of any call, where none of its cases applies, and the other way round. Assumes nothing.
 use Prim.Native.Nat.{ℕ, _+_, _<_, _≤_}
 use mathlib.Core.Path.{_≡_, refl, ap, _∙_}
 use mathlib.Core.Bool.{Bool, true, false, not, cond, _||_}
@@ -17,22 +17,24 @@ use Rattle.call_rules.specs.Answers.{Case, case, firstCase}
 use Rattle.call_rules.specs.Needs.{shortBy, roomShort}
 use Rattle.call_rules.proofs.Cases.{first-append, first-head, first-skip}
 
--- ---- 6 and 7, behind the checks of a reading
+-- ---- 6 and 7, behind the checks of a reading, and before others
 
-module _ (read : List Case) (short slots loop : Bool) where
+module _ (read : List Case) (short slots loop : Bool) (others : List Case) where
   abbrev later : List Case
-  later = case ShortScratch short ∷ case BadLinks (not slots || loop) ∷ []
+  later = case ShortScratch short ∷ case BadLinks (not slots || loop) ∷ others
 
-  pub no-case-checks : firstCase (read ++ later) ≡ none → (firstCase read ≡ none) × (short ≡ false) × (slots ≡ true) × (loop ≡ false)
+  pub no-case-checks : firstCase (read ++ later) ≡ none
+      → (firstCase read ≡ none) × (short ≡ false) × (slots ≡ true) × (loop ≡ false) × (firstCase others ≡ none)
   no-case-checks h =
       let (none-read, rest) = first-append read later h in
       let (six, seven) = first-head _ _ rest in
-      let (at, round) = or-none (not slots) loop (first-head _ _ seven .0) in
-      (none-read, six, not-false slots at, round)
+      let (stands, none-other) = first-head _ _ seven in
+      let (at, round) = or-none (not slots) loop stands in
+      (none-read, six, not-false slots at, round, none-other)
 
-  pub checks-no-case : firstCase read ≡ none → short ≡ false → slots ≡ true → loop ≡ false → firstCase (read ++ later) ≡ none
+  pub checks-no-case : firstCase read ≡ none → short ≡ false → slots ≡ true → loop ≡ false → firstCase others ≡ none → firstCase (read ++ later) ≡ none
   unfolding firstCase
-  checks-no-case a b c d = first-skip read later a ∙ rw (b, c, d)
+  checks-no-case a b c d e = first-skip read later a ∙ rw (b, c, d) e
 
 -- ---- "no cut" and 8, behind these
 

@@ -1,6 +1,7 @@
 -- Splitting the kept table again, scratch being enough, adds and changes nothing, also where new tables were entered. Assumes nothing.
 use Prim.Native.Nat.{ℕ, _+_, _-_, _<_, _≤_}
 use mathlib.Core.Path.{_≡_, refl, sym, ap, subst, _∙_}
+use mathlib.Core.Bool.{true}
 use mathlib.Core.List.{List}
 use mathlib.Core.Logic.{_⊎_, inl, inr, ⊎-elim}
 use native.Mathlib.Omega.{arith}
@@ -16,10 +17,10 @@ use Rattle.store_rules.proofs.LinkRows.{noLink, row-is}
 use Rattle.store_rules.proofs.LinksFit.{rows-many}
 use Rattle.store_rules.proofs.SlotLinks.{slots-each}
 use Rattle.store_rules.proofs.Ways.{Way}
-use Rattle.pair_rules.specs.Table.{cutPlaces}
+use Rattle.pair_rules.specs.Table.{cutPlaces, setsSorted}
 use Rattle.pair_rules.specs.Written.{newTables, splitStore}
-use Rattle.pair_rules.specs.Reads.{Reads}
-use Rattle.pair_rules.proofs.Checks.{no-case-reads, reads-no-case}
+use Rattle.pair_rules.specs.Reads.{ReadsPairs}
+use Rattle.pair_rules.proofs.SortedSets.{no-case-pairs, pairs-no-case}
 use Rattle.pair_rules.proofs.SameReading.{refusal-same}
 use Rattle.pair_rules.proofs.SameCuts.{Extends, acyclic-same, slots-same, cuts-same}
 use Rattle.lookup_rules.specs.Listed.{rewritten}
@@ -28,13 +29,17 @@ use Rattle.lookup_rules.proofs.Redirection.{redirect-other}
 use Rattle.promise_calls.specs.Unchanged.{Octets}
 use Rattle.promise_pairs.specs.Exactly.{Checked}
 use Rattle.promise_pairs.proofs.WrittenAfresh.{kept-reads}
+use Rattle.pair_after.proofs.SortedThen.{kept-sorted}
 use Rattle.pair_after.proofs.SameReach.{at-slots, still-acyclic}
+use Rattle.promise_pairs.proofs.GoesAhead.{splits-sorted}
 use Rattle.pair_after.proofs.SplitLinks.{NewOrOwn, row-leads}
-use Rattle.promise_pairs.proofs.AgainNothing.{nothing-to-split, no-cut}
+use Rattle.promise_pairs.proofs.AgainNothing.{nothing-to-split}
+use Rattle.call_rules.specs.Settings.{firstEdition}
+use Rattle.pair_after.proofs.KeptUncut.{kept-uncut}
 use Rattle.promise_lookups.specs.Demands.{AgainNoEntry}
 use Rattle.promise_lookups.proofs.Answered.{store-entered}
 use Rattle.lookup_after.proofs.Entering.{Entering}
-use Rattle.promise_lookups.proofs.GoesAhead.{entering}
+use Rattle.promise_lookups.proofs.GoesAhead.{entering, splits}
 use Rattle.lookup_after.proofs.NewLookups.{more, unled, links, links-are, fit′, used-then, split-head, split-tail, split-bytes}
 use Rattle.promise_lookups.proofs.StaysSound.{fits-entered}
 use Rattle.promise_lookups.proofs.Kept.{not-rewritten, table-child, around-table, kept-table}
@@ -119,11 +124,12 @@ module _ (s : Store) (l t : ℕ) (cs : List ℕ) (e : Entering s l t cs) where
         behind = new-row;
       }
 
-  -- the kept table can be read
-  reads-then : Octets s → Reads s″ t
-  reads-then octets =
+  -- the pairs of the kept table can be read
+  reads-then : Octets s → setsSorted s t ≡ true → ReadsPairs s″ t
+  reads-then octets sorted =
       let (used, own) = kept-table s l t cs e in
-      no-case-reads s″ t (refusal-same (around-table s l t cs e t used own) ∙ reads-no-case s′ t (kept-reads s t cs (e .ready) octets))
+      let reads : ReadsPairs s′ t = record { reads = kept-reads s t cs (e .ready) octets; sorted = kept-sorted s t cs (e .ready) sorted } in
+      no-case-pairs s″ t (refusal-same (around-table s l t cs e t used own) ∙ pairs-no-case s′ t reads)
 
 -- "Splitting the kept table again adds and changes nothing", scratch being enough
 pub again-no-entry : AgainNoEntry
@@ -132,14 +138,16 @@ again-no-entry s l t w list octets p v list′ =
     let e = entering s l t w list p in
     let g = e .ready in
     let x = extends s l t cs e in
+    let pairs = reads-then s l t cs e octets (splits-sorted s t w list (splits s l t w list p)) in
     rw (store-entered s l t w list p)
     (λ h.
     let checked : Checked (lookupStore s l t cs) t v
     = record {
-      reads = reads-then s l t cs e octets;
+      reads = pairs .reads;
       scratch = h;
       atSlots = slots-same x (at-slots s t cs g);
       acyclic = acyclic-same x (still-acyclic s t cs g);
+      sorted = pairs .sorted;
     } in
-    let o = nothing-to-split (lookupStore s l t cs) t v list′ checked (cuts-same x ∙ no-cut s t cs g refl) in
+    let o = nothing-to-split (lookupStore s l t cs) t v list′ checked (cuts-same x ∙ kept-uncut firstEdition s t cs g refl) in
     rw o (refl, record { noneNew = refl; sameStore = refl; sameList = refl; zeroScratch = refl }))

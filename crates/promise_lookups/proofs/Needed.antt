@@ -23,7 +23,7 @@ use Rattle.call_rules.specs.Scratch.{Scratch, scratchOf}
 use Rattle.call_rules.specs.Answers.{firstCase}
 use Rattle.call_rules.specs.Outcomes.{Outcome}
 use Rattle.pair_rules.specs.Pairs.{pairOf}
-use Rattle.pair_rules.specs.Calls.{PairOutcome, readCases, settlePair, pairCall}
+use Rattle.pair_rules.specs.Calls.{PairOutcome, pairCases, settlePair, pairCall}
 use Rattle.lookup_rules.specs.Applied.{subtables, applied, reaches}
 use Rattle.lookup_rules.specs.Calls.{lookupCall}
 use Rattle.lookup_rules.specs.Computing.{computes}
@@ -31,7 +31,7 @@ use Rattle.promise_calls.specs.Unchanged.{Octets}
 use Rattle.promise_lookups.specs.Demands.{Enters, storeEntered, AllRead}
 
 -- 0, W9's table; 1, its coverage; 2, a list of one; 3, a lookup of the tables 0 and 4; 4, a table of one set under the same coverage; 5, its set, whose device
--- leads to 3; 6, W9's set
+-- leads to 3; 6, a set without records, which leads to 7: together they are as long as W9's set
 unfoldable pub front : List ℕ
 front =
     words (1 ∷ 0 ∷ 0 ∷ 0 ∷ 1 ∷ 0 ∷ []) ++ words (1 ∷ 1 ∷ 10 ∷ []) ++ words (1 ∷ 0 ∷ []) ++ words (2 ∷ 0 ∷ 2 ∷ 0 ∷ 0 ∷ [])
@@ -41,17 +41,17 @@ unfoldable pub turned : Store
 turned =
     record {
       bytes = front ++ replicate 65618 0;
-      objects = 0 ∷ 12 ∷ 12 ∷ 18 ∷ 18 ∷ 22 ∷ 22 ∷ 32 ∷ 32 ∷ 44 ∷ 44 ∷ 50 ∷ 50 ∷ 65568 ∷ replicate 8 0;
+      objects = 0 ∷ 12 ∷ 12 ∷ 18 ∷ 18 ∷ 22 ∷ 22 ∷ 32 ∷ 32 ∷ 44 ∷ 44 ∷ 50 ∷ 50 ∷ 52 ∷ 52 ∷ 65568 ∷ replicate 8 0;
       links =
           0 ∷ 2 ∷ 2 ∷ 1 ∷ 0 ∷ 10 ∷ 2 ∷ 6 ∷ 2 ∷ 2 ∷ 2 ∷ 3 ∷ 3 ∷ 6 ∷ 2 ∷ 0 ∷ 3 ∷ 8 ∷ 2 ∷ 4
-          ∷ 4 ∷ 2 ∷ 2 ∷ 1 ∷ 4 ∷ 10 ∷ 2 ∷ 5 ∷ 5 ∷ 4 ∷ 2 ∷ 3 ∷ replicate 16 0;
+          ∷ 4 ∷ 2 ∷ 2 ∷ 1 ∷ 4 ∷ 10 ∷ 2 ∷ 5 ∷ 5 ∷ 4 ∷ 2 ∷ 3 ∷ 6 ∷ 0 ∷ 2 ∷ 7 ∷ replicate 16 0;
       byteCount = 65568;
-      objectCount = 7;
-      linkCount = 8;
+      objectCount = 8;
+      linkCount = 9;
     }
 
 unfoldable pub scratch : Scratch
-scratch = scratchOf (replicate 14 0) (replicate 8192 0) (0 ∷ []) (0 ∷ []) (0 ∷ [])
+scratch = scratchOf (replicate 16 0) (replicate 8192 0) (0 ∷ []) (0 ∷ []) (0 ∷ [])
 
 turned-octets : Octets turned
 unfolding turned front words be16
@@ -66,10 +66,10 @@ turned-octets = bytes-append front (replicate 65618 0) (below front refl) (bytes
 unfoldable pub seen : ℕ → Outcome → List (Option ℕ) × List ℤ
 seen p o = (some (o .answer) ∷ some (o .count) ∷ childAt (o .store) 2 2 ∷ [], applied (o .store) p 10 5 .values)
 
--- the device was 3, numbered 4; it is the new lookup 10, numbered 11
+-- the device was 3, numbered 4; it is the new lookup 11, numbered 12
 turned-seen :
-    seen 10 (lookupCall turned 2 0 scratch (0 ∷ []))
-    ≡ (some 0 ∷ some 1 ∷ some 10 ∷ [], pos 0 ∷ pos 0 ∷ pos 0 ∷ pos 0 ∷ pos 11 ∷ replicate 11 (pos 0))
+    seen 11 (lookupCall turned 2 0 scratch (0 ∷ []))
+    ≡ (some 0 ∷ some 1 ∷ some 11 ∷ [], pos 0 ∷ pos 0 ∷ pos 0 ∷ pos 0 ∷ pos 12 ∷ replicate 11 (pos 0))
 unfolding turned front scratch computes seen
 turned-seen = refl
 
@@ -89,11 +89,11 @@ turned-enters =
     record { answers = answer; cuts = omega arith }
 
 -- both subtables are read without refusal
-turned-read : (firstCase (readCases turned 0) ≡ none) × (firstCase (readCases turned 4) ≡ none)
+turned-read : (firstCase (pairCases turned 0) ≡ none) × (firstCase (pairCases turned 4) ≡ none)
 unfolding turned front computes
 turned-read = (refl, refl)
 
-read-zero : (s : Store) (u : ℕ) → firstCase (readCases s u) ≡ none → (a b : ℕ) → pairCall s u a b .answer ≡ 0
+read-zero : (s : Store) (u : ℕ) → firstCase (pairCases s u) ≡ none → (a b : ℕ) → pairCall s u a b .answer ≡ 0
 unfolding pairCall settlePair
 read-zero s u e a b = ap (λ (o : Option ℕ). settlePair o (pairOf s u a b) .answer) e
 
@@ -119,11 +119,11 @@ not-without-reach h =
     let (values, lead, two, lists) = turned-before in
     let (p′, leads, gives) = h turned 2 0 scratch (0 ∷ []) turned-octets turned-enters 2 3 lead two turned-all in
     let e = ap (λ (x : List (Option ℕ) × List ℤ). x .0) turned-seen in
-    let at : childAt (storeEntered turned 2 0 scratch (0 ∷ [])) 2 2 ≡ some 10 = cc in
-    let z : p′ ≡ 10 = cc in
-    let new : applied (storeEntered turned 2 0 scratch (0 ∷ [])) 10 10 5 .values ≡ pos 0 ∷ pos 0 ∷ pos 0 ∷ pos 0 ∷ pos 11 ∷ replicate 11 (pos 0)
+    let at : childAt (storeEntered turned 2 0 scratch (0 ∷ [])) 2 2 ≡ some 11 = cc in
+    let z : p′ ≡ 11 = cc in
+    let new : applied (storeEntered turned 2 0 scratch (0 ∷ [])) 11 10 5 .values ≡ pos 0 ∷ pos 0 ∷ pos 0 ∷ pos 0 ∷ pos 12 ∷ replicate 11 (pos 0)
     = ap (λ (x : List (Option ℕ) × List ℤ). x .1) turned-seen in
-    let old : applied (storeEntered turned 2 0 scratch (0 ∷ [])) 10 10 5 .values ≡ applied turned 3 10 5 .values
+    let old : applied (storeEntered turned 2 0 scratch (0 ∷ [])) 11 10 5 .values ≡ applied turned 3 10 5 .values
     = ap (λ (n : ℕ). applied (storeEntered turned 2 0 scratch (0 ∷ [])) n 10 5 .values) (sym z) ∙ ap (λ (o : PairOutcome). o .values) (gives 10 5) in
-    let y : _≡_ {A = ℕ} 4 11 = cc in
+    let y : _≡_ {A = ℕ} 4 12 = cc in
     omega arith

@@ -13,10 +13,11 @@ use Rattle.store_rules.specs.Store.{Store, sizeOf, linkedAt}
 use Rattle.store_rules.proofs.Lookups.{child-used, linked-is}
 use Rattle.cut_rules.specs.Ranges.{from}
 use Rattle.cut_rules.proofs.FirstCut.{none-before, cuts-none}
+use Rattle.call_rules.specs.Settings.{firstEdition}
 use Rattle.call_rules.specs.Scratch.{Scratch, cleared}
 use Rattle.call_rules.specs.Outcomes.{outcome, settle}
 use Rattle.mark_rules.specs.Rules.{markRule, partialCover}
-use Rattle.mark_rules.specs.Table.{Mark, marksOf, marksOfClass, within, ruleOf, cutPlaces}
+use Rattle.mark_rules.specs.Table.{Mark, marksOf, marksOfClass, within, ruleOf, cutsBy, cutPlaces}
 use Rattle.mark_rules.specs.Written.{needed, splitStore}
 use Rattle.mark_rules.specs.Calls.{cutCases, lastCases, splitCases, markSplitCall}
 use Rattle.mark_rules.proofs.Checks.{slots-at}
@@ -78,10 +79,11 @@ module _ (s : Store) (t : ℕ) (cs : List ℕ) (g : Ready s t cs) where
 
   -- so a rule that cuts the table at cs cuts it no more
   no-cut : cs ≡ cutPlaces s t → cutPlaces s′ t ≡ []
-  unfolding cutPlaces ruleOf markRule
+  unfolding cutsBy ruleOf markRule
   no-cut is-cut =
-      cuts-none (ruleOf s t) (ruleOf s′ t) p0
-      (λ k h. none-before (ruleOf s t) k (omega (arith, first-cut s t cs g)) (subst (λ (x : List ℕ). k ≤ from x 0) is-cut h))
+      cuts-none (ruleOf firstEdition s t) (ruleOf firstEdition s′ t) p0
+      (λ k h. none-before (ruleOf firstEdition s t) k (omega (arith, first-cut s t cs g)) (subst (λ (x : List ℕ). k ≤ from x 0) is-cut h))
+      refl
       (ap (λ (n : ℕ). 16 + n) base-same)
       (λ i h. refl)
       (λ i h. omega (arith, view-bases view (g .reads), few-same i h, size-same s t cs g i h))

@@ -1,7 +1,7 @@
 -- When a call goes ahead: exactly if what the documents ask for holds. Assumes nothing.
 use Prim.Native.Nat.{ℕ}
-use mathlib.Core.Path.{_≡_, _∙_}
-use mathlib.Core.List.{List}
+use mathlib.Core.Path.{_≡_, refl, _∙_}
+use mathlib.Core.List.{List, []}
 use mathlib.Core.Option.{none}
 use lib.ListN.{length}
 use borrow.Author.Tests.{ltb-false, le-ltb}
@@ -23,13 +23,13 @@ module _ (s : Store) (t : ℕ) (w : Scratch) where
   no-case-checked : firstCase (cutCases s t w) ≡ none → Checked s t w
   unfolding cutCases
   no-case-checked h =
-      let (read, scratch, slots, loop) = no-case-checks (readCases s t) (scratchShort s t w) (allAtSlots s t) (onCycle s t) h in
+      let (read, scratch, slots, loop, rest) = no-case-checks (readCases s t) (scratchShort s t w) (allAtSlots s t) (onCycle s t) [] h in
       record { reads = no-case-reads s t read; scratch = scratch; atSlots = slots; acyclic = loop }
 
   pub checked-no-case : Checked s t w → firstCase (cutCases s t w) ≡ none
-  unfolding cutCases
+  unfolding cutCases firstCase
   checked-no-case c =
-      checks-no-case (readCases s t) (scratchShort s t w) (allAtSlots s t) (onCycle s t) (reads-no-case s t (c .reads)) (c .scratch) (c .atSlots) (c .acyclic)
+      checks-no-case (readCases s t) (scratchShort s t w) (allAtSlots s t) (onCycle s t) [] (reads-no-case s t (c .reads)) (c .scratch) (c .atSlots) (c .acyclic) refl
 
   module _ (list : List ℕ) where
     abbrev cs : List ℕ

@@ -13,7 +13,8 @@ use Rattle.promise_calls.proofs.Asked.{no-cut-case}
 use Rattle.promise_pairs.specs.Demands.{AgainNothing}
 use Rattle.promise_pairs.specs.Exactly.{Checked}
 use Rattle.promise_pairs.proofs.Exactly.{checked-no-case}
-use Rattle.promise_pairs.proofs.GoesAhead.{splits-ready, store-written}
+use Rattle.promise_pairs.proofs.GoesAhead.{splits-ready, splits-sorted, store-written}
+use Rattle.pair_after.proofs.SortedThen.{kept-sorted}
 use Rattle.promise_pairs.proofs.WrittenAfresh.{kept-reads}
 use Rattle.pair_after.proofs.SameReach.{at-slots, still-acyclic}
 use Rattle.pair_after.proofs.KeptUncut.{kept-uncut}
@@ -35,6 +36,12 @@ again-nothing s t w list octets p v list′ =
     rw (store-written s t w list p)
     (λ h.
     let checked : Checked (splitStore s t cs) t v
-    = record { reads = kept-reads s t cs g octets; scratch = h; atSlots = at-slots s t cs g; acyclic = still-acyclic s t cs g } in
+    = record {
+      reads = kept-reads s t cs g octets;
+      scratch = h;
+      atSlots = at-slots s t cs g;
+      acyclic = still-acyclic s t cs g;
+      sorted = kept-sorted s t cs g (splits-sorted s t w list p);
+    } in
     let o = nothing-to-split (splitStore s t cs) t v list′ checked (kept-uncut firstEdition s t cs g refl) in
     rw o (refl, record { noneNew = refl; sameStore = refl; sameList = refl; zeroScratch = refl }))

@@ -15,9 +15,9 @@ use Rattle.call_rules.specs.Outcomes.{Outcome, settle, done}
 use Rattle.pair_rules.specs.Table.{cutPlaces, shape}
 use Rattle.pair_rules.specs.Written.{newTables, perTable}
 use Rattle.pair_rules.specs.Pairs.{noPair, pairOf}
-use Rattle.pair_rules.specs.Reads.{Reads}
-use Rattle.pair_rules.specs.Calls.{splitCall, planCall, pairCall, splitCases, planCases, readCases, reported, settlePair}
-use Rattle.pair_rules.proofs.Checks.{no-case-reads, reads-no-case}
+use Rattle.pair_rules.specs.Reads.{ReadsPairs}
+use Rattle.pair_rules.specs.Calls.{splitCall, planCall, pairCall, splitCases, planCases, pairCases, reported, settlePair}
+use Rattle.pair_rules.proofs.SortedSets.{no-case-pairs, pairs-no-case}
 use Rattle.promise_calls.specs.Given.{Gives}
 use Rattle.promise_calls.proofs.Settled.{went}
 use Rattle.promise_calls.proofs.Given.{answerOf, gives-first, settle-gives, exactly}
@@ -52,11 +52,11 @@ module _ (s : Store) (t : ℕ) (w : Scratch) (list : List ℕ) where
   unfolding planCall
   plans-may h = no-case-plans s t w list (went s w list (planAhead s t w list) (firstCase (planCases s t w list)) h)
 
--- the answer is 0 with new tables exactly if checks 1 to 7 pass, there is a cut and room is enough
+-- the answer is 0 with new tables exactly if checks 1 to 7 and 11 pass, there is a cut and room is enough
 pub splits-exactly : SplitsExactly
 splits-exactly s t w list = (splits-may s t w list, may-splits s t w list)
 
--- places are handed out exactly if checks 1 to 7 pass, there is a cut and the list is long enough
+-- places are handed out exactly if checks 1 to 7 and 11 pass, there is a cut and the list is long enough
 pub plans-exactly : PlansExactly
 unfolding done
 plans-exactly s t w list = (
@@ -66,22 +66,22 @@ plans-exactly s t w list = (
 
 -- ---- a pair
 
-pub may-pair : (s : Store) (t a b : ℕ) → Reads s t → pairCall s t a b ≡ reported 0 (pairOf s t a b)
+pub may-pair : (s : Store) (t a b : ℕ) → ReadsPairs s t → pairCall s t a b ≡ reported 0 (pairOf s t a b)
 unfolding pairCall settlePair
-may-pair s t a b r = ap (λ (c : Option ℕ). settlePair c (pairOf s t a b)) (reads-no-case s t r)
+may-pair s t a b r = ap (λ (c : Option ℕ). settlePair c (pairOf s t a b)) (pairs-no-case s t r)
 
--- there is a pair exactly if checks 1 to 5 pass, the format is 1 or 2, and the table has one
+-- there is a pair exactly if checks 1 to 5 and 11 pass, the format is 1 or 2, and the table has one
 pub pairs-exactly : PairsExactly
 unfolding pairCall settlePair noPair
-pairs-exactly s t a b = (go (firstCase (readCases s t)) refl, may-pair s t a b)
+pairs-exactly s t a b = (go (firstCase (pairCases s t)) refl, may-pair s t a b)
   where
     found : (f : Bool) → _≡_ {A = ℕ} (cond f 1 0) 1 → f ≡ true
     found true e = refl
     found false e = absurd (omega arith)
 
-    go : (c : Option ℕ) → firstCase (readCases s t) ≡ c → settlePair c (pairOf s t a b) .found ≡ 1 → Reads s t × (pairOf s t a b .found ≡ true)
+    go : (c : Option ℕ) → firstCase (pairCases s t) ≡ c → settlePair c (pairOf s t a b) .found ≡ 1 → ReadsPairs s t × (pairOf s t a b .found ≡ true)
     go (some n) e h = absurd (omega (arith, h))
-    go none e h = (no-case-reads s t e, found (pairOf s t a b .found) h)
+    go none e h = (no-case-pairs s t e, found (pairOf s t a b .found) h)
 
 -- ---- the number
 
@@ -93,11 +93,11 @@ pub plan-gives : (s : Store) (t : ℕ) (w : Scratch) (list : List ℕ) → Gives
 unfolding planCall done
 plan-gives s t w list = settle-gives (planCases s t w list) s w list (planAhead s t w list) refl
 
-pub pair-gives : (s : Store) (t a b : ℕ) → Gives (readCases s t) (pairCall s t a b .answer)
+pub pair-gives : (s : Store) (t a b : ℕ) → Gives (pairCases s t) (pairCall s t a b .answer)
 unfolding pairCall settlePair
-pair-gives s t a b = go (firstCase (readCases s t)) (gives-first (readCases s t))
+pair-gives s t a b = go (firstCase (pairCases s t)) (gives-first (pairCases s t))
   where
-    go : (c : Option ℕ) → Gives (readCases s t) (answerOf c) → Gives (readCases s t) (settlePair c (pairOf s t a b) .answer)
+    go : (c : Option ℕ) → Gives (pairCases s t) (answerOf c) → Gives (pairCases s t) (settlePair c (pairOf s t a b) .answer)
     go (some n) g = g
     go none g = g
 
@@ -106,5 +106,5 @@ pub answers-exactly : PairAnswersExactly
 answers-exactly s t w list = (
   exactly (splitCases s t w list) (splitCall s t w list .answer) (split-gives s t w list),
   exactly (planCases s t w list) (planCall s t w list .answer) (plan-gives s t w list),
-  λ a b. exactly (readCases s t) (pairCall s t a b .answer) (pair-gives s t a b),
+  λ a b. exactly (pairCases s t) (pairCall s t a b .answer) (pair-gives s t a b),
 )

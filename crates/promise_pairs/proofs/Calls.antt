@@ -18,7 +18,7 @@ use Rattle.pair_rules.specs.Written.{newTables, perTable}
 use Rattle.pair_rules.specs.Pairs.{Pair, noPair, pairOf, pairAmong}
 use Rattle.call_rules.specs.Scratch.{Scratch}
 use Rattle.call_rules.specs.Outcomes.{Outcome, done}
-use Rattle.pair_rules.specs.Calls.{PairOutcome, settlePair, readCases, splitCases, planCases, splitCall, planCall, pairCall, reported, readInOrder}
+use Rattle.pair_rules.specs.Calls.{PairOutcome, settlePair, pairCases, splitCases, planCases, splitCall, planCall, pairCall, reported, readInOrder}
 use Rattle.call_rules.specs.Answers.{firstCase}
 use Rattle.promise_calls.specs.Unchanged.{Octets}
 use Rattle.promise_pairs.specs.Demands.{Splits, resulting}
@@ -30,8 +30,8 @@ use Rattle.promise_pairs.proofs.Exactly.{no-case-splits, splits-no-case
 use Rattle.promise_pairs.proofs.GoesAhead.{splitAhead, store-written}
 use Rattle.promise_pairs.proofs.Refusals.{planAhead}
 use Rattle.promise_pairs.proofs.Answered.{may-splits, may-plans, may-pair, pair-gives}
-use Rattle.pair_rules.specs.Reads.{Reads}
-use Rattle.pair_rules.proofs.Checks.{no-case-reads}
+use Rattle.pair_rules.specs.Reads.{ReadsPairs}
+use Rattle.pair_rules.proofs.SortedSets.{no-case-pairs}
 use Rattle.promise_pairs.proofs.PairsKept.{pairs-kept}
 use Rattle.promise_pairs.proofs.WrittenAfresh.{written-afresh}
 use Rattle.promise_pairs.proofs.ReadingsKept.{readings-kept}
@@ -138,14 +138,14 @@ plan-keeps s t w list o e = subst (PlanKeeps s t w list) (sym e) (plan-kept s t 
 -- ---- a pair reading
 
 -- a refusal, and a table of another format, have no pair
-no-pair : (s : Store) (t a b : ℕ) → (Reads s t → ⊥) → (pairCall s t a b .found ≡ 0) × (pairCall s t a b .values ≡ replicate 16 (pos 0))
+no-pair : (s : Store) (t a b : ℕ) → (ReadsPairs s t → ⊥) → (pairCall s t a b .found ≡ 0) × (pairCall s t a b .values ≡ replicate 16 (pos 0))
 unfolding pairCall settlePair noPair
-no-pair s t a b n = go (firstCase (readCases s t)) refl
+no-pair s t a b n = go (firstCase (pairCases s t)) refl
   where
-    go : (c : Option ℕ) → firstCase (readCases s t) ≡ c
+    go : (c : Option ℕ) → firstCase (pairCases s t) ≡ c
         → (settlePair c (pairOf s t a b) .found ≡ 0) × (settlePair c (pairOf s t a b) .values ≡ replicate 16 (pos 0))
     go (some n) e = (refl, refl)
-    go none e = absurd (n (no-case-reads s t e))
+    go none e = absurd (n (no-case-pairs s t e))
 
 -- a pair reading whose outcome is that of `pair_rules` keeps what is promised
 pub pair-keeps : (s : Store) (t a b : ℕ) (o : PairOutcome) → o ≡ pairCall s t a b → PairKeeps s t a b o

@@ -1,35 +1,36 @@
 -- When a call goes ahead: exactly if what document 01 asks for holds. Assumes nothing.
 use Prim.Native.Nat.{ℕ}
 use mathlib.Core.Path.{_≡_, _∙_}
-use mathlib.Core.List.{List}
+use mathlib.Core.List.{List, [], _∷_}
 use mathlib.Core.Option.{none}
 use lib.ListN.{length}
-use borrow.Author.Tests.{ltb-false, le-ltb}
+use borrow.Author.Tests.{ltb-false, le-ltb, not-false}
 use Rattle.store_rules.specs.Store.{Store}
 use Rattle.store_rules.specs.Reach.{onCycle}
 use Rattle.call_rules.specs.Scratch.{Scratch}
 use Rattle.call_rules.specs.Answers.{firstCase}
 use Rattle.call_rules.proofs.Cases.{first-append, first-head, first-skip}
-use Rattle.pair_rules.specs.Table.{allAtSlots, cutPlaces}
+use Rattle.pair_rules.specs.Table.{allAtSlots, setsSorted, cutPlaces}
 use Rattle.pair_rules.specs.Written.{needsOf, needed}
-use Rattle.pair_rules.specs.Calls.{readCases, cutCases, lastCases, splitCases, planCases, scratchShort}
+use Rattle.pair_rules.specs.Calls.{readCases, unsortedCase, cutCases, lastCases, splitCases, planCases, scratchShort}
 use Rattle.pair_rules.proofs.Checks.{no-case-reads, reads-no-case}
 use Rattle.promise_calls.proofs.Asked.{no-case-checks, checks-no-case, no-case-room, room-no-case}
 use Rattle.promise_pairs.specs.Exactly.{Checked, MaySplit, MayPlan}
 
 module _ (s : Store) (t : ℕ) (w : Scratch) where
-  -- ---- 1 to 7
+  -- ---- 1 to 7, and 11
 
   pub no-case-checked : firstCase (cutCases s t w) ≡ none → Checked s t w
   unfolding cutCases
   no-case-checked h =
-      let (read, scratch, slots, loop) = no-case-checks (readCases s t) (scratchShort s t w) (allAtSlots s t) (onCycle s t) h in
-      record { reads = no-case-reads s t read; scratch = scratch; atSlots = slots; acyclic = loop }
+      let (read, scratch, slots, loop, eleven) = no-case-checks (readCases s t) (scratchShort s t w) (allAtSlots s t) (onCycle s t) (unsortedCase s t ∷ []) h in
+      record { reads = no-case-reads s t read; scratch = scratch; atSlots = slots; acyclic = loop; sorted = not-false (setsSorted s t) (first-head _ _ eleven .0) }
 
   pub checked-no-case : Checked s t w → firstCase (cutCases s t w) ≡ none
-  unfolding cutCases
+  unfolding cutCases firstCase
   checked-no-case c =
-      checks-no-case (readCases s t) (scratchShort s t w) (allAtSlots s t) (onCycle s t) (reads-no-case s t (c .reads)) (c .scratch) (c .atSlots) (c .acyclic)
+      checks-no-case (readCases s t) (scratchShort s t w) (allAtSlots s t) (onCycle s t) (unsortedCase s t ∷ [])
+      (reads-no-case s t (c .reads)) (c .scratch) (c .atSlots) (c .acyclic) (rw (c .sorted))
 
   module _ (list : List ℕ) where
     abbrev cs : List ℕ

@@ -13,20 +13,20 @@ use Rattle.pair_rules.specs.Table.{cutPlaces, shape}
 use Rattle.pair_rules.specs.Written.{newTables, perTable}
 use Rattle.pair_rules.specs.Pairs.{pairOf}
 use Rattle.call_rules.specs.Answers.{firstCase}
-use Rattle.pair_rules.specs.Calls.{readCases, pairCall, reported, settlePair}
+use Rattle.pair_rules.specs.Calls.{pairCases, pairCall, reported, settlePair}
 use Rattle.call_rules.specs.Scratch.{Scratch}
-use Rattle.pair_rules.proofs.Checks.{reads-no-case}
+use Rattle.pair_rules.proofs.SortedSets.{pairs-no-case}
 use Rattle.promise_calls.specs.Unchanged.{Octets}
 use Rattle.promise_pairs.specs.Demands.{Splits, resulting, storeThen, ReadingsKept}
-use Rattle.promise_pairs.proofs.GoesAhead.{splits-ready}
+use Rattle.promise_pairs.proofs.GoesAhead.{splits-ready, splits-sorted}
 use Rattle.promise_pairs.proofs.WrittenAfresh.{written-afresh}
 
-takes : (s : Store) (t a b : ℕ) → firstCase (readCases s t) ≡ none → pairCall s t a b ≡ reported 0 (pairOf s t a b)
+takes : (s : Store) (t a b : ℕ) → firstCase (pairCases s t) ≡ none → pairCall s t a b ≡ reported 0 (pairOf s t a b)
 unfolding pairCall settlePair
 takes s t a b e = ap (λ (o : Option ℕ). settlePair o (pairOf s t a b)) e
 
 -- each of the resulting tables can be read
-each-read : (s : Store) (t : ℕ) (w : Scratch) (list : List ℕ) → Octets s → Splits s t w list → (i : ℕ) → i < length (resulting s t) → firstCase (readCases (storeThen s t w list) (getD (resulting s t) i 0)) ≡ none
+each-read : (s : Store) (t : ℕ) (w : Scratch) (list : List ℕ) → Octets s → Splits s t w list → (i : ℕ) → i < length (resulting s t) → firstCase (pairCases (storeThen s t w list) (getD (resulting s t) i 0)) ≡ none
 unfolding newTables
 each-read s t w list octets p zero l = written-afresh s t w list octets p .kept .readable
 each-read s t w list octets p (suc j) l =
@@ -38,6 +38,6 @@ each-read s t w list octets p (suc j) l =
 pub readings-kept : ReadingsKept
 readings-kept s t w list octets p a b =
     let (g, e) = splits-ready s t w list p in (
-      takes s t a b (reads-no-case s t (g .reads)),
+      takes s t a b (pairs-no-case s t (record { reads = g .reads; sorted = splits-sorted s t w list p })),
       λ i l. takes (storeThen s t w list) (getD (resulting s t) i 0) a b (each-read s t w list octets p i l),
     )

@@ -17,7 +17,7 @@ use Rattle.pair_rules.specs.Written.{newTables, perTable}
 use Rattle.pair_rules.specs.Pairs.{pairOf, noPair}
 use Rattle.call_rules.specs.Scratch.{Scratch}
 use Rattle.call_rules.specs.Outcomes.{Outcome, settle, done}
-use Rattle.pair_rules.specs.Calls.{splitCall, planCall, splitCases, planCases, cutCases, readCases, pairCall, settlePair}
+use Rattle.pair_rules.specs.Calls.{splitCall, planCall, splitCases, planCases, cutCases, readCases, pairCases, pairCall, settlePair}
 use Rattle.call_rules.specs.Answers.{firstCase}
 use Rattle.call_rules.proofs.Cases.{first-stands}
 use Rattle.promise_calls.specs.Unchanged.{Unchanged}
@@ -63,7 +63,7 @@ other-format s t a b c d e =
 
 -- "A format other than 1 or 2 answers 0 with no new tables straight after check 3's first clause"
 pub other-formats : OtherFormats
-unfolding splitCall planCall pairCall settle settlePair splitCases planCases cutCases
+unfolding splitCall planCall pairCall settle settlePair splitCases planCases cutCases pairCases
 other-formats s t w list a b c d e =
     let f = other-format s t a b c d e in
     let cut : firstCase (cutCases s t w) ≡ some 0 = first-stands (readCases s t) _ 0 f in
@@ -75,7 +75,7 @@ other-formats s t w list a b c d e =
       subst (λ (x : Option ℕ). Unchanged s w list (settle x s list w o)) (sym split) (settled s w list o 0),
       subst (λ (x : Option ℕ). settle x s list w q .answer ≡ 0) (sym plan) refl,
       subst (λ (x : Option ℕ). Unchanged s w list (settle x s list w q)) (sym plan) (settled s w list q 0),
-      λ x y. ap (λ (c : Option ℕ). settlePair c (pairOf s t x y)) f,
+      λ x y. ap (λ (c : Option ℕ). settlePair c (pairOf s t x y)) (first-stands (readCases s t) _ 0 f),
     )
 
 -- ---- in every case
@@ -94,10 +94,10 @@ plan-reads s t w list = plan-keeps s w list (firstCase (planCases s t w list)) (
 
 -- ---- the pair reading
 
--- "refuses by 1 to 5 in this order with no pair and sixteen zeros"
+-- "refuses by 1 to 5 in this order with no pair and sixteen zeros", and so by 11
 pub pair-refusals : PairRefusals
 unfolding pairCall settlePair noPair
-pair-refusals s t a b = go (firstCase (readCases s t))
+pair-refusals s t a b = go (firstCase (pairCases s t))
   where
     go : (c : Option ℕ) → (settlePair c (pairOf s t a b) .answer ≡ 0 → ⊥)
         → (settlePair c (pairOf s t a b) .found ≡ 0) × (settlePair c (pairOf s t a b) .values ≡ replicate 16 (pos 0))

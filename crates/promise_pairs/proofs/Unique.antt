@@ -8,14 +8,14 @@ use lib.IntN.{pos}
 use Rattle.store_rules.specs.Store.{Store}
 use Rattle.call_rules.specs.Scratch.{Scratch}
 use Rattle.call_rules.specs.Outcomes.{Outcome}
-use Rattle.pair_rules.specs.Calls.{PairOutcome, splitCall, planCall, pairCall, splitCases, planCases, readCases}
+use Rattle.pair_rules.specs.Calls.{PairOutcome, splitCall, planCall, pairCall, splitCases, planCases, pairCases}
 use Rattle.promise_calls.specs.Exits.{Exit, outcomeOf, Same}
 use Rattle.promise_calls.specs.Unchanged.{Octets}
 use Rattle.promise_calls.proofs.Given.{gives-one}
 use Rattle.promise_calls.proofs.Unique.{one-exit}
 use Rattle.promise_calls.proofs.Keeps.{decided, call-decided}
-use Rattle.pair_rules.specs.Reads.{Reads}
-use Rattle.pair_rules.proofs.Checks.{no-case-reads, reads-no-case}
+use Rattle.pair_rules.specs.Reads.{ReadsPairs}
+use Rattle.pair_rules.proofs.SortedSets.{no-case-pairs, pairs-no-case}
 use Rattle.promise_pairs.specs.Exactly.{MaySplit, MayPlan}
 use Rattle.promise_pairs.specs.Calls.{SplitLeaves, SplitKeeps, PlanLeaves, PlanKeeps, PairKeeps}
 use Rattle.promise_pairs.proofs.Exactly.{no-case-splits, splits-no-case, no-case-plans, plans-no-case}
@@ -47,10 +47,10 @@ plan-decided s t w list =
     (λ x y a b. (a .count ∙ sym (b .count), a .reads ∙ sym (b .reads), a .places ∙ sym (b .places)))
 
 pub pair-decided : (s : Store) (t a b : ℕ) (x y : PairOutcome) → PairKeeps s t a b x → PairKeeps s t a b y → x ≡ y
-pair-decided s t a b x y p q = ⊎-elim (λ r. p .pairs r ∙ sym (q .pairs r)) (λ n. neither (p .none n) (q .none n)) (decided (readCases s t) (Reads s t) (no-case-reads s t) (reads-no-case s t))
+pair-decided s t a b x y p q = ⊎-elim (λ r. p .pairs r ∙ sym (q .pairs r)) (λ n. neither (p .none n) (q .none n)) (decided (pairCases s t) (ReadsPairs s t) (no-case-pairs s t) (pairs-no-case s t))
   where
     answer : x .answer ≡ y .answer
-    answer = gives-one (readCases s t) (x .answer) (y .answer) (p .answers) (q .answers)
+    answer = gives-one (pairCases s t) (x .answer) (y .answer) (p .answers) (q .answers)
 
     neither : (x .found ≡ 0) × (x .values ≡ replicate 16 (pos 0)) → (y .found ≡ 0) × (y .values ≡ replicate 16 (pos 0)) → x ≡ y
     neither (f, v) (g, u) =

@@ -16,22 +16,24 @@ use Rattle.ot_layouts.specs.PairPos.{itemAt}
 use Rattle.ot_layouts.proofs.Entries.{Agrees, agrees-self}
 use Rattle.store_rules.specs.Store.{Store, sound, childAt, bytesOf, linkedBytes, linkedAt}
 use Rattle.glyph_rules.specs.Entries.{within, reduced}
-use Rattle.pair_rules.specs.Table.{entriesOf, shape, glyphsOf, cutPlaces}
+use Rattle.pair_rules.specs.Table.{entriesOf, shape, glyphsOf, setsSorted, cutPlaces}
 use Rattle.pair_rules.specs.Written.{splitStore}
 use Rattle.glyph_rules.proofs.Entries.{within-low, within-agrees}
 use Rattle.pair_rules.proofs.Entries.{entries-agree}
 use Rattle.pair_rules.specs.Reads.{Reads}
-use Rattle.pair_rules.proofs.Checks.{entries-ascend, reads-no-case}
+use Rattle.pair_rules.proofs.Checks.{entries-ascend}
+use Rattle.pair_rules.proofs.SortedSets.{pairs-no-case}
 use Rattle.pair_rules.proofs.NewCounts.{per-two}
 use Rattle.promise_calls.specs.Unchanged.{Octets}
 use Rattle.promise_pairs.specs.Demands.{Afresh, AllAfresh, WrittenAfresh}
 use Rattle.pair_after.proofs.Ready.{Ready, objects-then, new-used}
-use Rattle.promise_pairs.proofs.GoesAhead.{splits-ready, store-written}
+use Rattle.promise_pairs.proofs.GoesAhead.{splits-ready, splits-sorted, store-written}
 use Rattle.pair_after.proofs.NewBytes.{kept-bytes}
 use Rattle.pair_after.proofs.View.{View, renumbered-up, view-glyphs, view-class}
 use Rattle.pair_after.proofs.KeptAndNew.{view-kept, view-new, bytes-new}
 use Rattle.pair_after.proofs.ViewReads.{view-cover, view-class1, view-reads}
 use Rattle.pair_after.proofs.SoundThen.{sound-then}
+use Rattle.pair_after.proofs.SortedThen.{kept-sorted, new-sorted}
 
 -- ---- a view is a table written afresh
 
@@ -74,10 +76,10 @@ module _ {s : Store} {t : ℕ} {s′ : Store} {u lo hi : ℕ} (v : View s t s′
   linked-at : (q c : ℕ) → childAt s′ u q ≡ some c → s .objectCount ≤ c → s .objectCount ≤ linkedAt s′ u q
   linked-at q c e h = let f : linkedAt s′ u q ≡ c = ap (λ (o : Option ℕ). Option·getD o 0) e in omega arith
 
-  afresh : Afresh s t s′ u lo hi
-  afresh =
+  afresh : setsSorted s′ u ≡ true → Afresh s t s′ u lo hi
+  afresh sorted =
       record {
-        readable = reads-no-case s′ u (view-reads v old sounds used octets);
+        readable = pairs-no-case s′ u (record { reads = view-reads v old sounds used octets; sorted = sorted });
         covers = view-glyphs v up;
         coverBytes = view-cover v old sounds used octets;
         coverNew = let (c, n, e, f) = v .cover in linked-at 2 c e n;
@@ -107,12 +109,12 @@ module _ (s : Store) (t : ℕ) (cs : List ℕ) (g : Ready s t cs) (octets : Octe
   pub kept-reads : Reads (splitStore s t cs) t
   kept-reads = view-reads (view-kept s t cs g) (g .reads) (sound-then s t cs g) kept-used octets
 
-  all-afresh : AllAfresh s t (splitStore s t cs) cs
-  all-afresh =
+  all-afresh : setsSorted s t ≡ true → AllAfresh s t (splitStore s t cs) cs
+  all-afresh sorted =
       record {
-        kept = afresh (view-kept s t cs g) (g .reads) (sound-then s t cs g) kept-used octets;
+        kept = afresh (view-kept s t cs g) (g .reads) (sound-then s t cs g) kept-used octets (kept-sorted s t cs g sorted);
         keptBytes = kept-bytes s t cs g;
-        fresh = λ j l. afresh (view-new s t cs g j l) (g .reads) (sound-then s t cs g) (omega (arith, new-used s t cs g j 0 l (omega (arith, per-two (bytesOf s t))))) octets;
+        fresh = λ j l. afresh (view-new s t cs g j l) (g .reads) (sound-then s t cs g) (omega (arith, new-used s t cs g j 0 l (omega (arith, per-two (bytesOf s t))))) octets (new-sorted s t cs g sorted j l);
         freshBytes = λ j l. bytes-new s t cs g j l;
       }
 
@@ -120,4 +122,4 @@ module _ (s : Store) (t : ℕ) (cs : List ℕ) (g : Ready s t cs) (octets : Octe
 pub written-afresh : WrittenAfresh
 written-afresh s t w list octets p =
     let (g, e) = splits-ready s t w list p in
-    rw (store-written s t w list p) (all-afresh s t (cutPlaces s t) g octets)
+    rw (store-written s t w list p) (all-afresh s t (cutPlaces s t) g octets (splits-sorted s t w list p))

@@ -10,11 +10,11 @@ use Rattle.folds.specs.Lists.{put, part}
 use Rattle.store_rules.specs.Store.{Store, sound, bytesOf, childAt, headOf, tailOf}
 use Rattle.pair_rules.specs.Table.{cutPlaces}
 use Rattle.pair_rules.specs.Written.{newTables, splitStore}
-use Rattle.pair_rules.specs.Reads.{Reads}
+use Rattle.pair_rules.specs.Reads.{ReadsPairs}
 use Rattle.pair_rules.specs.Pairs.{pairOf}
 use Rattle.call_rules.specs.Scratch.{Scratch}
 use Rattle.call_rules.specs.Outcomes.{Outcome}
-use Rattle.pair_rules.specs.Calls.{PairOutcome, splitCall, pairCall, splitCases, planCases, readCases, reported, readInOrder, scratchShort}
+use Rattle.pair_rules.specs.Calls.{PairOutcome, splitCall, pairCall, splitCases, planCases, pairCases, reported, readInOrder, scratchShort}
 use Rattle.promise_calls.specs.Unchanged.{Unchanged, Octets}
 use Rattle.promise_calls.specs.Given.{Gives}
 use Rattle.promise_calls.specs.Keeps.{CallKeeps}
@@ -65,8 +65,8 @@ PlanKeeps s t w list = CallKeeps (planCases s t w list) (MayPlan s t w list) (Pl
 
 -- a pair reading
 pub record PairKeeps (s : Store) (t a b : ℕ) (o : PairOutcome) : Type 0 where
-  pub answers : Gives (readCases s t) (o .answer)
-  -- checks 1 to 5 pass, and the format is 1 or 2: the pair is the table's own
-  pub pairs : Reads s t → o ≡ reported 0 (pairOf s t a b)
-  -- "refuses by 1 to 5 in this order with no pair and sixteen zeros; another format is 0 and no pair"
-  pub none : (Reads s t → ⊥) → (o .found ≡ 0) × (o .values ≡ replicate 16 (pos 0))
+  pub answers : Gives (pairCases s t) (o .answer)
+  -- checks 1 to 5 and 11 pass, and the format is 1 or 2: the pair is the table's own
+  pub pairs : ReadsPairs s t → o ≡ reported 0 (pairOf s t a b)
+  -- "refuses by 1 to 5 in this order with no pair and sixteen zeros; another format is 0 and no pair"; 11 refuses as they do
+  pub none : (ReadsPairs s t → ⊥) → (o .found ≡ 0) × (o .values ≡ replicate 16 (pos 0))

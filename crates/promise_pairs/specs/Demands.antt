@@ -21,7 +21,7 @@ use Rattle.pair_rules.specs.Written.{newTables, newTable, perTable}
 use Rattle.cut_rules.specs.Ranges.{from, to}
 use Rattle.pair_rules.specs.Pairs.{noPair, pairAmong, pairOf}
 use Rattle.call_rules.specs.Scratch.{Scratch, cleared}
-use Rattle.pair_rules.specs.Calls.{splitCall, planCall, pairCall, reported, readCases, scratchShort}
+use Rattle.pair_rules.specs.Calls.{splitCall, planCall, pairCall, reported, pairCases, scratchShort}
 use Rattle.call_rules.specs.Answers.{firstCase}
 use Rattle.promise_calls.specs.Unchanged.{Unchanged, Octets}
 
@@ -49,7 +49,7 @@ OtherFormats =
     × (planCall s t w list .answer ≡ 0) × Unchanged s w list (planCall s t w list)
     × ((a b : ℕ) → pairCall s t a b ≡ reported 0 noPair)
 
--- "refuses by 1 to 5 in this order with no pair and sixteen zeros"
+-- "refuses by 1 to 5 in this order with no pair and sixteen zeros", and so by 11
 abbrev pub PairRefusals : Type 0
 PairRefusals =
     (s : Store) (t a b : ℕ) → (pairCall s t a b .answer ≡ 0 → ⊥)
@@ -111,8 +111,8 @@ ranged s t lo hi = within lo hi (entriesOf s t)
 
 -- object u of s′ is the table of items lo up to hi of the old table t, "by this section from the old table alone"
 pub record Afresh (s : Store) (t : ℕ) (s′ : Store) (u lo hi : ℕ) : Type 0 where
-  -- it is a table that can be read: 1 to 5 do not apply
-  pub readable : firstCase (readCases s′ u) ≡ none
+  -- it is a table whose pairs can be read: 1 to 5 and 11 do not apply
+  pub readable : firstCase (pairCases s′ u) ≡ none
   -- it "covers the glyphs whose class lies in its range", in format 1 those whose place does
   pub covers : glyphsOf s′ u ≡ map (λ e. e .glyph) (ranged s t lo hi)
   pub coverBytes : linkedBytes s′ u 2 ≡ coverageBytes (map (λ e. e .glyph) (ranged s t lo hi))

@@ -9,23 +9,25 @@ use Rattle.store_rules.specs.Store.{Store, objectRoom, linkRoom, byteRoom}
 use Rattle.store_rules.specs.Reach.{onCycle}
 use Rattle.call_rules.specs.Scratch.{Scratch, cleared}
 use Rattle.call_rules.specs.Outcomes.{outcome}
-use Rattle.pair_rules.specs.Table.{cutPlaces, shape, allAtSlots}
+use Rattle.pair_rules.specs.Table.{cutPlaces, shape, allAtSlots, setsSorted}
 use Rattle.pair_rules.specs.Written.{newOf, needObjects, needLinks}
-use Rattle.pair_rules.specs.Reads.{Reads}
+use Rattle.pair_rules.specs.Reads.{Reads, ReadsPairs}
 use Rattle.pair_rules.specs.Pairs.{pairOf}
-use Rattle.pair_rules.specs.Calls.{splitCall, planCall, pairCall, splitCases, planCases, readCases, scratchShort, reported}
+use Rattle.pair_rules.specs.Calls.{splitCall, planCall, pairCall, splitCases, planCases, pairCases, scratchShort, reported}
 use Rattle.promise_calls.specs.Given.{AnswersExactly}
 use Rattle.promise_pairs.specs.Demands.{Splits}
 
 -- ---- what has to hold
 
--- checks 1 to 7 pass, and the format is 1 or 2
+-- checks 1 to 7 and 11 pass, and the format is 1 or 2
 pub record Checked (s : Store) (t : ℕ) (w : Scratch) : Type 0 where
   pub reads : Reads s t
   pub scratch : scratchShort s t w ≡ false
   -- "a link of the table stands at no slot, or the table can be reached from itself"
   pub atSlots : allAtSlots s t ≡ true
   pub acyclic : onCycle s t ≡ false
+  -- "a linked pair set unsorted or of wrong length" does not hold
+  pub sorted : setsSorted s t ≡ true
 
 -- a split: there is a cut, and room is enough
 pub record MaySplit (s : Store) (t : ℕ) (w : Scratch) (list : List ℕ) : Type 0 where
@@ -44,25 +46,25 @@ pub record MayPlan (s : Store) (t : ℕ) (w : Scratch) (list : List ℕ) : Type 
 
 -- ---- exactly then
 
--- the answer is 0 with new tables exactly if checks 1 to 7 pass, there is a cut and room is enough
+-- the answer is 0 with new tables exactly if checks 1 to 7 and 11 pass, there is a cut and room is enough
 abbrev pub SplitsExactly : Type 0
 SplitsExactly =
     (s : Store) (t : ℕ) (w : Scratch) (list : List ℕ)
     → (Splits s t w list → MaySplit s t w list) × (MaySplit s t w list → Splits s t w list)
 
--- places are handed out exactly if checks 1 to 7 pass, there is a cut and the list is long enough; with no cut there are none
+-- places are handed out exactly if checks 1 to 7 and 11 pass, there is a cut and the list is long enough; with no cut there are none
 abbrev pub PlansExactly : Type 0
 PlansExactly =
     (s : Store) (t : ℕ) (w : Scratch) (list : List ℕ)
     → (0 < planCall s t w list .count → MayPlan s t w list × (0 < length (cutPlaces s t)))
     × (MayPlan s t w list → planCall s t w list ≡ outcome 0 (length (cutPlaces s t)) s (put list 0 (cutPlaces s t)) (cleared w))
 
--- there is a pair exactly if checks 1 to 5 pass, the format is 1 or 2, and the table has one
+-- there is a pair exactly if checks 1 to 5 and 11 pass, the format is 1 or 2, and the table has one
 abbrev pub PairsExactly : Type 0
 PairsExactly =
     (s : Store) (t a b : ℕ)
-    → (pairCall s t a b .found ≡ 1 → Reads s t × (pairOf s t a b .found ≡ true))
-    × (Reads s t → pairCall s t a b ≡ reported 0 (pairOf s t a b))
+    → (pairCall s t a b .found ≡ 1 → ReadsPairs s t × (pairOf s t a b .found ≡ true))
+    × (ReadsPairs s t → pairCall s t a b ≡ reported 0 (pairOf s t a b))
 
 -- "Given exactly if (first that applies, in this order)": of each of the three
 abbrev pub PairAnswersExactly : Type 0
@@ -70,4 +72,4 @@ PairAnswersExactly =
     (s : Store) (t : ℕ) (w : Scratch) (list : List ℕ)
     → AnswersExactly (splitCases s t w list) (splitCall s t w list .answer)
     × AnswersExactly (planCases s t w list) (planCall s t w list .answer)
-    × ((a b : ℕ) → AnswersExactly (readCases s t) (pairCall s t a b .answer))
+    × ((a b : ℕ) → AnswersExactly (pairCases s t) (pairCall s t a b .answer))

@@ -18,7 +18,7 @@ use Rattle.store_rules.specs.Store.{Store}
 use Rattle.pair_rules.specs.Table.{cutPlaces}
 use Rattle.call_rules.specs.Scratch.{Scratch, scratchOf}
 use Rattle.call_rules.specs.Outcomes.{Outcome}
-use Rattle.pair_rules.specs.Calls.{splitCall, readCases}
+use Rattle.pair_rules.specs.Calls.{splitCall, pairCases}
 use Rattle.call_rules.specs.Answers.{firstCase}
 use Rattle.pair_rules.specs.Computing.{computes}
 use Rattle.promise_calls.specs.Unchanged.{Octets}
@@ -32,7 +32,7 @@ small-bytes xs e i =
     (λ ge. omega (arith, List·getD-eq-default xs 0 ge))
     (either i (length xs))
 
--- ---- a call that splits: W9, one set of 65,518 bytes under a coverage of 6, with room
+-- ---- a call that splits: under a coverage of 6 a set without records, which leads to an object; together they are as long as W9's set; with room
 
 unfoldable pub front : List ℕ
 front = words (1 ∷ 0 ∷ 0 ∷ 0 ∷ 1 ∷ 0 ∷ 1 ∷ 1 ∷ 10 ∷ [])
@@ -41,15 +41,15 @@ unfoldable pub largeSet : Store
 largeSet =
     record {
       bytes = front ++ replicate 65618 0;
-      objects = 0 ∷ 12 ∷ 12 ∷ 18 ∷ 18 ∷ 65536 ∷ replicate 6 0;
-      links = 0 ∷ 2 ∷ 2 ∷ 1 ∷ 0 ∷ 10 ∷ 2 ∷ 2 ∷ replicate 4 0;
+      objects = 0 ∷ 12 ∷ 12 ∷ 18 ∷ 18 ∷ 20 ∷ 20 ∷ 65536 ∷ replicate 6 0;
+      links = 0 ∷ 2 ∷ 2 ∷ 1 ∷ 0 ∷ 10 ∷ 2 ∷ 2 ∷ 2 ∷ 0 ∷ 2 ∷ 3 ∷ replicate 4 0;
       byteCount = 65536;
-      objectCount = 3;
-      linkCount = 2;
+      objectCount = 4;
+      linkCount = 3;
     }
 
 unfoldable pub scratch : Scratch
-scratch = scratchOf (replicate 6 0) (replicate 8192 0) (0 ∷ []) (0 ∷ []) (0 ∷ [])
+scratch = scratchOf (replicate 8 0) (replicate 8192 0) (0 ∷ []) (0 ∷ []) (0 ∷ [])
 
 pub large-octets : Octets largeSet
 unfolding largeSet front words be16
@@ -57,7 +57,7 @@ large-octets = bytes-append front (replicate 65618 0) (small-bytes front refl) (
 
 -- answer, count, and what a reading of table t then refuses by: in one list, so that the call is computed once
 unfoldable pub seen : ℕ → Outcome → List (Option ℕ)
-seen t o = some (o .answer) ∷ some (o .count) ∷ firstCase (readCases (o .store) t) ∷ []
+seen t o = some (o .answer) ∷ some (o .count) ∷ firstCase (pairCases (o .store) t) ∷ []
 
 splits-once :
     (s : Store) (t : ℕ) (w : Scratch) (list : List ℕ) (refusal : Option ℕ)
@@ -103,5 +103,5 @@ pub not-without-bytes : ((s : Store) (t : ℕ) (w : Scratch) (list : List ℕ) �
 unfolding seen
 not-without-bytes h =
     let splits : Splits wild 3 wildScratch (0 ∷ []) = splits-once wild 3 wildScratch (0 ∷ []) (some 4) wild-seen in
-    let r : firstCase (readCases (storeThen wild 3 wildScratch (0 ∷ [])) 3) ≡ none = h wild 3 wildScratch (0 ∷ []) splits .kept .readable in
+    let r : firstCase (pairCases (storeThen wild 3 wildScratch (0 ∷ [])) 3) ≡ none = h wild 3 wildScratch (0 ∷ []) splits .kept .readable in
     let y : _≡_ {A = ℕ} 0 1 = cc wild-seen in omega arith

@@ -17,25 +17,26 @@ use Rattle.promise_witnesses.specs.Builds.{Build, Keeps, RefusesEverythi
 use Rattle.promise_witnesses.proofs.HeldToACall.{seenOf, refuses-not, cuts-once, does-something, writes-the-rest}
 use Rattle.promise_witnesses.proofs.CallsThatSplit.{small-bytes}
 
--- ---- a call that splits in two: one set of 65,518 bytes in two slots, under a coverage of two glyphs, with room
+-- ---- a call that splits in two: a set without records in two slots, which leads to an object; together they are 65,518 bytes; under a coverage of two
+-- glyphs, with room
 
 unfoldable pub twoFront : List ℕ
 twoFront = words (1 ∷ 0 ∷ 0 ∷ 0 ∷ 2 ∷ 0 ∷ 0 ∷ 1 ∷ 2 ∷ 10 ∷ 20 ∷ [])
 
--- objects: table 14, coverage 8, set 65,518
+-- objects: table 14, coverage 8, set 2, and 65,516
 unfoldable pub twoSlots : Store
 twoSlots =
     record {
       bytes = twoFront ++ replicate 65558 0;
-      objects = 0 ∷ 14 ∷ 14 ∷ 22 ∷ 22 ∷ 65540 ∷ replicate 10 0;
-      links = 0 ∷ 2 ∷ 2 ∷ 1 ∷ 0 ∷ 10 ∷ 2 ∷ 2 ∷ 0 ∷ 12 ∷ 2 ∷ 2 ∷ replicate 8 0;
+      objects = 0 ∷ 14 ∷ 14 ∷ 22 ∷ 22 ∷ 24 ∷ 24 ∷ 65540 ∷ replicate 10 0;
+      links = 0 ∷ 2 ∷ 2 ∷ 1 ∷ 0 ∷ 10 ∷ 2 ∷ 2 ∷ 0 ∷ 12 ∷ 2 ∷ 2 ∷ 2 ∷ 0 ∷ 2 ∷ 3 ∷ replicate 8 0;
       byteCount = 65540;
-      objectCount = 3;
-      linkCount = 3;
+      objectCount = 4;
+      linkCount = 4;
     }
 
 unfoldable pub twoScratch : Scratch
-twoScratch = scratchOf (replicate 6 0) (replicate 8192 0) (0 ∷ 0 ∷ []) (0 ∷ 0 ∷ []) (0 ∷ 0 ∷ [])
+twoScratch = scratchOf (replicate 8 0) (replicate 8192 0) (0 ∷ 0 ∷ []) (0 ∷ 0 ∷ []) (0 ∷ 0 ∷ [])
 
 two-octets : Octets twoSlots
 unfolding twoSlots twoFront words be16
@@ -48,7 +49,7 @@ twoList = 0 ∷ 0 ∷ []
 abbrev left : Outcome
 left = splitCall twoSlots 0 twoScratch twoList
 
-two-seen : seenOf twoSlots left ≡ 0 ∷ 2 ∷ 8 ∷ 1 ∷ 0 ∷ []
+two-seen : seenOf twoSlots left ≡ 0 ∷ 2 ∷ 9 ∷ 1 ∷ 0 ∷ []
 unfolding twoSlots twoFront twoScratch computes seenOf
 two-seen = refl
 
@@ -60,14 +61,14 @@ module _ (build : Build) (keeps : Keeps build) where
   built = split-only twoSlots 0 twoScratch twoList _ two-octets (keeps twoSlots 0 twoScratch twoList two-octets)
 
   pub no-build-refuses-everything : RefusesEverything build → ⊥
-  no-build-refuses-everything = refuses-not twoSlots 0 twoScratch twoList left 8 two-seen build built
+  no-build-refuses-everything = refuses-not twoSlots 0 twoScratch twoList left 9 two-seen build built
 
   pub no-build-never-cuts : NeverCuts build → ⊥
-  no-build-never-cuts = cuts-once twoSlots 0 twoScratch twoList left 8 two-seen build built
+  no-build-never-cuts = cuts-once twoSlots 0 twoScratch twoList left 9 two-seen build built
 
   pub no-build-does-nothing : DoesNothing build → ⊥
   unfolding twoSlots
-  no-build-does-nothing = does-something twoSlots 0 twoScratch twoList left 8 two-seen build built (omega arith)
+  no-build-does-nothing = does-something twoSlots 0 twoScratch twoList left 9 two-seen build built (omega arith)
 
   pub no-build-only-numbers-the-rest : NumbersTheRest build → ⊥
-  no-build-only-numbers-the-rest = writes-the-rest twoSlots 0 twoScratch twoList left 8 two-seen build built
+  no-build-only-numbers-the-rest = writes-the-rest twoSlots 0 twoScratch twoList left 9 two-seen build built

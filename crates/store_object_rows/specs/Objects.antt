@@ -7,6 +7,11 @@ use Rattle.folds.specs.Lists.{put, join}
 use Rattle.store_rules.specs.Store.{Store}
 use Rattle.store_rules.specs.Appended.{rowsFrom}
 
+-- bytes xs stand from `at` on, and end at r
+pub record Laid (d : List ℕ) (at : ℕ) (xs d′ : List ℕ) (r : ℕ) : Type 0 where
+  pub bytes : d′ ≡ put d at xs
+  pub ends : r ≡ at + length xs
+
 -- there is room for new objects from byte `at` and row `row` on, and the last ends within 32 bits
 pub record ObjectsRoom (d o : List ℕ) (at row : ℕ) (new : List (List ℕ)) : Type 0 where
   pub bytes : at + length (join new) ≤ length d

@@ -11,6 +11,8 @@ ghost use Rattle.store_rules.specs.Moments.{storeCameWith};
 ghost use Rattle.store_reader.specs.Rows.{Inside, keyOf, rowKey, InOrder, Bracket, FirstRow, ParentRows};
 ghost use Rattle.store_reader.specs.Children.{childFound};
 
+pub mod held_rows;
+
 // The numbers of a link row, and where each stands in it.
 pub const PER_LINK: usize = 4;
 
@@ -241,8 +243,44 @@ fn first_row_between(links: &[u32], count: usize, lo: usize, hi: usize, key: u64
     from
 }
 
-// The first of the `count` link rows at or past `position` of `parent`, which is one from `lo` to `hi`. Row `lo + near` is looked at first:
-// where an object has a link at each of its slots, so many rows before the slot's own are those of the slots before it.
+// The same, looked for from `lo` up in steps that double, and then by halving the last of them.
+fn row_up(links: &[u32], count: usize, lo: usize, hi: usize, key: u64) -> usize
+    requires { ⌜ InOrder (now links) count × Bracket (now links) count key lo hi ⌝ }
+    ensures { λ r. ⌜ FirstRow (came links) count key r ⌝ }
+{
+    let mut from = lo;
+    let mut step = 1;
+    while step <= hi - from {
+        let last = from + step - 1;
+        if key <= key_at(links, last) {
+            return first_row_between(links, count, from, last, key);
+        }
+        from = last + 1;
+        step += step;
+    }
+    first_row_between(links, count, from, hi, key)
+}
+
+// The same, from `hi` down.
+fn row_down(links: &[u32], count: usize, lo: usize, hi: usize, key: u64) -> usize
+    requires { ⌜ InOrder (now links) count × Bracket (now links) count key lo hi ⌝ }
+    ensures { λ r. ⌜ FirstRow (came links) count key r ⌝ }
+{
+    let mut to = hi;
+    let mut step = 1;
+    while step <= to - lo {
+        let row = to - step;
+        if key_at(links, row) < key {
+            return first_row_between(links, count, row + 1, to, key);
+        }
+        to = row;
+        step += step;
+    }
+    first_row_between(links, count, lo, to, key)
+}
+
+// The first of the `count` link rows at or past `position` of `parent`, which is one from `lo` to `hi`. It is looked for at row `near`, and outwards from
+// there: the nearer it is the fewer rows are looked at.
 pub fn row_near(
     links: &[u32],
     count: usize,
@@ -252,22 +290,24 @@ pub fn row_near(
     parent: u32,
     position: u32,
 ) -> usize
-    requires { ⌜ InOrder (now links) count × Bracket (now links) count (keyOf parent position) lo hi × (near < 4294967296) ⌝ }
+    requires { ⌜ InOrder (now links) count × Bracket (now links) count (keyOf parent position) lo hi ⌝ }
     ensures { λ r. ⌜ FirstRow (came links) count (keyOf parent position) r ⌝ }
 {
     let key = key_of(parent, position);
-    let at = lo + near;
-    if hi <= at {
-        return first_row_between(links, count, lo, hi, key);
+    if hi <= near {
+        return row_down(links, count, lo, hi, key);
     }
-    let found = key_at(links, at);
+    if near < lo {
+        return row_up(links, count, lo, hi, key);
+    }
+    let found = key_at(links, near);
     if found < key {
-        return first_row_between(links, count, at + 1, hi, key);
+        return row_up(links, count, near + 1, hi, key);
     }
     if key < found {
-        return first_row_between(links, count, lo, at, key);
+        return row_down(links, count, lo, near, key);
     }
-    at
+    near
 }
 
 // The same, row by row from `start` on, before which every row stands before that position of that parent.
@@ -298,7 +338,7 @@ pub fn rows_of(links: &[u32], count: usize, parent: u32) -> LinkRows
 }
 
 // The child that the link at `position` of `parent` leads to, where `row` is the first row at or past it.
-fn child_in(links: &[u32], counts: [u32; 3], row: usize, parent: u32, position: u32) -> Child
+pub fn child_in(links: &[u32], counts: [u32; 3], row: usize, parent: u32, position: u32) -> Child
     requires { ⌜ InOrder (now links) (getD counts 2 0) × FirstRow (now links) (getD counts 2 0) (keyOf parent position) row ⌝ }
     ensures { λ r. ⌜ ((b o : List ℕ) → childFound r ≡ childAt (lent b o (came links) counts) parent position) ⌝ }
 {
@@ -320,29 +360,5 @@ pub fn child_at(links: &[u32], counts: [u32; 3], parent: u32, position: u32) -> 
     ensures { λ r. ⌜ ((b o : List ℕ) → childFound r ≡ childAt (lent b o (came links) counts) parent position) ⌝ }
 {
     let row = first_row(links, counts[2] as usize, parent, position);
-    child_in(links, counts, row, parent, position)
-}
-
-// The same, where the rows of `parent` are known and its link is looked for near the one that stands so many rows behind the first.
-pub fn child_near(
-    links: &[u32],
-    counts: [u32; 3],
-    rows: LinkRows,
-    near: usize,
-    parent: u32,
-    position: u32,
-) -> Child
-    requires { ⌜ InOrder (now links) (getD counts 2 0) × ParentRows (now links) (getD counts 2 0) parent rows × (near < 4294967296) ⌝ }
-    ensures { λ r. ⌜ ((b o : List ℕ) → childFound r ≡ childAt (lent b o (came links) counts) parent position) ⌝ }
-{
-    let row = row_near(
-        links,
-        counts[2] as usize,
-        rows.first,
-        rows.after,
-        near,
-        parent,
-        position,
-    );
     child_in(links, counts, row, parent, position)
 }

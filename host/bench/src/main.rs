@@ -1,9 +1,10 @@
 //! How long the proved splits and cut plans take, beside the crate's own.
 //!
 //! ```text
-//! bench [--runs N]    times all inputs N times over, 3 unless it is said, and writes docs/BENCH.md
-//!                     and docs/bench.svg
-//! bench --quick       the small inputs, each store once: only that both sides agree, whatever the time
+//! bench [--runs N]            times all inputs N times over, 3 unless it is said
+//! bench [--runs N] --write    the same, and writes docs/BENCH.md and docs/bench.svg
+//! bench --quick               the small inputs, each store once: only that both sides agree, whatever
+//!                             the time
 //! ```
 //!
 //! | module | holds |
@@ -30,14 +31,18 @@ use timing::Timing;
 fn main() -> ExitCode {
     let args: Vec<String> = env::args().skip(1).collect();
     let args: Vec<&str> = args.iter().map(String::as_str).collect();
-    let done = match args[..] {
-        ["--quick"] => quick(),
-        [] => full(3),
+    let (args, is_written) = match args.split_last() {
+        Some((&"--write", args)) => (args, true),
+        _ => (&args[..], false),
+    };
+    let done = match args {
+        ["--quick"] if !is_written => quick(),
+        [] => full(3, is_written),
         ["--runs", runs] => match runs.parse() {
-            Ok(runs @ 1..) => full(runs),
+            Ok(runs @ 1..) => full(runs, is_written),
             _ => Err(format!("{runs} is no number of runs")),
         },
-        _ => Err("bench [--quick | --runs N]".into()),
+        _ => Err("bench [--quick | [--runs N] [--write]]".into()),
     };
     match done {
         Ok(()) => ExitCode::SUCCESS,
@@ -57,11 +62,14 @@ fn quick() -> Result<(), String> {
     Ok(())
 }
 
-/// All inputs, and the page and plot of what they took.
-fn full(runs: usize) -> Result<(), String> {
+/// All inputs; where it is asked for, the page and plot of what they took.
+fn full(runs: usize, is_written: bool) -> Result<(), String> {
     let inputs = input::all();
     let figures = measure(&inputs, runs, |input| input.repetitions)?;
     print!("{}", page::text(&figures));
+    if !is_written {
+        return Ok(());
+    }
     let docs = Path::new(env!("CARGO_MANIFEST_DIR")).join("../../docs");
     write(&docs.join("BENCH.md"), &page::markdown(&figures))?;
     write(&docs.join("bench.svg"), &plot::svg(&figures))

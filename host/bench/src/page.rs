@@ -12,7 +12,7 @@ const HEAD: &str = "\
 # How long it takes
 
 Splits and cut plans of the proved library beside those of the crate's text (`host/oracle`), on the same stores, in one run of
-`cargo run --release -p bench` in `host/`, which wrote this page.
+`cargo run --release -p bench -- --write` in `host/`, which wrote this page.
 
 What is timed, on our side: one call of `split_pairpos` or `cut_plan` of the archive, and of `split_markbasepos` or
 `cut_plan_markbasepos` for mark-to-base tables, with all its checks of the store and with the clearing of the scratch. It is lent exactly

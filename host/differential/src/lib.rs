@@ -17,6 +17,7 @@
 //! | [`product`] | where the 16-bit product of the crate's text shows |
 //! | [`kept_offsets`] | where the crate's text keeps old offsets |
 //! | [`check`] | what must hold of a split, against the oracle and against the model |
+//! | [`explained`] | the host library's explanations, held to the proved functions |
 //! | [`vectors`] | a sample of the answers, stored for the program `vectors` |
 //! | [`runs`] | all that is asked of the store of one seed |
 //!
@@ -38,6 +39,7 @@ pub mod check;
 pub mod compare;
 pub mod damage;
 pub mod edit;
+pub mod explained;
 pub mod generate;
 pub mod kept_offsets;
 pub mod lend;

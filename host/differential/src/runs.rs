@@ -8,9 +8,11 @@ use crate::{
     },
     check::{Outcome, Split},
     damage::{self, Damage},
+    explained::as_answered,
     generate::Case,
     lend, Call, MarkSubject, Marks, Random, Subject, Tally,
 };
+use splitter::Kind;
 
 /// How often a store is damaged in one way, and how often at random.
 const DAMAGES: usize = 4;
@@ -56,7 +58,8 @@ pub fn marks_whole(
     attachments_agree(subject, &split, &mut random, tally)
 }
 
-/// Damaged copies of a store's call: they are refused as by the model, and nothing changes.
+/// Damaged copies of a store's call: they are refused as by the model, for the reason that the host
+/// library gives, and nothing changes.
 ///
 /// What is damaged at random may still be split, and then it is split as by the oracle.
 pub fn damaged(subject: &impl Subject, case: &Case, seed: u64, tally: &mut Tally) -> Outcome {
@@ -64,6 +67,7 @@ pub fn damaged(subject: &impl Subject, case: &Case, seed: u64, tally: &mut Tally
     let call = lend::exactly(&case.store, case.table, &mut random);
     damage_each(&call, &damage::all(), &mut random, |call| {
         all_agree(subject, call)?;
+        as_answered(Kind::Pairs, call)?;
         let split = Split::by(subject, call);
         frame(&split)?;
         refused_or_as_the_oracle(&split, tally)?;
@@ -82,6 +86,7 @@ pub fn marks_damaged(
     let call = lend::marks_exactly(&case.store, case.table, &mut random);
     damage_each(&call, &damage::marks(), &mut random, |call| {
         marks_agree(subject, call)?;
+        as_answered(Kind::Marks, call)?;
         let split = Split::by(&Marks(subject), call);
         frame(&split)?;
         refused_or_marks_as_the_oracle(&split, tally)?;

@@ -166,6 +166,47 @@ impl Graph {
     }
 }
 
+/// What a host does with such a graph of its own, by the methods that the text asks for.
+impl Graph {
+    /// Adds an object of these bytes.
+    pub fn add_object(&mut self, bytes: &[u8]) -> Result<ObjIdx, RepackError> {
+        let obj_idx = self.new_vertex(bytes.len())?;
+        let data = self.mut_vertex_data(obj_idx);
+        data.ok_or(RepackError::GraphErrorInvalidObjIndex)?
+            .copy_from_slice(bytes);
+        Ok(obj_idx)
+    }
+
+    /// Gives an object these links, and no others.
+    pub fn set_links(
+        &mut self,
+        obj_idx: ObjIdx,
+        links: &[(u32, ObjIdx)],
+    ) -> Result<(), RepackError> {
+        self.mut_vertex(obj_idx)
+            .ok_or(RepackError::GraphErrorInvalidObjIndex)?
+            .real_links
+            .clear();
+        for &(position, child_idx) in links {
+            self.add_parent_child_link(obj_idx, child_idx, LinkWidth::Two, position, false)?;
+        }
+        Ok(())
+    }
+
+    /// Gives an object these bytes, as many as it has or fewer, in its place.
+    pub fn shorten(&mut self, obj_idx: ObjIdx, bytes: &[u8]) -> Result<(), RepackError> {
+        let vertex = self
+            .mut_vertex(obj_idx)
+            .filter(|vertex| bytes.len() <= vertex.table_size())
+            .ok_or(RepackError::GraphErrorInvalidObjIndex)?;
+        vertex.tail = vertex.head + bytes.len();
+        let data = self.mut_vertex_data(obj_idx);
+        data.ok_or(RepackError::GraphErrorInvalidObjIndex)?
+            .copy_from_slice(bytes);
+        Ok(())
+    }
+}
+
 /// What the text asks of a graph.
 impl Graph {
     fn vertex(&self, obj_idx: ObjIdx) -> Option<&Vertex> {

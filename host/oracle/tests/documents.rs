@@ -69,6 +69,30 @@ fn the_readme_shows_each_crate() {
 }
 
 #[test]
+fn the_readme_names_the_pinned_kit() {
+    let kit = text("kit.txt");
+    assert_eq!(kit.lines().count(), 1);
+    assert!(text("README.md").contains(&format!("`{}`", kit.trim())));
+}
+
+/// The figures of what is left to the host are those of a test, and stand wherever it is told.
+#[test]
+fn what_is_left_to_the_host_has_its_figures() {
+    let figures = text("host/splitter/tests/packing.rs");
+    for number in ["67_732", "65_482"] {
+        assert!(figures.contains(number));
+        let number = number.replace('_', ",");
+        for page in [
+            "README.md",
+            "host/include/splitter.h",
+            "host/splitter/src/lib.rs",
+        ] {
+            assert!(text(page).contains(&number), "{page}: {number}");
+        }
+    }
+}
+
+#[test]
 fn the_reading_list_names_each_file_that_has_to_be_believed() {
     let promises = text("docs/PROMISES.md");
     let named: Vec<_> = paths_in(&promises).collect();

@@ -2,7 +2,7 @@
 
 #[path = "helpers/files.rs"]
 mod files;
-#[path = "helpers/sha256.rs"]
+#[path = "../../splitter/build/sha256.rs"]
 mod sha256;
 
 use files::files_under;

@@ -5,20 +5,23 @@
 //! a font is a [`FontError`].
 //!
 //! ```
-//! use splitter::font::{find_gpos, load, FontError, Lookups, TABLE};
-//! use splitter::{Kind, Scratch};
+//! use splitter::font::{FontError, FontTables, TABLE};
+//! use splitter::Scratch;
 //!
-//! fn show_cuts(file: &[u8], kind: Kind) -> Result<(), FontError> {
-//!     let Some(gpos) = find_gpos(file)? else { return Ok(()) };
-//!     for subtable in Lookups::read(gpos, kind)?.subtables {
-//!         let store = load(gpos, kind, subtable.start)?;
-//!         println!("{:?}", kind.cut_plan(&store, TABLE, &mut Scratch::new())?);
+//! fn show_cuts(file: &[u8]) -> Result<(), FontError> {
+//!     let font = FontTables::read(file)?;
+//!     for table in &font.tables {
+//!         let store = font.load(table)?;
+//!         let cuts = table.kind.cut_plan(&store, TABLE, &mut Scratch::new())?;
+//!         println!("lookup {}: {cuts:?}", table.listed[0].lookup);
 //!     }
 //!     Ok(())
 //! }
 //! # let letter = b"a letter to a friend";
-//! # assert_eq!(show_cuts(letter, Kind::Marks), Err(FontError::NotAFont));
+//! # assert_eq!(show_cuts(letter), Err(FontError::NotAFont));
 //! ```
+//!
+//! [`Store::from_font`] gives one subtable of one lookup.
 
 mod bytes;
 mod directory;
@@ -28,6 +31,7 @@ mod loader;
 mod lookups;
 mod marks;
 mod pairs;
+mod tables;
 
 pub use bytes::Bytes;
 pub use directory::find_gpos;
@@ -35,6 +39,7 @@ pub use error::FontError;
 pub use lookups::{Lookups, Subtable};
 pub use marks::load_marks;
 pub use pairs::load_pairs;
+pub use tables::{FontTable, FontTables, Listed};
 
 use crate::{Kind, Store};
 

@@ -1,5 +1,10 @@
 //! The proved splitter of PairPos and MarkBasePos tables, for hosts in Rust.
 //!
+//! A table that is too large is cut into several that fit: for which the rule counts at most 65,535
+//! bytes, of the table, all that its items lead to, each object once, and its coverage and class
+//! definitions, of which in format 2 of pairs the largest is left out. It is a count and no layout, and
+//! an item that is too large by itself stays so.
+//!
 //! A font's objects and the links between them stand in a [`Store`], or in buffers of the host's own
 //! as a [`StoreRef`] or [`StoreMut`]. Every call answers any input; where it cannot do what it is
 //! asked it gives a [`Refusal`], and has changed nothing. What is done is done by functions that are
@@ -18,13 +23,21 @@
 //!
 //! | to | see |
 //! |---|---|
+//! | know why a table is refused: what is at fault, where, and what should be there | [`explain()`] |
+//! | split tables of a graph of the host's own | [`split_graph`] |
 //! | keep a store in a file, for the command `splitter` | [`store_file`] |
-//! | take tables out of a font | [`font`] |
+//! | take tables out of a font | [`Store::from_font`], [`font`] |
+//! | know which kit proved what is linked | [`provenance`] |
 //!
-//! A split leaves it to the host to list the new tables in the lookup, directly behind the old one and in
-//! order, and to pack them: tables that each fit may together want extension lookups, and copies of
-//! what they share. In format 2 of pairs the largest of the coverage and the two class definitions is
-//! packed last. Nothing may lead to the old coverage, class definition 1 or arrays any more.
+//! # What is left to the host
+//!
+//! - The lookup must list the new tables, directly behind the old one and in order.
+//! - In format 2 of pairs the largest of the coverage and the two class definitions is packed last. In
+//!   order of object numbers a table can overflow: of 400 rows of 101 records with a class definition 2
+//!   of 3,006 bytes, the kept table's greatest offset is 67,732 by number and 65,482 in link order.
+//! - Tables that each fit may together be too far from their lookup, and usually want extension lookups.
+//! - What they share may have to be there more than once.
+//! - The old coverage, class definition 1 or arrays stay, and may be left with nothing that leads to them.
 //!
 //! ```
 //! use splitter::{cut_plan, read_pair, split, Refusal, Scratch, Store};
@@ -56,12 +69,15 @@
 
 #![deny(missing_docs, unsafe_code)]
 
+pub mod explain;
 pub mod font;
+mod graph;
 mod kind;
 mod mark;
 mod need;
 mod pair;
 mod plan;
+pub mod provenance;
 pub mod raw;
 mod refusal;
 mod scratch;
@@ -69,6 +85,8 @@ mod split;
 mod store;
 pub mod store_file;
 
+pub use explain::{explain, explain_marks, Explanation};
+pub use graph::{split_graph, split_marks_graph, GraphStore, ObjectGraph};
 pub use kind::Kind;
 pub use mark::{read_mark, Attachment};
 pub use pair::{read_pair, PairValues, Values};

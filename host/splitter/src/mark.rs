@@ -15,7 +15,8 @@ pub struct Attachment {
 /// Reads by which anchors a MarkBasePos table attaches a mark glyph to a base glyph.
 ///
 /// There is no attachment where the table says nothing of one of the two glyphs, where one of the two
-/// anchors is missing, or where it has a format other than 1.
+/// anchors is missing, or where it has a format other than 1. Each call looks at the whole store first:
+/// it costs as much as the store is large.
 ///
 /// # Errors
 ///

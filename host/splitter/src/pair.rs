@@ -35,6 +35,7 @@ pub struct Values {
 /// Reads what a PairPos table says of two glyphs, the first before the second.
 ///
 /// There is no pair where the table says nothing of the two, or has a format other than 1 and 2.
+/// Each call looks at the whole store first: it costs as much as the store is large.
 ///
 /// # Errors
 ///

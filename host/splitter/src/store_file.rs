@@ -24,9 +24,11 @@
 //! what was read is written as the same bytes again.
 
 mod error;
+mod raw;
 mod table;
 
 pub use error::FileError;
+pub use raw::RawFile;
 pub use table::Table;
 
 use crate::Store;
@@ -94,14 +96,7 @@ impl StoreFile {
     ///
     /// The first [`FileError`] that applies.
     pub fn from_bytes(bytes: &[u8]) -> Result<Self, FileError> {
-        let (version, counts, rest) = header(bytes)?;
-        let [data, objects, links] = counts;
-        let (data, rest) = rest.split_at(data as usize);
-        let (objects, rest) = rest.split_at(8 * objects as usize);
-        let (links, tables) = rest.split_at(16 * links as usize);
-        let store = Store::from_parts(data.to_vec(), numbers(objects), numbers(links), counts);
-        let store = store.map_err(FileError::Store)?;
-        Self::new(store, table::listed(version, &numbers(tables))?)
+        RawFile::from_bytes(bytes)?.into_file()
     }
 
     /// The file's bytes.
@@ -137,43 +132,6 @@ impl StoreFile {
     pub fn into_parts(self) -> (Store, Vec<Table>) {
         (self.store, self.tables)
     }
-}
-
-/// The version, how many data bytes, objects and links there are in a file that is exactly as long as
-/// its header asks for, and what comes behind the header.
-fn header(bytes: &[u8]) -> Result<(u16, [u32; 3], &[u8]), FileError> {
-    if !bytes.starts_with(&MAGIC) {
-        return Err(FileError::NotAStoreFile);
-    }
-    let is = bytes.len() as u64;
-    let short = FileError::Length {
-        is,
-        asked: HEADER as u64,
-    };
-    let version = bytes.get(4..6).ok_or(short)?;
-    let version = number(version) as u16;
-    if !(1..=VERSION).contains(&version) {
-        return Err(FileError::Version { version });
-    }
-    let (header, rest) = bytes.split_at_checked(HEADER).ok_or(short)?;
-    let tables = number(&header[6..8]);
-    let counts = [8, 12, 16].map(|at| number(&header[at..at + 4]));
-    let [data, objects, links] = counts.map(u64::from);
-    let asked = HEADER as u64 + data + 8 * objects + 16 * links + 4 * u64::from(tables);
-    match is == asked {
-        true => Ok((version, counts, rest)),
-        false => Err(FileError::Length { is, asked }),
-    }
-}
-
-/// The number that up to four bytes are.
-fn number(bytes: &[u8]) -> u32 {
-    let longer = |number, &byte| number << 8 | u32::from(byte);
-    bytes.iter().fold(0, longer)
-}
-
-fn numbers(bytes: &[u8]) -> Vec<u32> {
-    bytes.chunks_exact(4).map(number).collect()
 }
 
 fn extend(bytes: &mut Vec<u8>, numbers: &[u32]) {

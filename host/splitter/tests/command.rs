@@ -3,136 +3,19 @@
 mod common;
 #[path = "../src/command/font/tests/made.rs"]
 mod made;
+#[macro_use]
+mod run;
 
 use common::{bytes, cut_marks, format1, store};
+use run::*;
 use splitter::{
     store_file::{StoreFile, Table},
     Refusal, Store,
 };
 use std::{
-    ffi::OsStr,
     fs::{self, OpenOptions},
-    path::{Path, PathBuf},
-    process::{Command, Output, Stdio},
+    process::Stdio,
 };
-
-/// A directory of a test's own, which goes with it.
-struct Directory(PathBuf);
-
-impl Directory {
-    fn new(name: &str) -> Self {
-        let path = Path::new(env!("CARGO_TARGET_TMPDIR")).join(name);
-        let _ = fs::remove_dir_all(&path);
-        fs::create_dir_all(&path).unwrap();
-        Self(path)
-    }
-
-    fn file(&self, name: &str) -> PathBuf {
-        self.0.join(name)
-    }
-
-    /// Writes a store file about some tables for pairs.
-    fn store(&self, name: &str, store: Store, tables: &[u32]) -> PathBuf {
-        self.store_of(name, store, pairs(tables))
-    }
-
-    /// Writes a store file about some tables.
-    fn store_of(&self, name: &str, store: Store, tables: Vec<Table>) -> PathBuf {
-        let path = self.file(name);
-        let file = StoreFile::new(store, tables).unwrap();
-        fs::write(&path, file.to_bytes()).unwrap();
-        path
-    }
-
-    /// What was printed, with the files as they are named within.
-    fn named_short(&self, text: &str) -> String {
-        text.replace(&format!("{}/", self.0.display()), "")
-    }
-
-    fn names(&self) -> Vec<String> {
-        let entries = fs::read_dir(&self.0).unwrap();
-        let names = entries.map(|entry| entry.unwrap().file_name());
-        let mut names: Vec<_> = names.map(|name| name.into_string().unwrap()).collect();
-        names.sort();
-        names
-    }
-}
-
-impl Drop for Directory {
-    fn drop(&mut self) {
-        let _ = fs::remove_dir_all(&self.0);
-    }
-}
-
-/// Tables for pairs.
-fn pairs(numbers: &[u32]) -> Vec<Table> {
-    numbers.iter().map(|&number| Table::pairs(number)).collect()
-}
-
-fn read_store(path: &Path) -> StoreFile {
-    StoreFile::from_bytes(&fs::read(path).unwrap()).unwrap()
-}
-
-fn command(words: &[&OsStr]) -> Command {
-    let mut command = Command::new(env!("CARGO_BIN_EXE_splitter"));
-    command.args(words).env("LC_ALL", "C");
-    command
-}
-
-/// What came of a run.
-#[derive(Debug, PartialEq, Eq)]
-struct Ran {
-    code: Option<i32>,
-    out: String,
-    err: String,
-}
-
-impl Ran {
-    fn of(mut command: Command) -> Self {
-        let Output {
-            status,
-            stdout,
-            stderr,
-        } = command.output().unwrap();
-        Self {
-            code: status.code(),
-            out: String::from_utf8(stdout).unwrap(),
-            err: String::from_utf8(stderr).unwrap(),
-        }
-    }
-}
-
-/// Runs the command with words that may be paths.
-macro_rules! run {
-    ($($word:expr),*) => {
-        Ran::of(command(&[$(OsStr::new(&$word)),*]))
-    };
-}
-
-/// It did what it was asked for, and said nothing on standard error.
-#[track_caller]
-fn done(ran: Ran) -> String {
-    assert_eq!((ran.code, &ran.err[..]), (Some(0), ""));
-    ran.out
-}
-
-/// It ended with this code and one sentence, in which these words are.
-#[track_caller]
-fn failed(ran: Ran, code: i32, words: &str) {
-    assert_eq!(ran.code, Some(code), "{ran:?}");
-    assert!(
-        ran.err.starts_with("splitter: ") && ran.err.contains(words),
-        "{}",
-        ran.err
-    );
-    assert_eq!(ran.err.lines().count(), 1, "{}", ran.err);
-}
-
-fn fits_the_terminal(text: &str) {
-    for line in text.lines() {
-        assert!(line.chars().count() <= 80, "{line}");
-    }
-}
 
 /// A table of three sets, which is cut at 2.
 fn three_sets() -> Store {
@@ -167,7 +50,7 @@ fn bars() {
         ("C.UTF-8", "--ascii", "####"),
     ] {
         let mut plan = command(&["plan".as_ref(), file.as_ref(), option.as_ref()]);
-        let out = done(Ran::of({
+        let out = would_cut(Ran::of({
             plan.env("LC_ALL", locale).env("TERM", "xterm");
             plan
         }));
@@ -192,7 +75,7 @@ fn from_samples_to_split_files() {
     ] {
         let [first, second] = glyphs;
         let sample = samples.join(name);
-        let plan = done(run!("plan", sample));
+        let plan = would_cut(run!("plan", sample));
         fits_the_terminal(&plan[plan.find('\n').unwrap()..]);
         assert!(plan.contains("3 tables in its place"));
 
@@ -217,6 +100,10 @@ fn from_samples_to_split_files() {
         assert_eq!(values(done(run!(read, once, last, first, second))), old);
         let none = done(run!(read, once, "0", first, second));
         assert!(none.contains("no pair") || none.contains("does not attach"));
+        // Without a table, the kept and the new ones are read in order.
+        assert_eq!(values(done(run!(read, once, first, second))), old);
+        let none = done(run!(read, once, "1", "2"));
+        assert!(none.starts_with("None of its 3 "), "{none}");
     }
     assert_eq!(directory.names(), ["in", "once.krns", "twice.krns"]);
 }
@@ -226,9 +113,13 @@ fn a_split_in_place() {
     let directory = Directory::new("place");
     let file = directory.store("a.krns", three_sets(), &[0]);
     let before = fs::read(&file).unwrap();
-    failed(run!("split", file, "-o", file), 2, "--in-place");
+    failed(run!("split", file, "-o", file), BAD_USAGE, "--in-place");
     let other_name = directory.file("./a.krns");
-    failed(run!("split", file, "-o", other_name), 2, "--in-place");
+    failed(
+        run!("split", file, "-o", other_name),
+        BAD_USAGE,
+        "--in-place",
+    );
     assert_eq!(fs::read(&file).unwrap(), before);
     let out = done(run!("split", file, "--in-place", "--check"));
     assert!(out.contains("Every pair reads as before: 3 first glyphs x 2 second glyphs"));
@@ -244,8 +135,12 @@ fn tables_by_number() {
     let other = store.add_object(&bytes(&[3, 0])).unwrap();
     let unlisted = directory.store("a.krns", store.clone(), &[]);
     let split = directory.file("b.krns");
-    failed(run!("plan", unlisted), 1, "lists no table");
-    failed(run!("split", unlisted, "-o", split), 1, "lists no table");
+    failed(run!("plan", unlisted), BAD_FILE, "lists no table");
+    failed(
+        run!("split", unlisted, "-o", split),
+        BAD_FILE,
+        "lists no table",
+    );
     let out = done(run!("split", unlisted, "0", "-o", split));
     assert!(out.contains("It is cut at pair set 2: 2 tables in its place."));
     assert_eq!(read_store(&split).tables(), pairs(&[0, 6]));
@@ -269,12 +164,13 @@ fn tables_for_marks() {
     let wrong = directory.store("c.krns", store, &[0]);
     let split = directory.file("d.krns");
     let cut = "It is cut at mark classes 1, 2: 3 tables in its place.";
-    assert!(done(run!("plan", listed)).contains(cut));
-    assert!(done(run!("plan", listed, "0")).contains(cut));
-    assert!(done(run!("plan", unlisted, "0", "--marks")).contains(cut));
+    assert!(would_cut(run!("plan", listed)).contains(cut));
+    assert!(would_cut(run!("plan", listed, "0")).contains(cut));
+    assert!(would_cut(run!("plan", unlisted, "0", "--marks")).contains(cut));
     // As a table for pairs it has not the length that its header asks for.
-    failed(run!("plan", unlisted, "0"), 1, "12 bytes in MarkBasePos");
-    failed(run!("plan", wrong), 1, "table 0 is refused by 3 (BadTable)");
+    let fault = "table 0: its length is 12; it must be 10, by its header";
+    refused(run!("plan", unlisted, "0"), Refusal::BadTable, fault);
+    refused(run!("plan", wrong), Refusal::BadTable, fault);
 
     let mut written = Vec::new();
     for words in [
@@ -354,11 +250,26 @@ fn a_mark_on_a_base() {
     assert!(format.contains("only format 1 has attachments"));
     let plan = done(run!("plan", file, other, "--marks"));
     assert!(plan.contains("only format 1 of mark-to-base tables is split"));
-    for (refusal, table) in [(Refusal::NoTable, "99"), (Refusal::BadTable, "5")] {
-        let sentence = refusal.to_string();
-        failed(run!("mark", file, table, "30", "60"), 1, &sentence);
-        failed(run!("plan", file, table, "--marks"), 1, &sentence);
+    for (refusal, table, fault) in [
+        (
+            Refusal::NoTable,
+            "99",
+            "the number of the table is 99; it must be below 10, how many objects are in use",
+        ),
+        (
+            Refusal::BadTable,
+            "5",
+            "table 5: its length is 6; it must be at least 12, to have a header",
+        ),
+    ] {
+        refused(run!("mark", file, table, "30", "60"), refusal, fault);
+        refused(run!("plan", file, table, "--marks"), refusal, fault);
     }
+    failed(
+        run!("mark", file, "30", "60"),
+        BAD_FILE,
+        "lists no table for marks",
+    );
 }
 
 #[test]
@@ -366,19 +277,90 @@ fn refused_tables() {
     let directory = Directory::new("refused");
     let file = directory.store("a.krns", three_sets(), &[0, 1, 2]);
     let output = directory.file("b.krns");
-    for (refusal, table) in [(Refusal::NoTable, "9"), (Refusal::BadTable, "1")] {
-        let sentence = refusal.to_string();
-        failed(run!("plan", file, table), 1, &sentence);
-        failed(run!("split", file, table, "-o", output), 1, &sentence);
-        failed(run!("pair", file, table, "10", "70"), 1, &sentence);
+    for (refusal, table, fault) in [
+        (
+            Refusal::NoTable,
+            "9",
+            "the number of the table is 9; it must be below 5, how many objects are in use",
+        ),
+        (
+            Refusal::BadTable,
+            "1",
+            "table 1: its length is 10; it must be 70, by its header",
+        ),
+    ] {
+        refused(run!("plan", file, table), refusal, fault);
+        refused(run!("split", file, table, "-o", output), refusal, fault);
+        refused(run!("pair", file, table, "10", "70"), refusal, fault);
     }
     // All tables are looked at, and nothing is written.
     let plan = run!("plan", file);
     assert!(plan.out.contains("It is cut at pair set 2"));
-    assert_eq!(plan.out.matches("is refused by 3 (BadTable)").count(), 2);
-    failed(plan, 1, "2 of 3 tables are refused");
-    failed(run!("split", file, "-o", output), 1, "table 1 is refused");
+    assert_eq!(
+        plan.out
+            .matches("is refused by 3 (BadTable): table")
+            .count(),
+        2
+    );
+    let advice = format!("splitter: BadTable: {}", Refusal::BadTable);
+    assert_eq!(plan.err.lines().count(), 2);
+    failed_with(plan, REFUSED, &["2 of 3 tables are refused\n", &advice]);
+    let split = run!("split", file, "-o", output);
+    assert_eq!(split.out, "");
+    failed_with(
+        split,
+        REFUSED,
+        &["table 1 is refused by 3 (BadTable): table 1: its length"],
+    );
     assert_eq!(directory.names(), ["a.krns"]);
+}
+
+/// What is wrong with a store that is not sound is said, and it can be looked at.
+#[test]
+fn stores_that_are_not_sound() {
+    let directory = Directory::new("unsound");
+    let whole = fs::read(directory.store("a.krns", three_sets(), &[0])).unwrap();
+    let file = directory.file("b.krns");
+    let rows = whole.len() - 4 - 4 * 16;
+    for (at, number, fault) in [
+        (
+            rows + 16 + 4,
+            2_u32,
+            "link rows 0 and 1 both stand at position 2 of object 0",
+        ),
+        (
+            rows + 32 + 8,
+            3,
+            "link row 2 of object 0 at position 12: its width is 3; it must be 2",
+        ),
+        (
+            rows + 48 + 12,
+            99,
+            "link row 3 of object 0 at position 14: its child is 99; it must be below 5, how many \
+             objects are in use",
+        ),
+        (
+            rows - 8 * 5,
+            1,
+            "the head of object row 1 is 15; it must be at least 16, where the row before ends",
+        ),
+    ] {
+        let (at, number) = match fault.starts_with("the head") {
+            true => (at + 8, 15),
+            false => (at, number),
+        };
+        let mut bytes = whole.clone();
+        bytes[at..at + 4].copy_from_slice(&number.to_be_bytes());
+        fs::write(&file, bytes).unwrap();
+        refused(run!("plan", file), Refusal::Unsound, fault);
+        refused(run!("pair", file, "0", "1", "2"), Refusal::Unsound, fault);
+        let dump = run!("dump", file);
+        let said = dump.out.split_whitespace().collect::<Vec<_>>().join(" ");
+        assert!(said.contains(fault), "{said}");
+        assert!(dump.out.contains("0: pair table, 16 bytes"), "{}", dump.out);
+        refused(dump, Refusal::Unsound, fault);
+        refused(run!("dump", file, "3", "--json"), Refusal::Unsound, fault);
+    }
 }
 
 /// Long lists come without their middle, unless they are asked for.
@@ -412,10 +394,11 @@ fn files_that_cannot_be_read() {
     let output = directory.file("b.krns");
     let damaged = directory.file("c.krns");
     let run_all = |words: &str| {
-        failed(run!("plan", damaged), 1, words);
-        failed(run!("split", damaged, "-o", output), 1, words);
-        failed(run!("pair", damaged, "0", "1", "2"), 1, words);
-        failed(run!("mark", damaged, "0", "1", "2"), 1, words);
+        failed(run!("plan", damaged), BAD_FILE, words);
+        failed(run!("split", damaged, "-o", output), BAD_FILE, words);
+        failed(run!("pair", damaged, "0", "1", "2"), BAD_FILE, words);
+        failed(run!("mark", damaged, "0", "1", "2"), BAD_FILE, words);
+        failed(run!("dump", damaged), BAD_FILE, words);
     };
     run_all("there is no such file");
     fs::write(&damaged, &whole[..whole.len() - 1]).unwrap();
@@ -426,11 +409,15 @@ fn files_that_cannot_be_read() {
     version[5] = 3;
     fs::write(&damaged, &version).unwrap();
     run_all("version 3");
-    let mut unsound = whole;
-    *unsound.iter_mut().nth_back(4).unwrap() = 99;
-    fs::write(&damaged, &unsound).unwrap();
-    run_all("the store is not sound");
-    failed(run!("plan", directory.0), 1, "it is a directory");
+    let longer = OpenOptions::new().write(true).open(&damaged).unwrap();
+    longer.set_len(1 << 40).unwrap();
+    run_all("it is longer than 33554432 bytes");
+    failed(
+        run!("font", damaged),
+        BAD_FILE,
+        "it is longer than 1073741824 bytes",
+    );
+    failed(run!("plan", directory.0), BAD_FILE, "it is a directory");
     assert_eq!(directory.names(), ["a.krns", "c.krns"]);
 }
 
@@ -442,22 +429,22 @@ fn files_that_cannot_be_written() {
     let missing = directory.file("no/such/b.krns");
     failed(
         run!("split", file, "-o", missing),
-        1,
+        BAD_FILE,
         "it cannot be written",
     );
     failed(
         run!("split", file, "-o", directory.0),
-        1,
+        BAD_FILE,
         "no file to be written over",
     );
     failed(
         run!("split", file, "-o", "/dev/null"),
-        1,
+        BAD_FILE,
         "no file to be written over",
     );
     failed(
         run!("sample", "-o", file),
-        1,
+        BAD_FILE,
         "the directory cannot be made",
     );
     assert_eq!(directory.names(), ["a.krns"]);
@@ -512,7 +499,9 @@ fn a_damaged_font() {
     assert!(ran
         .out
         .contains("\nBadParts: a coverage, a class definition or an array is not linked"));
-    failed(ran, 1, "3 of 4 tables are refused");
+    let fault = "table 0 has no link at position 2, where its coverage is wanted";
+    assert!(ran.out.contains(fault), "{}", ran.out);
+    failed(ran, REFUSED, "3 of 4 tables are refused");
     for (bytes, words) in [
         (
             &b"not a font at all"[..],
@@ -522,11 +511,11 @@ fn a_damaged_font() {
         (b"", "it is damaged"),
     ] {
         fs::write(&path, bytes).unwrap();
-        failed(run!("font", path), 1, words);
+        failed(run!("font", path), BAD_FILE, words);
     }
     failed(
         run!("font", directory.file("b.ttf")),
-        1,
+        BAD_FILE,
         "there is no such file",
     );
 }
@@ -535,25 +524,42 @@ fn a_damaged_font() {
 fn help_and_version() {
     let help = done(run!("--help"));
     assert_eq!(done(run!("help")), help);
-    for name in ["sample", "plan", "split", "pair", "mark", "font"] {
+    for name in ["sample", "plan", "split", "pair", "mark", "dump", "font"] {
         assert!(help.contains(&format!("splitter {name} ")));
         let text = done(run!("help", name));
         assert!(text.starts_with(&format!("splitter {name} ")));
         assert_eq!(done(run!(name, "--help")), text);
     }
-    let version = concat!("splitter ", env!("CARGO_PKG_VERSION"), "\n");
-    assert_eq!(done(run!("--version")), version);
+    let version = done(run!("--version"));
+    let lines: Vec<&str> = version.lines().collect();
+    assert_eq!(lines[0], concat!("splitter ", env!("CARGO_PKG_VERSION")));
+    assert_eq!(lines[1], "interface 1");
+    for (line, start) in lines[2..]
+        .iter()
+        .zip(["kit ", "archive sha256 ", "commit "])
+    {
+        assert!(line.starts_with(start), "{line}");
+    }
+    assert_eq!(lines.len(), 5);
 }
 
 #[test]
 fn words_that_cannot_be_followed() {
-    failed(run!("splt"), 2, "did you mean \"split\"?");
-    failed(run!("plan"), 2, "plan wants FILE");
-    failed(run!("plan", "a", "b"), 2, "\"b\" is none");
-    failed(run!("split", "a"), 2, "add -o FILE");
-    failed(run!("pair", "a", "0", "1", "65536"), 2, "from 0 to 65535");
-    failed(run!("font", "a", "b"), 2, "no use for the word \"b\"");
-    failed(run!("help", "me"), 2, "there is no command \"me\"");
+    failed(run!("splt"), BAD_USAGE, "did you mean \"split\"?");
+    failed(run!("plan"), BAD_USAGE, "plan wants FILE");
+    failed(run!("plan", "a", "b"), BAD_USAGE, "\"b\" is none");
+    failed(run!("split", "a"), BAD_USAGE, "add -o FILE");
+    failed(
+        run!("pair", "a", "0", "1", "65536"),
+        BAD_USAGE,
+        "from 0 to 65535",
+    );
+    failed(
+        run!("font", "a", "b"),
+        BAD_USAGE,
+        "no use for the word \"b\"",
+    );
+    failed(run!("help", "me"), BAD_USAGE, "there is no command \"me\"");
 }
 
 /// A reader that has seen enough is no error, and what was asked for is done.
@@ -582,7 +588,7 @@ fn a_full_disk() {
     let disk = OpenOptions::new().write(true).open("/dev/full").unwrap();
     full.stdout(disk).stderr(Stdio::piped());
     let ran = full.spawn().unwrap().wait_with_output().unwrap();
-    assert_eq!(ran.status.code(), Some(1));
+    assert_eq!(ran.status.code(), Some(BAD_FILE));
     let sentence = String::from_utf8(ran.stderr).unwrap();
     assert!(sentence.starts_with("splitter: standard output cannot be written"));
 }

@@ -12,15 +12,15 @@ copy-marks-requires c κs =
 
 copy-bases-requires : tie.Need-copy-bases-requires
 copy-bases-requires c κs =
-    let start = c .before .before .before .before .before .before .before .before .before in
+    let start = c .before .before .before .before .before .before .before .before .before .before in
     let pre = start .pre in
-    let done = c .before .before .before .before .before .copy-marks .ensures in
+    let done = c .before .before .before .before .before .before .copy-marks .ensures in
     let source = bases-source _ _ _ _ _ _ _ _ (pre .1 .1) done _ _ (pre .0 .0 .bases) in
     (source, ((pre .1 .0 .0, pre .1 .0 .1, omega arith, pre .0 .0 .short), bases-room _ _ _ _ _ _ _ _ (pre .1 .1) done))
 
 returns : tie.Need-returns
 returns c =
-    let after-marks = c .before .before .before .before .before .before .before .before in
+    let after-marks = c .before .before .before .before .before .before .before .before .before in
     arrays-copied _ _ _ _ _ _ _ _ (after-marks .before .before .before .before .pre .1 .1) (after-marks .copy-marks .ensures)
     (c .before .before .copy-bases .ensures)
 

@@ -14,10 +14,10 @@ copy-tables-requires c κs =
 
 copy-arrays-requires : tie.Need-copy-arrays-requires
 copy-arrays-requires c κs =
-    let after-rows = c .before .before .before .before .before .before .before .before in
+    let after-rows = c .before .before .before .before .before .before .before .before .before in
     let pre = after-rows .before .before .before .before .before .before .before .before .pre in
-    let end = c .before .before .before .before .before .before .part-end .ensures in
-    let done = c .before .before .before .before .copy-tables .ensures in
+    let end = c .before .before .before .before .before .before .before .part-end .ensures in
+    let done = c .before .before .before .before .before .copy-tables .ensures in
     let sources = all-sources _ _ _ _ _ _ pre (after-rows .before .before .rows-of .ensures) (after-rows .rows-of2 .ensures) in (
       (kept-sources _ _ _ _ _ _ pre _ end done _ sources, omega (arith, pre .few, kept-many _ _ _ _ _ _ pre _ end done)),
       ((omega arith, kept-inside _ _ _ _ _ _ pre _ end done, omega (arith, pre .numbers)), kept-room _ _ _ _ _ _ pre _ end done),
@@ -25,7 +25,7 @@ copy-arrays-requires c κs =
 
 returns : tie.Need-returns
 returns c =
-    let after-tables = c .before .before .before .before .before .before .before in
+    let after-tables = c .before .before .before .before .before .before .before .before in
     let after-end = after-tables .before .before in
     let pre = after-end .before .before .before .before .before .before .before .before .before .before .pre in
     all-copied _ _ _ _ _ _ pre _ (after-end .part-end .ensures) (after-tables .copy-tables .ensures) (c .before .before .copy-arrays .ensures)

@@ -12,15 +12,15 @@ put-header-requires c κs =
 
 copy-arrays-requires : tie.Need-copy-arrays-requires
 copy-arrays-requires c κs =
-    let pre = c .before .before .before .before .before .before .before .before .before .pre in
-    let written = c .before .before .before .put-header .ensures in
+    let pre = c .before .before .before .before .before .before .before .before .before .before .pre in
+    let written = c .before .before .before .before .put-header .ensures in
     let sources = arrays-sources _ _ _ _ _ _ _ _ (pre .1 .1) written _ (pre .0 .0) in
     ((sources, pre .0 .1), ((pre .1 .0 .0, pre .1 .0 .1, omega arith), arrays-room _ _ _ _ _ _ _ _ (pre .1 .1) written))
 
 returns : tie.Need-returns
 returns c =
-    let pre = c .before .before .before .before .before .before .before .before .before .before .before .before .pre in
-    table-copied _ _ _ _ _ _ _ _ (pre .1 .1) (c .before .before .before .before .before .before .put-header .ensures) (c .before .before .copy-arrays .ensures)
+    let pre = c .before .before .before .before .before .before .before .before .before .before .before .before .before .pre in
+    table-copied _ _ _ _ _ _ _ _ (pre .1 .1) (c .before .before .before .before .before .before .before .put-header .ensures) (c .before .before .copy-arrays .ensures)
 
 pub copy-table-spec : {M : Type 1} → statement M
 copy-table-spec =

@@ -10,11 +10,11 @@ use Rattle.mark_links.proofs.copy_tables.Statement.{statement}
 use Rattle.mark_links.proofs.copy_tables.Tie as tie
 
 abbrev Inv-loop : tie.InvT-loop
-Inv-loop links₀ counts arrays rows places classes cuts start at first from₀ next₀ table₀ j₀ links from next table j =
+Inv-loop links₀ counts arrays rows places classes cuts start at first held₀ from₀ next₀ table₀ j₀ links held from next table j =
     NewTables links₀ counts arrays places classes cuts at first links from next table j
 
 abbrev μ-loop : tie.MeasureT-loop
-μ-loop links₀ counts arrays rows places classes cuts start at first from₀ next₀ table₀ j₀ links from next table j = length cuts - j
+μ-loop links₀ counts arrays rows places classes cuts start at first held₀ from₀ next₀ table₀ j₀ links held from next table j = length cuts - j
 
 loop-holds : tie.Need-loop-holds Inv-loop μ-loop
 unfolding tablesCopies
@@ -48,11 +48,11 @@ cast-copy-table c =
 
 copy-table-requires : tie.Need-copy-table-requires Inv-loop μ-loop
 copy-table-requires c κs =
-    let pre = c .before .before .before .before .before .before .before .before .before .before .before .pre in
-    let inv = c .before .before .before .before .before .before .loop .inv in
-    let more = c .before .before .before .before .before .loop-test .taken in
-    let after = c .before .before .before .cut-after .ensures in
-    let end = c .before .before .part-end .ensures in
+    let pre = c .before .before .before .before .before .before .before .before .before .before .before .before .pre in
+    let inv = c .before .before .before .before .before .before .before .loop .inv in
+    let more = c .before .before .before .before .before .before .loop-test .taken in
+    let after = c .before .before .before .before .cut-after .ensures in
+    let end = c .before .before .before .part-end .ensures in
     let (low, high) = turn-range _ _ _ _ _ _ _ _ (pre .0 .1) inv more _ _ after end in
     let many = turn-many _ _ _ _ _ _ _ _ (pre .0 .1) inv more _ _ after end in (
       (turn-sources _ _ _ _ _ _ _ _ (pre .0 .1) inv more _ (pre .0 .0), omega (arith, many, pre .1 .0 .0)),
@@ -61,13 +61,13 @@ copy-table-requires c κs =
 
 add-table : tie.Need-add-table Inv-loop μ-loop
 add-table c =
-    let in-loop = c .before .before .before .before .before .before .before .before in
+    let in-loop = c .before .before .before .before .before .before .before .before .before in
     let start = in-loop .before .before .before .before .before .before in
     omega (arith, in-loop .before .loop .inv .table-is, in-loop .loop-test .taken, start .pre .1 .0 .1)
 
 loop-again : tie.Need-loop-again Inv-loop μ-loop
 loop-again c =
-    let after-end = c .before .before .before .before .before in
+    let after-end = c .before .before .before .before .before .before in
     let in-loop = after-end .before .before .before in
     let parted = in-loop .before .before .before .before .before .before .pre .0 .1 in
     tables-turn _ _ _ _ _ _ _ _ parted (in-loop .before .loop .inv) (in-loop .loop-test .taken) _ _ (after-end .before .cut-after .ensures)

@@ -10,11 +10,11 @@ use Rattle.mark_points.proofs.compute_split_points.Statement.{statement
 use Rattle.mark_points.proofs.compute_split_points.Tie as tie
 
 abbrev Inv-loop : tie.InvT-loop
-Inv-loop objects links info settings places classes walk₀ cuts₀ counts count rows columns₀ class₀ walk cuts columns class =
+Inv-loop objects links info settings places classes walk₀ cuts₀ counts count rows columns₀ held₀ class₀ walk cuts columns held class =
     Going settings objects links counts info places classes walk₀ cuts₀ class columns walk cuts
 
 abbrev μ-loop : tie.MeasureT-loop
-μ-loop objects links info settings places classes walk₀ cuts₀ counts count rows columns₀ class₀ walk cuts columns class = info .classes - class
+μ-loop objects links info settings places classes walk₀ cuts₀ counts count rows columns₀ held₀ class₀ walk cuts columns held class = info .classes - class
 
 rows-of-requires : tie.Need-rows-of-requires Inv-loop μ-loop
 rows-of-requires c κs =
@@ -31,15 +31,15 @@ loop-holds c = record { inside = search needs; walk = refl; long = refl; below =
 
 weigh-class-requires : tie.Need-weigh-class-requires Inv-loop μ-loop
 weigh-class-requires c κs =
-    let at-loop = c .before .before .before .before in
+    let at-loop = c .before .before .before .before .before in
     let s = at-loop .before .before .before .before .before .before .before .before .before .before .before in (
       record { marks = at-loop .before .before .before .before .rows-of .ensures; bases = at-loop .before .before .before .rows-of2 .ensures },
-      (c .before .before .if1 .taken, (s .pre .0, s .pre .1, _, at-loop .loop .inv .below (s .pre .0) (s .pre .1) (s .pre .2))),
+      (c .before .before .before .if1 .taken, (s .pre .0, s .pre .1, _, at-loop .loop .inv .below (s .pre .0) (s .pre .1) (s .pre .2))),
     )
 
 loop-again : tie.Need-loop-again Inv-loop μ-loop
 loop-again c =
-    let at-loop = c .before .before .before .before .before .before .before .before .before in
+    let at-loop = c .before .before .before .before .before .before .before .before .before .before in
     record {
       inside = search needs;
       walk = search needs;

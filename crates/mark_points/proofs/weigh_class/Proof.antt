@@ -22,7 +22,7 @@ part-own-end c = let s = c .before .before .before .before .before .before .befo
 
 class-size-requires : tie.Need-class-size-requires
 class-size-requires c κs =
-    let s = c .before .before .before .before .before .before .before .before .before .before .before .before in
+    let s = c .before .before .before .before .before .before .before .before .before .before .before .before .before in
     let v = s .pre .1 .1 .3 in
     let x = s .args .info in
     let early : x .epoch + s .args .columns .filling .cuts < 2147483648 = omega (arith, v .described .epochs, v .filled .few, s .pre .1 .0) in (
@@ -32,10 +32,10 @@ class-size-requires c κs =
 
 -- the function's start and where the class ends, from behind the measuring
 abbrev begin : tie.After-class-size → tie.Start
-begin m = m .before .before .before .before .before .before .before .before .before .before .before .before .before
+begin m = m .before .before .before .before .before .before .before .before .before .before .before .before .before .before
 
 abbrev at-end : tie.After-class-size → tie.After-class-end
-at-end m = m .before .before .before .before .before
+at-end m = m .before .before .before .before .before .before
 
 marks : (m : tie.After-class-size) → (at-end m .class-end .result ≤ 4194304)
 marks m = marks-few (begin m .pre .1 .1 .3) (begin m .pre .1 .0) (at-end m .class-end .ensures) .2
@@ -84,7 +84,7 @@ add-class-size-at-cut c = omega (arith, early-next (c .before .before .before .b
 
 class-size-at-cut-requires : tie.Need-class-size-at-cut-requires
 class-size-at-cut-requires c κs =
-    let m = c .before .before .before .before .before .before .before in
+    let m = c .before .before .before .before .before .before .before .before in
     let s = begin m in
     let v = s .pre .1 .1 .3 in
     let inside = s .pre .1 .0 in
@@ -96,7 +96,7 @@ class-size-at-cut-requires c κs =
 -- what its anchors reach at the cut
 anchors-again : (r : tie.After-class-size-at-cut) → (r .class-size-at-cut .result ≤ 16777216)
 anchors-again r =
-    let m = r .before .before .before .before .before .before .before .before in
+    let m = r .before .before .before .before .before .before .before .before .before in
     let s = begin m in
     let v = s .pre .1 .1 .3 in
     let inside = s .pre .1 .0 in
@@ -107,19 +107,19 @@ anchors-again r =
     (λ e. omega (arith, d .stays e .0, anchors m))
 
 add-cut : tie.Need-add-cut
-add-cut c = let r = c .before .before in omega (arith, marks (r .before .before .before .before .before .before .before .before), few (r .before .before .before .before .before), anchors-again r)
+add-cut c = let r = c .before .before in omega (arith, marks (r .before .before .before .before .before .before .before .before .before), few (r .before .before .before .before .before .before), anchors-again r)
 
 cut-requires : tie.Need-cut-requires
 cut-requires c κs =
     let r = c .before .before .before .before in
-    let m = r .before .before .before .before .before .before .before .before in
+    let m = r .before .before .before .before .before .before .before .before .before in
     let v = begin m .pre .1 .1 .3 in
-    (omega (arith, marks m, few (r .before .before .before .before .before), anchors-again r), omega (arith, start-most (v .described)), cut-room v (begin m .pre .1 .0))
+    (omega (arith, marks m, few (r .before .before .before .before .before .before), anchors-again r), omega (arith, start-most (v .described)), cut-room v (begin m .pre .1 .0))
 
 returns : tie.Need-returns
 returns c =
     let r = c .before .before .before .before .before .before .before in
-    let m = r .before .before .before .before .before .before .before .before in
+    let m = r .before .before .before .before .before .before .before .before .before in
     let s = begin m in
     let inside = s .pre .1 .0 in
     let end = at-end m .class-end .ensures in
@@ -128,8 +128,8 @@ returns c =
     let sounds = v .described .reads .sounds in
     let g = m .class-size .ensures .grown b _ sounds (v .marks) in
     by-test (second (s .args .settings .edition))
-    (λ e. class-again v inside end g (r .before .before .before .is-due .ensures) (few (r .before .before .before .before .before)) (r .before .before .if1 .taken) (c .before .before .cut .ensures) e (d .again e .grown b _ sounds (next-epoch v inside end g (s .args .class))))
-    (λ e. class-stays v inside end g (r .before .before .before .is-due .ensures) (few (r .before .before .before .before .before)) (r .before .before .if1 .taken) (c .before .before .cut .ensures) e (d .stays e))
+    (λ e. class-again v inside end g (r .before .before .before .before .is-due .ensures) (few (r .before .before .before .before .before .before)) (r .before .before .before .if1 .taken) (c .before .before .cut .ensures) e (d .again e .grown b _ sounds (next-epoch v inside end g (s .args .class))))
+    (λ e. class-stays v inside end g (r .before .before .before .before .is-due .ensures) (few (r .before .before .before .before .before .before)) (r .before .before .before .if1 .taken) (c .before .before .cut .ensures) e (d .stays e))
 
 add-add : tie.Need-add-add
 add-add c = let m = c .before .before .before .before .before .before in omega (arith, marks m, anchors m)
@@ -143,7 +143,7 @@ returns-2 c =
     let inside = begin m .pre .1 .0 in
     λ b t d v.
     class-added v inside (at-end m .class-end .ensures) (m .class-size .ensures .grown b _ (v .described .reads .sounds) (v .marks)) (c .before .before .is-due .ensures)
-    (search needs) (c .before .if1 .left) (c .add .ensures)
+    (few (c .before .before .before .before)) (c .before .if1 .left) (c .add .ensures)
 
 pub weigh-class-spec : {M : Type 1} → statement M
 weigh-class-spec =

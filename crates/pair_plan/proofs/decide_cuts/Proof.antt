@@ -1,7 +1,7 @@
--- `pair_plan::decide_cuts` meets its contract: the table is cut, and a cycle refuses. Assumes nothing.
+-- `pair_plan::decide_cuts` meets its contract: the table is cut, and then the rest is settled. Assumes nothing.
 use native.Mathlib.Omega.{arith}
 use Rattle.call_rules.specs.Scratch.{Scratch, scratchOf}
-use Rattle.pair_plan.proofs.Deciding.{can-begin, header-fits, table-small, table-marked, can-cut, decided-cycle, decided-cut}
+use Rattle.pair_plan.proofs.Deciding.{can-begin, header-fits, table-marked, is-open, can-cut, decided-cut}
 use borrow.Author.Needs.{needs}
 use Rattle.pair_plan.proofs.decide_cuts.Statement.{statement}
 use Rattle.pair_plan.proofs.decide_cuts.Tie as tie
@@ -30,33 +30,31 @@ cut-table-requires c κs =
     let a = start .args in
     can-cut (a .«data» .now) (a .objects .now) (a .links .now) (a .counts) (a .table) (scratch start) (a .opened) (start .pre) (begun .begin-walk .ensures (a .«data» .now))
 
-mul-if1 : tie.Need-mul-if1
-mul-if1 c =
-    let start = c .before .before .before .before .before .before .before .before .before .before .before .before .before .before .before .before .before .before .before .before .before .before .before .before .before .before .before .before .before .before in
-    let a = start .args in
-    omega (arith, table-small (a .«data» .now) (a .objects .now) (a .links .now) (a .counts) (a .table) (scratch start) (a .opened) (start .pre))
-
-slice-read-if1 : tie.Need-slice-read-if1
-slice-read-if1 c =
-    let cut = c .before .before .before .before .before .before .before .before .before .before in
-    let begun = cut .before .before .before .before .before .before .before .before in
+settle-cuts-requires : tie.Need-settle-cuts-requires
+settle-cuts-requires c κs =
+    let walked = c .before .before .before .before .before .before .before .before .before .before in
+    let begun = walked .before .before .before .before .before .before .before .before in
     let start = begun .before .before .before .before .before .before .before .before .before .before .before .before .before in
-    let a = start .args in
-    omega (arith, table-marked (a .«data» .now) (a .objects .now) (a .links .now) (a .counts) (a .table) (scratch start) (a .opened) (start .pre), begun .walk .given, cut .walk2 .given)
+    let a = start .args in (
+      is-open (a .«data» .now) (a .objects .now) (a .links .now) (a .counts) (a .table) (scratch start) (a .opened) (start .pre),
+      (
+        walked .before .cut-table .ensures .1,
+        omega (
+          arith,
+          table-marked (a .«data» .now) (a .objects .now) (a .links .now) (a .counts) (a .table) (scratch start) (a .opened) (start .pre),
+          begun .walk .given,
+          walked .walk2 .given,
+        ),
+      ),
+    )
 
 returns : tie.Need-returns
 returns c =
-    let cut = c .before .before .before .before .before .before .before .before .before .before .before .before in
+    let cut = c .before .before .before .before .before .before .before .before .before .before .before .before .before .before in
     let start = cut .before .before .before .before .before .before .before .before .before .before .before .before .before .before .before .before .before .before .before .before in
     let a = start .args in
-    decided-cycle (a .«data» .now) (a .objects .now) (a .links .now) (a .counts) (a .table) (scratch start) (a .opened) (start .pre) (cut .cut-table .ensures .1) (c .if1 .taken)
-
-returns-2 : tie.Need-returns-2
-returns-2 c =
-    let cut = c .before .before .before .before .before .before .before .before .before .before .before .before in
-    let start = cut .before .before .before .before .before .before .before .before .before .before .before .before .before .before .before .before .before .before .before .before in
-    let a = start .args in
-    decided-cut (a .«data» .now) (a .objects .now) (a .links .now) (a .counts) (a .table) (scratch start) (a .opened) (start .pre) (cut .cut-table .ensures .1) (c .if1 .left) (cut .cut-table .ensures .0)
+    decided-cut (a .«data» .now) (a .objects .now) (a .links .now) (a .counts) (a .table) (scratch start) (a .opened) (start .pre)
+    (cut .cut-table .ensures .0) (c .before .before .settle-cuts .ensures)
 
 pub decide-cuts-spec : {M : Type 1} → statement M
 decide-cuts-spec =
@@ -65,17 +63,10 @@ decide-cuts-spec =
     cast-begin-walk
     begin-walk-requires
     cut-table-requires
-    mul-if1
-    slice-read-if1
+    settle-cuts-requires
     (λ c. search needs)
     (λ c. search needs)
     (λ c. search needs)
     (λ c. search needs)
     (λ c. search needs)
-    returns
-    (λ c. search needs)
-    (λ c. search needs)
-    (λ c. search needs)
-    (λ c. search needs)
-    (λ c. search needs)
-    returns-2)
+    returns)

@@ -5,10 +5,10 @@ mod words;
 
 pub use name::Name;
 
-use super::failure::Failure;
+use super::{failure::Failure, files::is_standard, screen::Form, text::shown_word};
 use std::{
     ffi::{OsStr, OsString},
-    path::PathBuf,
+    path::{Path, PathBuf},
 };
 use words::Words;
 
@@ -25,6 +25,8 @@ pub enum Request {
     Pair(Pair),
     /// Read an attachment.
     Mark(Mark),
+    /// Show what is in a store.
+    Dump(Dump),
     /// Look into a font.
     Font(Font),
     /// Say how the command is used, or one of its commands.
@@ -68,6 +70,8 @@ pub struct Plan {
     pub all: bool,
     /// Whether bars are drawn in ASCII.
     pub ascii: bool,
+    /// What is written to standard output.
+    pub form: Form,
 }
 
 /// What `split` is asked for.
@@ -84,7 +88,7 @@ pub struct Split {
 /// Where a split store goes.
 #[derive(Debug, PartialEq, Eq)]
 pub enum Output {
-    /// To another file.
+    /// To another file, or to standard output.
     File(PathBuf),
     /// To the file that it came from.
     InPlace,
@@ -95,10 +99,12 @@ pub enum Output {
 pub struct Pair {
     /// The store file.
     pub file: PathBuf,
-    /// The table.
-    pub table: u32,
+    /// The table; without one, those that the file lists, in order.
+    pub table: Option<u32>,
     /// The first glyph and the second.
     pub glyphs: [u16; 2],
+    /// What is written to standard output.
+    pub form: Form,
 }
 
 /// What `mark` is asked for.
@@ -106,12 +112,29 @@ pub struct Pair {
 pub struct Mark {
     /// The store file.
     pub file: PathBuf,
-    /// The table.
-    pub table: u32,
+    /// The table; without one, those that the file lists, in order.
+    pub table: Option<u32>,
     /// The mark's glyph.
     pub mark: u16,
     /// The base's glyph.
     pub base: u16,
+    /// What is written to standard output.
+    pub form: Form,
+}
+
+/// What `dump` is asked for.
+#[derive(Debug, PartialEq, Eq)]
+pub struct Dump {
+    /// The store file.
+    pub file: PathBuf,
+    /// The object; without one, all of them.
+    pub object: Option<u32>,
+    /// Whether tables are mark-to-base, whatever the file says.
+    pub marks: bool,
+    /// Whether long lists are shown whole.
+    pub all: bool,
+    /// What is written to standard output.
+    pub form: Form,
 }
 
 /// What `font` is asked for.
@@ -119,6 +142,55 @@ pub struct Mark {
 pub struct Font {
     /// The font file.
     pub file: PathBuf,
+    /// Where its tables are written as store files.
+    pub directory: Option<PathBuf>,
+    /// What is written to standard output.
+    pub form: Form,
+}
+
+impl Request {
+    /// What is written to standard output. A store that goes there has it for itself.
+    pub fn form(&self) -> Form {
+        match self {
+            Self::Split(split) => match &split.output {
+                Output::File(file) if is_standard(file) => Form::Quiet,
+                _ => split.plan.form,
+            },
+            Self::Plan(request) => request.form,
+            Self::Pair(request) => request.form,
+            Self::Mark(request) => request.form,
+            Self::Dump(request) => request.form,
+            Self::Font(request) => request.form,
+            Self::Sample(_) | Self::Help(_) | Self::Version => Form::Text,
+        }
+    }
+
+    /// The file that it reads.
+    pub fn file(&self) -> Option<&Path> {
+        match self {
+            Self::Plan(request) => Some(&request.file),
+            Self::Split(request) => Some(&request.plan.file),
+            Self::Pair(request) => Some(&request.file),
+            Self::Mark(request) => Some(&request.file),
+            Self::Dump(request) => Some(&request.file),
+            Self::Font(request) => Some(&request.file),
+            Self::Sample(_) | Self::Help(_) | Self::Version => None,
+        }
+    }
+
+    /// The command's name.
+    pub const fn name(&self) -> Option<Name> {
+        match self {
+            Self::Sample(_) => Some(Name::Sample),
+            Self::Plan(_) => Some(Name::Plan),
+            Self::Split(_) => Some(Name::Split),
+            Self::Pair(_) => Some(Name::Pair),
+            Self::Mark(_) => Some(Name::Mark),
+            Self::Dump(_) => Some(Name::Dump),
+            Self::Font(_) => Some(Name::Font),
+            Self::Help(_) | Self::Version => None,
+        }
+    }
 }
 
 /// What the words ask for. No words ask for the sample.
@@ -145,8 +217,11 @@ fn read_command(name: Name, words: impl Iterator<Item = OsString>) -> Result<Req
         Name::Split => Request::Split(split(&mut words)?),
         Name::Pair => Request::Pair(pair(&mut words)?),
         Name::Mark => Request::Mark(mark(&mut words)?),
+        Name::Dump => Request::Dump(dump(&mut words)?),
         Name::Font => Request::Font(Font {
             file: words.operand("FILE")?.into(),
+            directory: words.value("--output").map(PathBuf::from),
+            form: words.form()?,
         }),
         Name::Help => Request::Help(topic(&mut words)?),
     };
@@ -171,7 +246,7 @@ fn which(words: &Words, word: &OsStr) -> Result<Which, Failure> {
         Some("rows") => Ok(Which::Rows),
         Some("marks") => Ok(Which::Marks),
         _ => {
-            let word = word.to_string_lossy();
+            let word = shown_word(word);
             Err(words.failure(&format!("has sets, rows and marks, and no \"{word}\"")))
         }
     }
@@ -184,40 +259,68 @@ fn plan(words: &mut Words) -> Result<Plan, Failure> {
         marks: words.has("--marks"),
         all: words.has("--all"),
         ascii: words.has("--ascii"),
+        form: words.form()?,
     })
 }
 
 fn split(words: &mut Words) -> Result<Split, Failure> {
+    let plan = plan(words)?;
     Ok(Split {
-        plan: plan(words)?,
-        output: output(words)?,
+        output: output(words, &plan)?,
+        plan,
         check: words.has("--check"),
     })
 }
 
-fn output(words: &mut Words) -> Result<Output, Failure> {
+fn output(words: &mut Words, plan: &Plan) -> Result<Output, Failure> {
     match (words.value("--output"), words.has("--in-place")) {
+        (Some(file), false) if is_standard(file.as_ref()) && plan.form == Form::Json => {
+            Err(words.failure("writes the store or JSON to standard output, not both"))
+        }
         (Some(file), false) => Ok(Output::File(file.into())),
+        (None, true) if is_standard(&plan.file) => {
+            Err(words.failure("cannot write over standard input: add -o FILE"))
+        }
         (None, true) => Ok(Output::InPlace),
         (None, false) => Err(words.failure("wants to know where to write: add -o FILE")),
         (Some(_), true) => Err(words.failure("takes -o FILE or --in-place, not both")),
     }
 }
 
+/// The table that is read from, if there are more words than the two glyphs.
+fn table_read(words: &mut Words) -> Result<Option<u32>, Failure> {
+    match words.count() {
+        0..=2 => Ok(None),
+        _ => words.number("TABLE").map(Some),
+    }
+}
+
 fn pair(words: &mut Words) -> Result<Pair, Failure> {
     Ok(Pair {
         file: words.operand("FILE")?.into(),
-        table: words.number("TABLE")?,
+        table: table_read(words)?,
         glyphs: [words.number("G1")?, words.number("G2")?],
+        form: words.form()?,
     })
 }
 
 fn mark(words: &mut Words) -> Result<Mark, Failure> {
     Ok(Mark {
         file: words.operand("FILE")?.into(),
-        table: words.number("TABLE")?,
+        table: table_read(words)?,
         mark: words.number("MARK")?,
         base: words.number("BASE")?,
+        form: words.form()?,
+    })
+}
+
+fn dump(words: &mut Words) -> Result<Dump, Failure> {
+    Ok(Dump {
+        file: words.operand("FILE")?.into(),
+        object: words.optional_number("OBJECT")?,
+        marks: words.has("--marks"),
+        all: words.has("--all"),
+        form: words.form()?,
     })
 }
 

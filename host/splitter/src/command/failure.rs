@@ -1,9 +1,11 @@
 //! Why a command ends without what it was asked for.
 
-use splitter::Refusal;
+use super::{json::Json, outcome::Outcome, text::shown, told};
+use splitter::{Explanation, Refusal};
 use std::{
+    fmt::Display,
     io::{self, Write},
-    path::Path,
+    path::{Path, PathBuf},
     process::ExitCode,
 };
 
@@ -12,54 +14,124 @@ use std::{
 pub enum Failure {
     /// The words cannot be followed; a sentence says what to do.
     Words(String),
-    /// A refusal, or a file that cannot be read or written, as a sentence.
-    Undone(String),
+    /// A table is refused, or a store.
+    Refused(Box<Refused>),
+    /// Some tables of several are refused, which were shown: how many, and what to do.
+    SomeRefused(Vec<String>),
+    /// A file that cannot be read or written, or is none that is known, as a sentence.
+    File(String),
+    /// What must read alike does not.
+    Differs(String),
     /// Standard output takes no more.
     Output(io::Error),
 }
 
+/// What is refused, and why.
+#[derive(Debug)]
+pub struct Refused {
+    /// The file.
+    file: Option<PathBuf>,
+    /// The table; without one, the whole store.
+    table: Option<u32>,
+    refusal: Refusal,
+    explanation: Explanation,
+}
+
 impl Failure {
-    /// A refusal of a table.
-    pub fn refused(table: u32, refusal: Refusal) -> Self {
-        Self::Undone(refusal_in_words(table, refusal))
+    /// A refusal of a table, or of a store.
+    pub fn refused(
+        table: impl Into<Option<u32>>,
+        refusal: Refusal,
+        explanation: Explanation,
+    ) -> Self {
+        Self::Refused(Box::new(Refused {
+            file: None,
+            table: table.into(),
+            refusal,
+            explanation,
+        }))
     }
 
     /// The same, of a file.
-    pub fn at(self, path: &Path) -> Self {
+    pub fn at(mut self, path: &Path) -> Self {
+        if let Self::Refused(refused) = &mut self {
+            refused.file = Some(path.into());
+        }
+        self
+    }
+
+    /// What happened, in a word.
+    pub const fn outcome(&self) -> Outcome {
         match self {
-            Self::Undone(sentence) => Self::Undone(format!("{}: {sentence}", path.display())),
-            other => other,
+            Self::Words(_) => Outcome::BadUsage,
+            Self::Refused(_) | Self::SomeRefused(_) => Outcome::Refused,
+            Self::File(_) | Self::Output(_) => Outcome::BadFile,
+            Self::Differs(_) => Outcome::Differs,
+        }
+    }
+
+    /// What happened, in sentences.
+    pub fn sentences(&self) -> Vec<String> {
+        match self {
+            Self::Refused(refused) => refused.sentences(),
+            Self::SomeRefused(sentences) => sentences.clone(),
+            Self::Words(sentence) | Self::File(sentence) | Self::Differs(sentence) => {
+                vec![sentence.clone()]
+            }
+            Self::Output(error) => vec![format!("standard output cannot be written: {error}")],
+        }
+    }
+
+    /// What is told of it as JSON, beside its sentences.
+    pub fn told(&self) -> Json {
+        match self {
+            Self::Refused(refused) => told::refused(refused.refusal, &refused.explanation),
+            _ => Json::Null,
         }
     }
 
     /// Says so on standard error, and gives the exit code.
     pub fn tell(&self) -> ExitCode {
-        match self {
-            Self::Words(sentence) => {
-                say(sentence);
-                ExitCode::from(2)
-            }
-            Self::Undone(sentence) => {
-                say(sentence);
-                ExitCode::FAILURE
-            }
-            Self::Output(error) => {
-                say(&format!("standard output cannot be written: {error}"));
-                ExitCode::FAILURE
-            }
+        for sentence in self.sentences() {
+            // Standard error may be closed: there is nobody to tell then.
+            let _ = writeln!(io::stderr(), "splitter: {sentence}");
         }
+        self.outcome().exit_code()
     }
 }
 
-/// A refusal of a table, with its number, its name and its sentence.
-pub fn refusal_in_words(table: u32, refusal: Refusal) -> String {
+impl Refused {
+    fn sentences(&self) -> Vec<String> {
+        let refused = refusal_in_words(self.table, self.refusal, &self.explanation);
+        let refused = match &self.file {
+            Some(file) => format!("{}: {refused}", shown(file)),
+            None => refused,
+        };
+        vec![refused, advice(self.refusal)]
+    }
+}
+
+/// A refusal of a table, or of a store, with its number and its name, and what is at fault.
+pub fn refusal_in_words(
+    table: impl Into<Option<u32>>,
+    refusal: Refusal,
+    explanation: &Explanation,
+) -> String {
+    let what = match table.into() {
+        Some(table) => format!("table {table}"),
+        None => "its store".into(),
+    };
+    let why: &dyn Display = match explanation.refusal() == Some(refusal) {
+        true => explanation,
+        false => &refusal,
+    };
     format!(
-        "table {table} is refused by {} ({refusal:?}): {refusal}",
+        "{what} is refused by {} ({refusal:?}): {why}",
         refusal.number()
     )
 }
 
-/// Standard error may be closed: there is nobody to tell then.
-fn say(sentence: &str) {
-    let _ = writeln!(io::stderr(), "splitter: {sentence}");
+/// What a refusal means, and what to do.
+pub fn advice(refusal: Refusal) -> String {
+    format!("{refusal:?}: {refusal}")
 }

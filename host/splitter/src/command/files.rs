@@ -4,8 +4,12 @@ mod whole;
 
 pub use whole::write;
 
-use super::failure::Failure;
-use splitter::store_file::StoreFile;
+use super::{failure::Failure, screen::Screen, text::shown};
+use splitter::{
+    explain,
+    store_file::{RawFile, StoreFile},
+    Refusal,
+};
 use std::{
     fs::File,
     io::{self, Read},
@@ -18,10 +22,20 @@ const LONGEST_STORE: u64 = 1 << 25;
 /// No longer font is read.
 const LONGEST_FONT: u64 = 1 << 30;
 
-/// Reads a store file.
+/// Reads a store file whose store is sound.
 pub fn read_store(path: &Path) -> Result<StoreFile, Failure> {
+    let file = read_raw(path)?;
+    if !file.view().is_sound() {
+        let why = explain(file.view(), 0);
+        return Err(Failure::refused(None, Refusal::Unsound, why).at(path));
+    }
+    file.into_file().map_err(|error| about(path, error))
+}
+
+/// Reads a store file, whether or not its store is sound.
+pub fn read_raw(path: &Path) -> Result<RawFile, Failure> {
     let bytes = read(path, LONGEST_STORE)?;
-    StoreFile::from_bytes(&bytes).map_err(|error| about(path, error))
+    RawFile::from_bytes(&bytes).map_err(|error| about(path, error))
 }
 
 /// Reads the bytes of a font.
@@ -29,29 +43,49 @@ pub fn read_font(path: &Path) -> Result<Vec<u8>, Failure> {
     read(path, LONGEST_FONT)
 }
 
+/// Whether a name is that of standard input or output.
+pub fn is_standard(path: &Path) -> bool {
+    path == Path::new("-")
+}
+
+/// Writes a file whole or not at all; `-` is standard output.
+pub fn write_or_show(path: &Path, bytes: &[u8], screen: &mut Screen) -> Result<(), Failure> {
+    match is_standard(path) {
+        true => screen.bytes(bytes),
+        false => write(path, bytes),
+    }
+}
+
 fn read(path: &Path, longest: u64) -> Result<Vec<u8>, Failure> {
-    let bytes = read_at_most(path, longest).map_err(|error| about(path, reason(&error)))?;
-    match bytes.len() as u64 > longest {
-        false => Ok(bytes),
-        true => Err(about(
+    let read = match is_standard(path) {
+        true => read_at_most(io::stdin().lock(), None, longest),
+        false => File::open(path).and_then(|file| {
+            let size = file.metadata().ok().filter(|it| it.is_file());
+            read_at_most(file, size.map(|it| it.len()), longest)
+        }),
+    };
+    match read.map_err(|error| about(path, reason(&error)))? {
+        Some(bytes) => Ok(bytes),
+        None => Err(about(
             path,
             format!("it is longer than {longest} bytes, and such files are not read"),
         )),
     }
 }
 
-/// The bytes of a file, and one more where it is too long.
-fn read_at_most(path: &Path, longest: u64) -> io::Result<Vec<u8>> {
-    let mut bytes = Vec::new();
-    File::open(path)?
-        .take(longest + 1)
-        .read_to_end(&mut bytes)?;
-    Ok(bytes)
+/// All bytes of a file, unless there are too many. One whose size is known is not read then.
+fn read_at_most(file: impl Read, size: Option<u64>, longest: u64) -> io::Result<Option<Vec<u8>>> {
+    if size.is_some_and(|size| size > longest) {
+        return Ok(None);
+    }
+    let mut bytes = Vec::with_capacity(size.unwrap_or(0) as usize);
+    file.take(longest + 1).read_to_end(&mut bytes)?;
+    Ok((bytes.len() as u64 <= longest).then_some(bytes))
 }
 
 /// A failure that has to do with a file.
 pub fn about(path: &Path, sentence: impl std::fmt::Display) -> Failure {
-    Failure::Undone(format!("{}: {sentence}", path.display()))
+    Failure::File(format!("{}: {sentence}", shown(path)))
 }
 
 /// What went wrong, in words.

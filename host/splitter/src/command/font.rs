@@ -4,115 +4,154 @@
 mod tests;
 
 use super::{
-    arguments::Font,
-    failure::Failure,
+    arguments::{Font, Name},
+    failure::{advice, Failure},
     files,
+    json::Json,
     look::Look,
+    outcome::Outcome,
     progress::Progress,
     screen::Screen,
-    text::{counted, grouped, listed, or_dash, wrapped},
+    text::{counted, grouped, listed, or_dash, shown, wrapped},
+    told,
 };
 use splitter::{
-    font::{find_gpos, load, Bytes, FontError, Lookups, Subtable, TABLE},
-    store_file::Table,
-    Kind, Refusal, Scratch,
+    font::{FontError, FontTable, FontTables, Listed, TABLE},
+    store_file::{StoreFile, Table},
+    Explanation, Kind, Refusal, Scratch,
+};
+use std::{
+    fs,
+    path::{Path, PathBuf},
 };
 
-/// Shows the tables of a font.
-pub fn run(request: &Font, screen: &mut Screen) -> Result<(), Failure> {
+/// Shows the tables of a font, and writes them as store files where that is asked for.
+pub fn run(request: &Font, screen: &mut Screen) -> Result<Outcome, Failure> {
     let file = files::read_font(&request.file)?;
     let bad = |error: FontError| files::about(&request.file, error);
-    let name = request.file.display();
-    let Some(gpos) = find_gpos(&file).map_err(bad)? else {
+    let font = FontTables::read(&file).map_err(bad)?;
+    let mut seen = see_all(&font, &mut Scratch::new());
+    if let Some(directory) = &request.directory {
+        write_all(&font, &mut seen, directory)?;
+    }
+    let refused = seen.iter().filter(|seen| seen.cuts.is_err()).count();
+    let outcome = Outcome::of_plan(refused > 0, seen.iter().any(Seen::is_cut));
+    let tables: Vec<Json> = seen.iter().map(Seen::told).collect();
+    let values = vec![("lookups", font.lookups.into()), ("tables", tables.into())];
+    screen.json(&told::answer(Name::Font, outcome, &request.file, values))?;
+
+    let name = shown(&request.file);
+    if !font.has_gpos() {
         let none = "has no GPOS table, and so no tables for pairs or marks.";
-        return screen.line(&format!("{name} {none}"));
-    };
-    let found = Found::read(gpos).map_err(bad)?;
-    screen.heading(&format!("{name}"))?;
-    screen.lines(&wrapped(&found.in_words(), 0))?;
-    if found.subtables().is_empty() {
-        return Ok(());
+        screen.line(&format!("{name} {none}"))?;
+        return Ok(outcome);
     }
-    let seen = see_all(gpos, &found.subtables(), &mut Scratch::new());
-    show(&seen, screen)?;
-    match seen.iter().filter(|seen| seen.cuts.is_err()).count() {
-        0 => Ok(()),
-        refused => Err(files::about(
-            &request.file,
-            format!("{refused} of {} are refused", counted(seen.len(), "table")),
-        )),
+    screen.heading(&name)?;
+    screen.lines(&wrapped(&in_words(&font), 0))?;
+    if !seen.is_empty() {
+        show(&seen, screen)?;
+    }
+    if let Some(directory) = &request.directory {
+        let count = seen.iter().filter(|seen| seen.file.is_some()).count();
+        let files = counted(count, "store file");
+        screen.line(&format!("Wrote {files} to {}.", shown(directory)))?;
+    }
+    match refused {
+        0 => Ok(outcome),
+        _ => {
+            let tables = counted(seen.len(), "table");
+            let sentence = format!("{name}: {refused} of {tables} are refused");
+            Err(Failure::SomeRefused(vec![sentence]))
+        }
     }
 }
 
-/// The lookups of each kind.
-struct Found([(Kind, Lookups); 2]);
-
-impl Found {
-    fn read(gpos: Bytes) -> Result<Self, FontError> {
-        let [pairs, marks] = Kind::ALL.map(|kind| Lookups::read(gpos, kind));
-        Ok(Self([(Kind::Pairs, pairs?), (Kind::Marks, marks?)]))
-    }
-
-    fn in_words(&self) -> String {
-        let of_kind = |(kind, lookups): &(Kind, Lookups)| {
-            let subtables = counted(lookups.subtables.len(), "subtable");
-            let purpose = match kind {
-                Kind::Pairs => "pairs",
-                Kind::Marks => "marks on bases",
-            };
-            format!("{} for {purpose}, with {subtables}", lookups.of_kind)
+fn in_words(font: &FontTables) -> String {
+    let of_kind = |(kind, lookups, subtables): &(Kind, usize, usize)| {
+        let purpose = match kind {
+            Kind::Pairs => "pairs",
+            Kind::Marks => "marks on bases",
         };
-        let [pairs, marks] = &self.0;
-        let all = counted(pairs.1.count, "lookup");
-        format!("{all} in GPOS: {}; {}", of_kind(pairs), of_kind(marks))
-    }
-
-    /// All subtables, in the order in which the font has them.
-    fn subtables(&self) -> Vec<(Kind, Subtable)> {
-        let kinds = self.0.iter();
-        let subtables = kinds.flat_map(|(kind, lookups)| {
-            let subtables = lookups.subtables.iter();
-            subtables.map(|&subtable| (*kind, subtable))
-        });
-        let mut subtables: Vec<_> = subtables.collect();
-        subtables.sort_by_key(|(_, subtable)| (subtable.lookup, subtable.number));
-        subtables
-    }
+        let subtables = counted(*subtables, "subtable");
+        format!("{lookups} for {purpose}, with {subtables}")
+    };
+    let [pairs, marks] = &font.of_kind;
+    let all = counted(font.lookups, "lookup");
+    format!("{all} in GPOS: {}; {}", of_kind(pairs), of_kind(marks))
 }
 
-/// A subtable, and what came of looking at it.
+/// A table, and what came of looking at it.
 struct Seen {
-    kind: Kind,
-    subtable: Subtable,
+    table: FontTable,
     look: Option<Look>,
     cuts: Result<Vec<u16>, FontError>,
+    explanation: Explanation,
+    /// The store file that was written.
+    file: Option<PathBuf>,
 }
 
-fn see_all(gpos: Bytes, subtables: &[(Kind, Subtable)], scratch: &mut Scratch) -> Vec<Seen> {
+fn see_all(font: &FontTables, scratch: &mut Scratch) -> Vec<Seen> {
     let mut progress = Progress::new("looking at tables");
-    let see = |(done, &(kind, subtable)): (usize, &(Kind, Subtable))| {
-        progress.at(done as u64, subtables.len() as u64);
-        see(gpos, kind, subtable, scratch)
+    let see = |(done, table): (usize, &FontTable)| {
+        progress.at(done as u64, font.tables.len() as u64);
+        see(font, table, scratch)
     };
-    subtables.iter().enumerate().map(see).collect()
+    font.tables.iter().enumerate().map(see).collect()
 }
 
-fn see(gpos: Bytes, kind: Kind, subtable: Subtable, scratch: &mut Scratch) -> Seen {
-    let (look, cuts) = match load(gpos, kind, subtable.start) {
-        Ok(store) => {
-            let number = TABLE;
-            let look = Look::at(store.view(), Table { number, kind });
-            let cuts = kind.cut_plan(&store, number, scratch);
-            (look, cuts.map_err(FontError::Store))
-        }
-        Err(error) => (None, Err(error)),
+fn see(font: &FontTables, table: &FontTable, scratch: &mut Scratch) -> Seen {
+    let mut seen = Seen {
+        table: table.clone(),
+        look: None,
+        cuts: Ok(Vec::new()),
+        explanation: Explanation::default(),
+        file: None,
     };
-    Seen {
-        kind,
-        subtable,
-        look,
-        cuts,
+    let kind = table.kind;
+    let store = match font.load(table) {
+        Ok(store) => store,
+        Err(error) => {
+            seen.cuts = Err(error);
+            return seen;
+        }
+    };
+    let number = TABLE;
+    seen.look = Look::at(store.view(), Table { number, kind });
+    seen.cuts = kind
+        .cut_plan(&store, number, scratch)
+        .map_err(FontError::Store);
+    if seen.cuts.is_err() {
+        seen.explanation = kind.explain(&store, number);
     }
+    seen
+}
+
+/// Writes a store file for each table that can be loaded.
+fn write_all(font: &FontTables, seen: &mut [Seen], directory: &Path) -> Result<(), Failure> {
+    fs::create_dir_all(directory).map_err(|error| {
+        files::about(directory, format!("the directory cannot be made: {error}"))
+    })?;
+    let mut progress = Progress::new("writing tables");
+    let count = seen.len() as u64;
+    for (done, seen) in seen.iter_mut().enumerate() {
+        progress.at(done as u64, count);
+        let Ok(store) = font.load(&seen.table) else {
+            continue;
+        };
+        let kind = seen.table.kind;
+        let Listed { lookup, subtable } = seen.table.listed[0];
+        let name = format!(
+            "lookup{lookup}-subtable{subtable}-{}.krns",
+            told::kind(kind)
+        );
+        let path = directory.join(name);
+        let number = TABLE;
+        let file = StoreFile::new(store, vec![Table { number, kind }]);
+        let file = file.map_err(|error| files::about(&path, error))?;
+        files::write(&path, &file.to_bytes())?;
+        seen.file = Some(path);
+    }
+    Ok(())
 }
 
 fn show(all: &[Seen], screen: &mut Screen) -> Result<(), Failure> {
@@ -124,18 +163,18 @@ fn show(all: &[Seen], screen: &mut Screen) -> Result<(), Failure> {
     screen.line("")?;
     for refusal in Refusal::ALL {
         if all.iter().any(|seen| seen.is_refused_by(refusal)) {
-            screen.lines(&wrapped(&format!("{refusal:?}: {refusal}."), 0))?;
+            screen.lines(&wrapped(&format!("{}.", advice(refusal)), 0))?;
         }
     }
     screen.lines(&wrapped(&summary(all), 0))
 }
 
 fn summary(all: &[Seen]) -> String {
-    let cut = |seen: &&Seen| seen.cuts.as_ref().is_ok_and(|cuts| !cuts.is_empty());
-    let why = "What is in a font fits its offsets already, so most tables have no cut places. But \
-               the rule counts whole parts, where an offset only has to reach the start of one: a \
+    let why =
+        "What is in a font fits its offsets already, so most tables have no cut places. But \\
+               the rule counts whole parts, where an offset only has to reach the start of one: a \\
                table close to the limit can have them.";
-    match all.iter().filter(cut).count() {
+    match all.iter().filter(|seen| seen.is_cut()).count() {
         0 => format!("No table would be cut. {why}"),
         1 => format!("One table would be cut. {why}"),
         count => format!("{} would be cut. {why}", counted(count, "table")),
@@ -143,21 +182,34 @@ fn summary(all: &[Seen]) -> String {
 }
 
 impl Seen {
+    fn is_cut(&self) -> bool {
+        self.cuts.as_ref().is_ok_and(|cuts| !cuts.is_empty())
+    }
+
     fn is_refused_by(&self, refusal: Refusal) -> bool {
         self.cuts == Err(FontError::Store(refusal))
     }
 
-    /// Its line; more of them where it is damaged or has many cut places.
+    /// Its line; more of them where it is refused, has many cut places, or is listed more than once.
     fn lines(&self) -> Vec<String> {
-        let Subtable { lookup, number, .. } = self.subtable;
-        let kind = match self.kind {
-            Kind::Pairs => "pairs",
-            Kind::Marks => "marks",
-        };
+        let Listed { lookup, subtable } = self.table.listed[0];
+        let kind = told::kind(self.table.kind);
         let columns = self.look.as_ref().map(|look| self.columns(look));
         let columns = columns.unwrap_or_default();
-        let start = format!("  {lookup:>6}{number:>9}{kind:>7}{columns}");
-        hung(&start, &self.words())
+        let start = format!("  {lookup:>6}{subtable:>9}{kind:>7}{columns}");
+        let mut lines = hung(&start, &self.words());
+        if let Some(fault) = self.explanation.fault() {
+            lines.extend(wrapped(&fault.to_string(), 11));
+        }
+        match self.table.listed.len() {
+            0 | 1 => {}
+            2 => lines.push("           listed once more".into()),
+            listed => {
+                let more = grouped(listed - 1);
+                lines.push(format!("           listed {more} times more"));
+            }
+        }
+        lines
     }
 
     /// How much there is of it. Of a coverage that cannot be read nobody knows the glyphs.
@@ -183,6 +235,30 @@ impl Seen {
             Err(FontError::Store(refusal)) => format!("refused: {refusal:?}"),
             Err(error) => format!("refused: {error}"),
         }
+    }
+
+    fn told(&self) -> Json {
+        let places = self.table.listed.iter().map(|listed| {
+            Json::object([
+                ("lookup", listed.lookup.into()),
+                ("subtable", listed.subtable.into()),
+            ])
+        });
+        let table = Table {
+            number: TABLE,
+            kind: self.table.kind,
+        };
+        let mut values = vec![("listed", Json::list(places))];
+        values.extend(told::table(table, self.look.as_ref()));
+        values.push(match &self.cuts {
+            Ok(cuts) => ("cuts", Json::list(cuts.iter().copied())),
+            Err(FontError::Store(refusal)) => {
+                ("refused", told::refused(*refusal, &self.explanation))
+            }
+            Err(error) => ("damaged", error.to_string().into()),
+        });
+        values.push(("output", self.file.as_deref().map(told::path).into()));
+        Json::object(values)
     }
 }
 

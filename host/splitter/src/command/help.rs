@@ -1,9 +1,20 @@
 //! How the command is used.
 
 use super::arguments::Name;
+use splitter::{provenance, raw::INTERFACE};
 
 /// Which version this is.
-pub const VERSION: &str = concat!("splitter ", env!("CARGO_PKG_VERSION"), "\n");
+pub fn version() -> String {
+    let known = |what: Option<&'static str>| what.unwrap_or("not known");
+    format!(
+        "splitter {}\ninterface {}\nkit {}\narchive sha256 {}\ncommit {}\n",
+        provenance::VERSION,
+        INTERFACE,
+        known(provenance::KIT),
+        known(provenance::ARCHIVE_SHA256),
+        known(provenance::COMMIT),
+    )
+}
 
 /// How a command is used, or all of them.
 pub const fn of(topic: Option<Name>) -> &'static str {
@@ -14,6 +25,7 @@ pub const fn of(topic: Option<Name>) -> &'static str {
         Some(Name::Split) => SPLIT,
         Some(Name::Pair) => PAIR,
         Some(Name::Mark) => MARK,
+        Some(Name::Dump) => DUMP,
         Some(Name::Font) => FONT,
     }
 }
@@ -27,17 +39,23 @@ functions that are proved to lose nothing.
     splitter sample [-o DIR]               split three samples and show them
     splitter plan FILE [TABLE]             show where tables would be cut
     splitter split FILE [TABLE] -o FILE    split tables
-    splitter pair FILE TABLE G1 G2         read what a table says of two glyphs
-    splitter mark FILE TABLE MARK BASE     read how it attaches a mark to a base
-    splitter font FILE                     look into the GPOS table of a font
+    splitter pair FILE [TABLE] G1 G2       read what tables say of two glyphs
+    splitter mark FILE [TABLE] MARK BASE   read how they attach a mark to a base
+    splitter dump FILE [OBJECT]            show what is in a store
+    splitter font FILE [-o DIR]            look into the GPOS table of a font
     splitter help [COMMAND]                say more of a command
     splitter --version                     say which version this is
 
-FILE is a store file, which docs/STORE_FILE.md describes, or a font. Numbers may
-be written in tens or, as 0x1F, in sixteens.
+FILE is a store file, which docs/STORE_FILE.md describes, or a font; - is
+standard input. Numbers may be written in tens or, as 0x1F, in sixteens.
 
-Exit codes: 0 done; 1 refused, or a file that cannot be read or written; 2 words
-that cannot be followed. Errors are one sentence on standard error.
+    --json         write JSON, for programs; docs/COMMAND.md describes it
+    -q, --quiet    write nothing: the exit code tells
+
+Exit codes: 0 done, and for plan and font nothing to split; 1 refused; 2 bad
+usage; 3 a file that cannot be read or written; 4 for plan and font, something
+would be cut; 5 for --check, something reads otherwise. What is wrong stands on
+standard error: a refusal says what is at fault, where, and what is wanted.
 ";
 
 const SAMPLE: &str = "\
@@ -60,74 +78,107 @@ coverage, marks and bases, of its mark coverage and its two arrays.
 ";
 
 const PLAN: &str = "\
-splitter plan FILE [TABLE] [--marks] [--all] [--ascii]
+splitter plan FILE [TABLE] [--marks] [--all] [--ascii] [--json | --quiet]
 
 Shows where the tables of a store file would be cut, and changes nothing. TABLE
 is the number of an object; without it all tables that the file lists are shown.
 The file says which of these are mark-to-base tables. Bytes do not tell, so a
 table that it does not list is for pairs, unless --marks is there.
 
-    --marks    the tables are mark-to-base, whatever the file says
-    --all      show long lists whole
-    --ascii    draw bars in ASCII, whatever the locale
+    --marks        the tables are mark-to-base, whatever the file says
+    --all          show long lists whole
+    --ascii        draw bars in ASCII, whatever the locale
+    --json         write JSON, for programs
+    -q, --quiet    write nothing: the exit code tells
 
-Where a table is refused, the others are shown all the same, and the exit code
-is 1.
+The exit code is 0 where there is nothing to split, 4 where a table would be
+cut, and 1 where one is refused. The others are shown all the same then, and
+each refusal says what is at fault.
 ";
 
 const SPLIT: &str = "\
 splitter split FILE [TABLE] (-o FILE | --in-place) [--check] [--marks] [--all]
-               [--ascii]
+               [--ascii] [--json | --quiet]
 
 Splits the tables of a store file and writes the store with kept and new tables.
 TABLE is the number of an object; without it all tables that the file lists are
 split. Each table keeps its number; new ones are listed right behind it, and
 what fits as it is stays. The file is written whole or, where a table is
-refused, not at all.
+refused, not at all, and before anything is said of it.
 
-    -o, --output FILE    where to write; the file that is read is refused here
+    -o, --output FILE    where to write; the file that is read is refused here,
+                         and - is standard output, which has nothing else then
     --in-place           write over the file that is read
     --check              read all pairs or attachments before and after; this
                          can take long
     --marks              the tables are mark-to-base, whatever the file says
     --all                show long lists whole
     --ascii              draw bars in ASCII, whatever the locale
+    --json               write JSON, for programs
+    -q, --quiet          write nothing: the exit code tells
 
 \"splitter help plan\" says how tables for pairs and for marks are told apart,
 \"splitter help sample\" explains the columns.
 ";
 
 const PAIR: &str = "\
-splitter pair FILE TABLE G1 G2
+splitter pair FILE [TABLE] G1 G2 [--json | --quiet]
 
-Reads what a table of a store file says of glyph G1 before glyph G2: four values
-and four devices for each. TABLE is the number of an object. That there is no
-pair is no error.
+Reads what the tables of a store file say of glyph G1 before glyph G2: four
+values and four devices for each. TABLE is the number of an object; without it
+the tables for pairs that the file lists are asked in order, kept and new ones,
+and the first that has the pair decides, as in a shaper. That there is no pair
+is no error.
 ";
 
 const MARK: &str = "\
-splitter mark FILE TABLE MARK BASE
+splitter mark FILE [TABLE] MARK BASE [--json | --quiet]
 
-Reads by which anchors a mark-to-base table of a store file attaches the glyph
+Reads by which anchors the mark-to-base tables of a store file attach the glyph
 MARK to the glyph BASE: the two objects, and their coordinates. TABLE is the
-number of an object. That there is no attachment is no error.
+number of an object; without it those that the file lists are asked in order,
+and the first that attaches them decides. That there is no attachment is no
+error.
+";
+
+const DUMP: &str = "\
+splitter dump FILE [OBJECT] [--marks] [--all] [--json]
+
+Shows what is in a store file, also where its store is not sound: the objects as
+a tree from the tables that it lists, each with what it is, how long it is and
+at which positions it leads to others, and those that no table leads to. With
+OBJECT, a tree from that object, who leads to it, and its bytes; one that no
+table leads to is taken for a table.
+
+    --marks    tables are mark-to-base, whatever the file says
+    --all      show long lists whole
+    --json     write all objects, or that one, as JSON, for programs
+
+Where the store is not sound it is said what is at fault; the exit code is 1.
 ";
 
 const FONT: &str = "\
-splitter font FILE
+splitter font FILE [-o DIR] [--json | --quiet]
 
 Shows the tables for pairs and for marks on bases of a TrueType or OpenType
 font, or of the first font of a collection: the subtables of lookups of types 2
 and 4, and those of type 9 that extend these. For each: lookup, subtable, kind,
 format, bytes with all that it leads to, items (pair sets, rows or mark
-classes), covered glyphs, and cut places or why it is refused.
+classes), covered glyphs, and cut places or why it is refused. A table that is
+listed more than once is shown once.
+
+    -o, --output DIR    write each table into a directory as a store file, as
+                        lookupL-subtableS-KIND.krns, for plan, split, pair, mark
+                        and dump
+    --json              write JSON, for programs
+    -q, --quiet         write nothing: the exit code tells
 
 What is in a font fits its offsets already, so most tables have no cut places.
 But the rule counts whole parts, where an offset only has to reach the start of
 one: a table close to the limit can have them.
 
-Where a subtable is refused, the others are shown all the same, and the exit
-code is 1.
+The exit code is 0 where there is nothing to split, 4 where a table would be
+cut, and 1 where one is refused. The others are shown all the same then.
 ";
 
 #[cfg(test)]
@@ -137,7 +188,7 @@ mod tests {
 
     #[test]
     fn help_keeps_to_the_columns() {
-        for text in [ALL, SAMPLE, PLAN, SPLIT, PAIR, MARK, FONT] {
+        for text in [ALL, SAMPLE, PLAN, SPLIT, PAIR, MARK, DUMP, FONT] {
             for line in text.lines() {
                 assert!(line.len() <= COLUMNS, "{line}");
             }

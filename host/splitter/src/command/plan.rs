@@ -1,49 +1,122 @@
 //! `splitter plan`: where tables would be cut.
 
 use super::{
-    arguments::Plan,
-    failure::{refusal_in_words, Failure},
+    arguments::{Name, Plan},
+    failure::{advice, refusal_in_words, Failure},
     files,
+    json::Json,
+    look::Look,
+    outcome::Outcome,
     report::{Amount, Before},
     screen::Screen,
-    text::{counted, wrapped},
+    text::{counted, shown, wrapped},
+    told,
 };
 use splitter::{
     store_file::{StoreFile, Table},
-    Kind, Scratch, Store,
+    Explanation, Kind, Refusal, Scratch, Store,
 };
 
 /// Shows where the tables of a store file would be cut.
-pub fn run(request: &Plan, screen: &mut Screen) -> Result<(), Failure> {
+pub fn run(request: &Plan, screen: &mut Screen) -> Result<Outcome, Failure> {
     screen.style.unicode &= !request.ascii;
     let file = files::read_store(&request.file)?;
     let tables = request.tables(&file)?;
     request.head(&file, screen)?;
     let mut scratch = Scratch::new();
-    let mut refused = 0;
-    for &table in &tables {
+    let planned = tables.into_iter();
+    let planned = planned.map(|table| Planned::of(file.store(), table, &mut scratch));
+    let planned: Vec<Planned> = planned.collect();
+    let refused = planned.iter().filter(|table| table.cuts.is_err()).count();
+    let outcome = Outcome::of_plan(refused > 0, planned.iter().any(Planned::is_cut));
+    screen.json(&told::answer(
+        Name::Plan,
+        outcome,
+        &request.file,
+        vec![
+            ("store", told::store(file.store().view())),
+            (
+                "tables",
+                planned.iter().map(Planned::told).collect::<Vec<_>>().into(),
+            ),
+        ],
+    ))?;
+    if let [Planned {
+        table,
+        cuts: Err(refusal),
+        explanation,
+        ..
+    }] = &planned[..]
+    {
+        let refused = Failure::refused(table.number, *refusal, explanation.clone());
+        return Err(refused.at(&request.file));
+    }
+    for planned in &planned {
         screen.line("")?;
-        let number = table.number;
-        match table.kind.cut_plan(file.store(), number, &mut scratch) {
-            Ok(cuts) => show(file.store(), table, cuts, request.amount(), screen)?,
-            Err(refusal) if tables.len() == 1 => {
-                return Err(Failure::refused(number, refusal).at(&request.file));
-            }
+        planned.show(file.store(), request.amount(), screen)?;
+    }
+    match refused {
+        0 => Ok(outcome),
+        _ => Err(some_refused(&planned, request)),
+    }
+}
+
+/// How many are refused, and what each refusal means.
+fn some_refused(planned: &[Planned], request: &Plan) -> Failure {
+    let refused = || planned.iter().filter_map(|it| it.cuts.as_ref().err());
+    let tables = counted(planned.len(), "table");
+    let file = shown(&request.file);
+    let sentence = format!("{file}: {} of {tables} are refused", refused().count());
+    let by = Refusal::ALL
+        .into_iter()
+        .filter(|by| refused().any(|it| it == by));
+    let sentences = [sentence].into_iter().chain(by.map(advice));
+    Failure::SomeRefused(sentences.collect())
+}
+
+/// A table, and where it would be cut or why it is refused.
+struct Planned {
+    table: Table,
+    look: Option<Look>,
+    cuts: Result<Vec<u16>, Refusal>,
+    explanation: Explanation,
+}
+
+impl Planned {
+    fn of(store: &Store, table: Table, scratch: &mut Scratch) -> Self {
+        let cuts = table.kind.cut_plan(store, table.number, scratch);
+        Self {
+            table,
+            look: Look::at(store.view(), table),
+            explanation: match cuts {
+                Ok(_) => Explanation::default(),
+                Err(_) => table.kind.explain(store, table.number),
+            },
+            cuts,
+        }
+    }
+
+    fn is_cut(&self) -> bool {
+        self.cuts.as_ref().is_ok_and(|cuts| !cuts.is_empty())
+    }
+
+    fn show(&self, store: &Store, amount: Amount, screen: &mut Screen) -> Result<(), Failure> {
+        match &self.cuts {
+            Ok(cuts) => show(store, self.table, cuts.clone(), amount, screen),
             Err(refusal) => {
-                screen.lines(&wrapped(&refusal_in_words(number, refusal), 0))?;
-                refused += 1;
+                let words = refusal_in_words(self.table.number, *refusal, &self.explanation);
+                screen.lines(&wrapped(&words, 0))
             }
         }
     }
-    match refused {
-        0 => Ok(()),
-        _ => Err(files::about(
-            &request.file,
-            format!(
-                "{refused} of {} are refused",
-                counted(tables.len(), "table")
-            ),
-        )),
+
+    fn told(&self) -> Json {
+        let mut values = told::table(self.table, self.look.as_ref());
+        values.push(match &self.cuts {
+            Ok(cuts) => ("cuts", Json::list(cuts.iter().copied())),
+            Err(refusal) => ("refused", told::refused(*refusal, &self.explanation)),
+        });
+        Json::object(values)
     }
 }
 
@@ -102,7 +175,7 @@ impl Plan {
         let [data, objects, links] = file.store().view().counts().map(|count| count as usize);
         screen.heading(&format!(
             "{}: {}, {}, {}",
-            self.file.display(),
+            shown(&self.file),
             counted(objects, "object"),
             counted(links, "link"),
             counted(data, "data byte"),

@@ -2,13 +2,17 @@
 
 use super::{
     failure::Failure,
+    json::Json,
     look::Look,
     progress::Progress,
     screen::Screen,
     text::{counted, grouped, plural, wrapped},
 };
 use splitter::{
-    read_mark, read_pair, store_file::Table, Attachment, Kind, PairValues, Refusal, Store,
+    explain::Call,
+    read_mark, read_pair,
+    store_file::{StoreFile, Table},
+    Attachment, Kind, PairValues, Refusal, Store,
 };
 
 /// What a table says of two glyphs.
@@ -44,6 +48,42 @@ impl Reading {
         }
         Ok(None)
     }
+}
+
+/// The table that was asked for, or those of a kind that a file lists, in order.
+pub fn listed(file: &StoreFile, kind: Kind, table: Option<u32>) -> Result<Vec<u32>, String> {
+    let listed = file.tables().iter().filter(|table| table.kind == kind);
+    let listed: Vec<u32> = listed.map(|table| table.number).collect();
+    match table {
+        Some(table) => Ok(vec![table]),
+        None if listed.is_empty() => Err(format!(
+            "it lists no table for {}: say which one, by its number behind the file's name",
+            match kind {
+                Kind::Pairs => "pairs",
+                Kind::Marks => "marks on bases",
+            }
+        )),
+        None => Ok(listed),
+    }
+}
+
+/// The first table that says something, and what it says.
+pub fn read_first<T>(
+    store: &Store,
+    kind: Kind,
+    tables: &[u32],
+    read: impl Fn(u32) -> Result<Option<T>, Refusal>,
+) -> Result<Option<(u32, T)>, Failure> {
+    for &table in tables {
+        let found = read(table).map_err(|refusal| {
+            let why = kind.explain_call(Call::Reading, store, table);
+            Failure::refused(table, refusal, why)
+        })?;
+        if let Some(found) = found {
+            return Ok(Some((table, found)));
+        }
+    }
+    Ok(None)
 }
 
 /// What came of reading all that a table says.
@@ -111,6 +151,16 @@ impl Compared {
         }
     }
 
+    /// How many were read, found and differ.
+    pub fn told(&self) -> Json {
+        let [firsts, seconds] = self.glyphs;
+        Json::object([
+            ("read", (firsts * seconds).into()),
+            ("found", self.found.into()),
+            ("differing", self.differing.into()),
+        ])
+    }
+
     /// Shows how many were read, and that all read as before.
     pub fn show(&self, screen: &mut Screen) -> Result<(), Failure> {
         let [firsts, seconds] = self.glyphs;
@@ -130,7 +180,7 @@ impl Compared {
             Kind::Pairs => format!("glyph {first} before glyph {second}"),
             Kind::Marks => format!("mark {first} on base {second}"),
         };
-        Err(Failure::Undone(format!(
+        Err(Failure::Differs(format!(
             "{} {} read otherwise, {example} among them: {read}",
             grouped(self.differing),
             plural(name),

@@ -9,14 +9,15 @@ use super::{
     arguments::{Sample, Which},
     failure::Failure,
     files,
+    outcome::Outcome,
     report::Amount,
     screen::Screen,
     split::Show,
-    text::wrapped,
+    text::{shown, wrapped},
 };
 use splitter::{
     store_file::{StoreFile, Table},
-    Refusal, Scratch, Store,
+    Explanation, Refusal, Scratch, Store,
 };
 use std::{fs, path::Path};
 
@@ -29,14 +30,15 @@ struct Example {
 }
 
 /// Splits the samples and shows what comes of it, or writes them.
-pub fn run(request: &Sample, screen: &mut Screen) -> Result<(), Failure> {
+pub fn run(request: &Sample, screen: &mut Screen) -> Result<Outcome, Failure> {
     screen.style.unicode &= !request.ascii;
     let examples = examples(request.which)
-        .map_err(|refusal| Failure::Undone(format!("the samples are refused: {refusal}")))?;
+        .map_err(|refusal| Failure::refused(None, refusal, Explanation::default()))?;
     match &request.directory {
         Some(directory) => write(examples, directory, screen),
         None => show(examples, screen),
-    }
+    }?;
+    Ok(Outcome::Done)
 }
 
 /// The sample that is asked for, or all of them.
@@ -110,7 +112,7 @@ fn write(examples: Vec<Example>, directory: &Path, screen: &mut Screen) -> Resul
         let file = StoreFile::new(example.store, vec![example.table])
             .map_err(|error| files::about(&path, error))?;
         files::write(&path, &file.to_bytes())?;
-        screen.line(&format!("Wrote {}.", path.display()))?;
+        screen.line(&format!("Wrote {}.", shown(&path)))?;
     }
     Ok(())
 }

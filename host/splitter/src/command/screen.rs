@@ -1,6 +1,6 @@
 //! Standard output, and how it may look.
 
-use super::failure::Failure;
+use super::{failure::Failure, json::Json};
 use std::{
     env,
     io::{self, BufWriter, IsTerminal, StdoutLock, Write},
@@ -10,8 +10,25 @@ use std::{
 pub struct Screen {
     out: BufWriter<StdoutLock<'static>>,
     is_closed: bool,
+    form: Form,
+    /// What is said once the work is done.
+    held: Option<String>,
+    /// Whether the JSON was written.
+    has_json: bool,
     /// How it may look.
     pub style: Style,
+}
+
+/// What is written to standard output.
+#[derive(Clone, Copy, Debug, Default, PartialEq, Eq)]
+pub enum Form {
+    /// Text, for people.
+    #[default]
+    Text,
+    /// JSON, for programs.
+    Json,
+    /// Nothing.
+    Quiet,
 }
 
 /// How output may look.
@@ -25,23 +42,60 @@ pub struct Style {
 
 impl Screen {
     /// Standard output, as it may look here.
-    pub fn new() -> Self {
+    pub fn new(form: Form) -> Self {
         Self {
             out: BufWriter::new(io::stdout().lock()),
             is_closed: false,
+            form,
+            held: None,
+            has_json: false,
             style: Style::of_environment(),
         }
     }
 
     /// Writes text as it is.
     pub fn text(&mut self, text: &str) -> Result<(), Failure> {
+        match (self.form, &mut self.held) {
+            (Form::Text, None) => self.bytes(text.as_bytes()),
+            (Form::Text, Some(held)) => {
+                held.push_str(text);
+                Ok(())
+            }
+            (Form::Json | Form::Quiet, _) => Ok(()),
+        }
+    }
+
+    /// Writes JSON, once, where that is asked for.
+    pub fn json(&mut self, value: &Json) -> Result<(), Failure> {
+        match self.form == Form::Json && !self.has_json {
+            true => {
+                self.has_json = true;
+                self.bytes(format!("{value}\n").as_bytes())
+            }
+            false => Ok(()),
+        }
+    }
+
+    /// Writes bytes, whatever else is asked for.
+    pub fn bytes(&mut self, bytes: &[u8]) -> Result<(), Failure> {
         match self.is_closed {
             true => Ok(()),
             false => {
-                let written = self.out.write_all(text.as_bytes());
+                let written = self.out.write_all(bytes);
                 self.settle(written)
             }
         }
+    }
+
+    /// Keeps text to itself until it is released.
+    pub fn hold(&mut self) {
+        self.held = Some(String::new());
+    }
+
+    /// Writes what it has kept.
+    pub fn release(&mut self) -> Result<(), Failure> {
+        let held = self.held.take();
+        self.text(&held.unwrap_or_default())
     }
 
     /// Writes a line.

@@ -1,26 +1,33 @@
 //! `splitter split`: a store file with tables split.
 
 use super::{
-    arguments::{Output, Split},
+    arguments::{Name, Output, Split},
     failure::Failure,
-    files, readings,
+    files,
+    json::Json,
+    look::Look,
+    outcome::Outcome,
+    readings::{self, Compared},
     report::{Amount, Before},
     screen::Screen,
-    text::counted,
+    text::{counted, shown},
+    told,
 };
 use splitter::{
+    explain::{Call, Lent},
     store_file::{StoreFile, Table},
-    Scratch, Store,
+    Explanation, Refusal, Room, Scratch, Store,
 };
 use std::{fs, path::Path};
 
-/// Splits the tables of a store file, and writes the store.
-pub fn run(request: &Split, screen: &mut Screen) -> Result<(), Failure> {
+/// Splits the tables of a store file, and writes the store. What came of it is said once it is written.
+pub fn run(request: &Split, screen: &mut Screen) -> Result<Outcome, Failure> {
     screen.style.unicode &= !request.plan.ascii;
     let input = &request.plan.file;
     let output = output(request)?;
     let file = files::read_store(input)?;
     let tables = request.plan.tables(&file)?;
+    screen.hold();
     request.plan.head(&file, screen)?;
 
     let (mut store, mut listed) = file.into_parts();
@@ -29,17 +36,37 @@ pub fn run(request: &Split, screen: &mut Screen) -> Result<(), Failure> {
         amount: request.plan.amount(),
         check: request.check,
     };
+    let mut pieces = Vec::new();
     for &table in &tables {
         screen.line("")?;
-        let split = show.split(&mut store, table, &mut scratch, screen);
-        list(&mut listed, &split.map_err(|failure| failure.at(input))?);
+        let piece = show.split(&mut store, table, &mut scratch, screen);
+        let piece = piece.map_err(|failure| failure.at(input))?;
+        list(&mut listed, &piece.tables);
+        pieces.push(piece);
     }
     let file = StoreFile::new(store, listed).map_err(|error| files::about(output, error))?;
     let bytes = file.to_bytes();
-    files::write(output, &bytes)?;
+    files::write_or_show(output, &bytes, screen)?;
+    screen.release()?;
     screen.line("")?;
-    let bytes = counted(bytes.len(), "byte");
-    screen.line(&format!("Wrote {} ({bytes}).", output.display()))
+    let written = counted(bytes.len(), "byte");
+    screen.line(&format!("Wrote {} ({written}).", shown(output)))?;
+
+    let outcome = match pieces.iter().any(|piece| piece.tables.len() > 1) {
+        true => Outcome::Split,
+        false => Outcome::NothingToSplit,
+    };
+    let values = vec![
+        ("output", told::path(output)),
+        ("bytes", bytes.len().into()),
+        ("store", told::store(file.store().view())),
+        (
+            "tables",
+            pieces.iter().map(Piece::told).collect::<Vec<_>>().into(),
+        ),
+    ];
+    screen.json(&told::answer(Name::Split, outcome, input, values))?;
+    Ok(outcome)
 }
 
 /// Where to write: over the input only where that was asked for.
@@ -52,7 +79,7 @@ fn output(request: &Split) -> Result<&Path, Failure> {
     match (fs::canonicalize(input), fs::canonicalize(output)) {
         (Ok(input), Ok(same)) if input == same => Err(Failure::Words(format!(
             "{} is the file that is read: give another behind -o, or say --in-place to write over it",
-            output.display()
+            shown(output)
         ))),
         _ => Ok(output),
     }
@@ -75,35 +102,76 @@ pub struct Show {
     pub check: bool,
 }
 
+/// What came of a table.
+pub struct Piece {
+    table: Table,
+    look: Option<Look>,
+    cuts: Vec<u16>,
+    /// The kept table and the new ones.
+    tables: Vec<Table>,
+    compared: Option<Compared>,
+}
+
+impl Piece {
+    fn told(&self) -> Json {
+        let mut values = told::table(self.table, self.look.as_ref());
+        let new = self.tables[1..].iter().map(|table| table.number);
+        values.extend([
+            ("cuts", Json::list(self.cuts.iter().copied())),
+            ("new_tables", Json::list(new)),
+            ("check", self.compared.as_ref().map(Compared::told).into()),
+        ]);
+        Json::object(values)
+    }
+}
+
 impl Show {
-    /// Splits a table, shows what came of it, and gives the kept table and the new ones.
+    /// Splits a table, and shows what came of it.
     pub fn split(
         self,
         store: &mut Store,
         table: Table,
         scratch: &mut Scratch,
         screen: &mut Screen,
-    ) -> Result<Vec<Table>, Failure> {
+    ) -> Result<Piece, Failure> {
         let Table { number, kind } = table;
-        let refused = |refusal| Failure::refused(number, refusal);
         let old = store.clone();
+        let refused = |refusal| Failure::refused(number, refusal, why(&old, table, refusal));
         let cuts = kind.cut_plan(&old, number, scratch).map_err(refused)?;
         let new_tables = kind.split(store, number, scratch).map_err(refused)?;
         let new_tables = new_tables.into_iter().map(|number| Table { number, kind });
-        let tables: Vec<Table> = [table].into_iter().chain(new_tables).collect();
+        let mut piece = Piece {
+            table,
+            look: Look::at(old.view(), table),
+            cuts: cuts.clone(),
+            tables: [table].into_iter().chain(new_tables).collect(),
+            compared: None,
+        };
         if let Some(before) = Before::new(old.view(), table, cuts) {
             before.describe(screen, self.amount)?;
             if before.is_cut() {
                 screen.line("")?;
-                before.show_after(store.view(), &tables, screen, self.amount)?;
+                before.show_after(store.view(), &piece.tables, screen, self.amount)?;
             }
         }
         if self.check {
             screen.flush()?;
-            let compared = readings::compare(&old, table, store, &tables).map_err(refused)?;
+            let compared = readings::compare(&old, table, store, &piece.tables);
+            let compared = compared.map_err(refused)?;
             screen.line("")?;
             compared.show(screen)?;
+            piece.compared = Some(compared);
         }
-        Ok(tables)
+        Ok(piece)
     }
+}
+
+/// Why a table of a store is not split. Its store grows up to the maxima.
+fn why(store: &Store, table: Table, refusal: Refusal) -> Explanation {
+    let mut store = store.clone();
+    if refusal == Refusal::NoRoom {
+        store.reserve(Room::MOST);
+    }
+    let call = Call::Split(Lent::ENOUGH);
+    table.kind.explain_call(call, &store, table.number)
 }

@@ -1,7 +1,30 @@
-//! Numbers and lists in words.
+//! Numbers, lists and names in words.
+
+use std::{ffi::OsStr, path::Path};
 
 /// The columns that output keeps to.
 pub const COLUMNS: usize = 80;
+
+/// The name of a file, with what could change a terminal written out.
+pub fn shown(path: &Path) -> String {
+    match path == Path::new("-") {
+        true => "standard input".into(),
+        false => shown_word(path.as_os_str()),
+    }
+}
+
+/// A word, with what could change a terminal written out.
+pub fn shown_word(word: &OsStr) -> String {
+    let turns = |letter: char| matches!(letter, '\u{200e}'..='\u{200f}' | '\u{202a}'..='\u{202e}' | '\u{2066}'..='\u{2069}');
+    let mut shown = String::new();
+    for letter in word.to_string_lossy().chars() {
+        match letter.is_control() || turns(letter) {
+            true => shown.extend(letter.escape_default()),
+            false => shown.push(letter),
+        }
+    }
+    shown
+}
 
 /// A number with commas between its thousands.
 pub fn grouped(number: usize) -> String {
@@ -84,6 +107,15 @@ mod tests {
         let numbers = [0, 999, 1_000, 65_535, 1_234_567];
         let words = ["0", "999", "1,000", "65,535", "1,234,567"];
         assert_eq!(numbers.map(grouped), words);
+    }
+
+    #[test]
+    fn names() {
+        let shown = |name: &str| shown(Path::new(name));
+        assert_eq!(shown("a/ß 文.krns"), "a/ß 文.krns");
+        assert_eq!(shown("a\x1b[31m\n\u{202e}b"), "a\\u{1b}[31m\\n\\u{202e}b");
+        assert_eq!(shown("-"), "standard input");
+        assert_eq!(shown("./-"), "./-");
     }
 
     #[test]

@@ -17,8 +17,17 @@ pub enum FontError {
         /// That version.
         major: usize,
     },
-    /// It has so many subtables of one kind that no font has them.
+    /// It has so many subtables that no font has them.
     ManySubtables,
+    /// Its tables have so many parts in common that no font has them.
+    TooMuch,
+    /// It has no such subtable for pairs or for marks on bases.
+    NoSubtable {
+        /// The number of the lookup.
+        lookup: usize,
+        /// The number in the lookup.
+        subtable: usize,
+    },
     /// It ends within something.
     Ends {
         /// What that is.
@@ -47,8 +56,17 @@ impl Display for FontError {
                 )
             }
             Self::ManySubtables => {
-                f.write_str("it has more than 65,536 subtables of one kind: it is damaged")
+                f.write_str("it lists more than 65,536 subtables: it is damaged")
             }
+            Self::TooMuch => f.write_str(
+                "its tables have so many parts in common that loading them all would take too long: \
+                 it is damaged",
+            ),
+            Self::NoSubtable { lookup, subtable } => write!(
+                f,
+                "it has no table for pairs or for marks on bases that is subtable {subtable} of \
+                 lookup {lookup}"
+            ),
             Self::Ends { what, at } => {
                 write!(
                     f,

@@ -2,7 +2,31 @@
 
 use super::{bytes::Bytes, error::FontError, lengths::Length};
 use crate::{Link, Refusal, Room, Store};
-use std::collections::{BTreeMap, HashMap};
+use std::{
+    cell::Cell,
+    collections::{BTreeMap, HashMap},
+};
+
+/// How much may still be loaded. In a crafted font a few bytes can be parts of a great many tables.
+pub(super) struct Budget(Cell<usize>);
+
+impl Budget {
+    /// Enough for any one table, which its store limits.
+    pub const fn for_table() -> Self {
+        Self(Cell::new(usize::MAX))
+    }
+
+    /// Enough for a font of so many bytes: each is loaded several times over, and small ones more often.
+    pub const fn for_font(len: usize) -> Self {
+        Self(Cell::new((64 << 20) + 16 * len))
+    }
+
+    fn spend(&self, cost: usize) -> Result<(), FontError> {
+        let left = self.0.get().checked_sub(cost);
+        self.0.set(left.unwrap_or(0));
+        left.map(drop).ok_or(FontError::TooMuch)
+    }
+}
 
 /// A store in the making. What is at one place in the font is one object.
 pub(super) struct Loader<'a> {
@@ -12,6 +36,7 @@ pub(super) struct Loader<'a> {
     objects: HashMap<(usize, usize), u32>,
     /// The children by parent and position.
     links: BTreeMap<(u32, u32), u32>,
+    budget: &'a Budget,
 }
 
 /// An object, and where in the GPOS table it starts.
@@ -22,12 +47,13 @@ pub(super) struct Placed {
 }
 
 impl<'a> Loader<'a> {
-    pub fn new(gpos: Bytes<'a>) -> Self {
+    pub fn new(gpos: Bytes<'a>, budget: &'a Budget) -> Self {
         Self {
             gpos,
             store: Store::new(),
             objects: HashMap::new(),
             links: BTreeMap::new(),
+            budget,
         }
     }
 
@@ -84,6 +110,7 @@ impl<'a> Loader<'a> {
         let object = match self.objects.get(&(start, len)) {
             Some(&object) => object,
             None => {
+                self.budget.spend(8 + len)?;
                 let object = self.store.add_object(bytes)?;
                 self.objects.insert((start, len), object);
                 object
@@ -101,6 +128,7 @@ impl<'a> Loader<'a> {
         if self.links.len() > Room::MOST.links {
             return Err(Refusal::NoRoom.into());
         }
+        self.budget.spend(16)?;
         let position = (parent.object, position as u32);
         self.links.entry(position).or_insert(child.object);
         Ok(())

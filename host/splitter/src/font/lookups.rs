@@ -17,6 +17,8 @@ pub struct Lookups {
     pub of_kind: usize,
     /// The subtables of the kind.
     pub subtables: Vec<Subtable>,
+    /// How many subtables were looked at.
+    seen: usize,
 }
 
 /// A subtable.
@@ -64,6 +66,10 @@ impl Lookups {
             return Ok(());
         }
         let before = self.subtables.len();
+        self.seen += count;
+        if self.seen > MOST_SUBTABLES {
+            return Err(FontError::ManySubtables);
+        }
         for number in 0..count {
             let subtable = start + gpos.u16(start + 6 + 2 * number, "a lookup")?;
             let start = match found == wanted {
@@ -75,9 +81,6 @@ impl Lookups {
                 number,
                 start,
             }));
-            if self.subtables.len() > MOST_SUBTABLES {
-                return Err(FontError::ManySubtables);
-            }
         }
         let any = self.subtables.len() > before || found == wanted;
         self.of_kind += usize::from(any);

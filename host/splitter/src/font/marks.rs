@@ -4,7 +4,7 @@ use super::{
     bytes::Bytes,
     error::FontError,
     lengths,
-    loader::{Loader, Placed},
+    loader::{Budget, Loader, Placed},
 };
 use crate::Store;
 use std::collections::HashSet;
@@ -13,7 +13,15 @@ const WHAT: &str = "a mark table";
 
 /// A MarkBasePos table with all that it leads to, as object [`TABLE`](super::TABLE) of a store.
 pub fn load_marks(gpos: Bytes, start: usize) -> Result<Store, FontError> {
-    let mut loader = Loader::new(gpos);
+    load_marks_within(gpos, start, &Budget::for_table())
+}
+
+pub(super) fn load_marks_within(
+    gpos: Bytes,
+    start: usize,
+    budget: &Budget,
+) -> Result<Store, FontError> {
+    let mut loader = Loader::new(gpos, budget);
     match gpos.u16(start, WHAT)? {
         1 => Marks::new(&mut loader).load(start)?,
         _ => drop(loader.object(start, 2, WHAT)?),

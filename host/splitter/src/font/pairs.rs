@@ -4,7 +4,7 @@ use super::{
     bytes::Bytes,
     error::FontError,
     lengths,
-    loader::{Loader, Placed},
+    loader::{Budget, Loader, Placed},
 };
 use crate::Store;
 use std::collections::HashSet;
@@ -13,7 +13,15 @@ const WHAT: &str = "a pair table";
 
 /// A PairPos table with all that it leads to, as object [`TABLE`](super::TABLE) of a store.
 pub fn load_pairs(gpos: Bytes, start: usize) -> Result<Store, FontError> {
-    let mut loader = Loader::new(gpos);
+    load_pairs_within(gpos, start, &Budget::for_table())
+}
+
+pub(super) fn load_pairs_within(
+    gpos: Bytes,
+    start: usize,
+    budget: &Budget,
+) -> Result<Store, FontError> {
+    let mut loader = Loader::new(gpos, budget);
     match gpos.u16(start, WHAT)? {
         1 => loader.load_sets(start)?,
         2 => loader.load_rows(start)?,

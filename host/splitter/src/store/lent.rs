@@ -16,7 +16,7 @@ impl Link {
         [self.parent, self.position, 2, self.child]
     }
 
-    fn of_row(&[parent, position, _, child]: &[u32; 4]) -> Self {
+    pub(crate) fn of_row(&[parent, position, _, child]: &[u32; 4]) -> Self {
         Self {
             parent,
             position,
@@ -68,8 +68,7 @@ impl<'a> StoreRef<'a> {
 
     /// An object's bytes, if it is in use.
     pub fn object(self, number: u32) -> Option<&'a [u8]> {
-        let rows = in_use(self.objects.as_chunks().0, self.counts[1]);
-        let &[head, tail] = rows.get(number as usize)?;
+        let &[head, tail] = self.object_rows().get(number as usize)?;
         self.data().get(head as usize..tail as usize)
     }
 
@@ -98,7 +97,13 @@ impl<'a> StoreRef<'a> {
         rows.binary_search_by_key(&[parent, position], |row| [row[0], row[1]])
     }
 
-    pub(super) fn link_rows(self) -> &'a [[u32; 4]] {
+    /// The rows of objects in use: head and tail.
+    pub fn object_rows(self) -> &'a [[u32; 2]] {
+        in_use(self.objects.as_chunks().0, self.counts[1])
+    }
+
+    /// The rows of links in use: parent, position, width and child.
+    pub fn link_rows(self) -> &'a [[u32; 4]] {
         in_use(self.links.as_chunks().0, self.counts[2])
     }
 }

@@ -8,13 +8,13 @@ use Rattle.mark_points.proofs.anchors.class_size.Tie as tie
 
 marks-size-requires : tie.Need-marks-size-requires
 marks-size-requires c κs =
-    let s = c .before .before .before .before .before .before .before .before .before in
+    let s = c .before .before .before .before .before .before .before .before .before .before in
     (s .pre .1 .0 .marks, walks-on (s .pre .1 .1) (c .before .before .before .column-size .ensures))
 
 add-result : tie.Need-add-result
 add-result c =
     let a = c .before .before .before .before .before .before in
-    let goes = a .before .before .before .before .before .before .pre .1 .1 in
+    let goes = a .before .before .before .before .before .before .before .pre .1 .1 in
     omega (arith, walks-most goes (a .column-size .ensures), walks-most (walks-on goes (a .column-size .ensures)) (c .before .before .marks-size .ensures))
 
 returns : tie.Need-returns

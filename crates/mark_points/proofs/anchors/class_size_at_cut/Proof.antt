@@ -10,7 +10,7 @@ returns : tie.Need-returns
 returns c =
     record {
       again = λ e. c .before .before .class-size .ensures;
-      stays = λ e. true-false (sym (eq-eqb _ 2 (c .before .before .before .before .if1 .taken)) ∙ e);
+      stays = λ e. true-false (sym (eq-eqb _ 2 (c .before .before .before .before .before .if1 .taken)) ∙ e);
     }
 
 returns-2 : tie.Need-returns-2

@@ -4,25 +4,28 @@ use native.Mathlib.Omega.{arith}
 use lib.Arith.{digits-lt}
 use borrow.Author.Needs.{needs}
 use Rattle.ot_layouts.specs.MarkBasePos.{baseSlot}
-use Rattle.mark_points.proofs.Walking.{Walking, walking-start, walking-turn, walking-stop, walks-on, walks-most}
+use Rattle.mark_points.proofs.Walking.{Walking, walking-start, walking-turn, walking-stop, walks-on, walks-most, goes-few}
 use Rattle.mark_points.proofs.anchors.column_size.Statement.{statement}
 use Rattle.mark_points.proofs.anchors.column_size.Tie as tie
 
 abbrev Inv-loop : tie.InvT-loop
-Inv-loop objects links counts array rows bases classes class epoch walk₀ size₀ base₀ walk size base =
+Inv-loop objects links counts array rows bases classes class epoch held₀ walk₀ each near₀ size₀ base₀ held walk near size base =
     Walking objects links counts array (λ j. baseSlot (j * classes + class)) epoch walk₀ bases base walk size
 
 abbrev μ-loop : tie.MeasureT-loop
-μ-loop objects links counts array rows bases classes class epoch walk₀ size₀ base₀ walk size base = bases - base
+μ-loop objects links counts array rows bases classes class epoch held₀ walk₀ each near₀ size₀ base₀ held walk near size base = bases - base
+
+-- the function's start
+abbrev start : tie.At-loop Inv-loop μ-loop → tie.Start Inv-loop μ-loop
+start a = a .before .before .before .before .before
 
 -- the slot lies within the array
 short : (c : tie.In-loop Inv-loop μ-loop)
-    → (let a = c .before in let x = a .before .before .before .before .args in a .loop .base * x .classes + x .class < x .bases * x .classes)
+    → (let a = c .before in let x = start a .args in a .loop .base * x .classes + x .class < x .bases * x .classes)
 short c =
     let a = c .before in
-    let s = a .before .before .before .before in
-    let h : a .loop .base < s .args .bases = omega arith in
-    digits-lt h (s .pre .0 .0)
+    let h : a .loop .base < start a .args .bases = omega arith in
+    digits-lt h (start a .pre .0 .0)
 
 loop-holds : tie.Need-loop-holds Inv-loop μ-loop
 loop-holds c = walking-start
@@ -34,30 +37,39 @@ add-slot : tie.Need-add-slot Inv-loop μ-loop
 add-slot c = omega (arith, short c)
 
 mul-slot-size : tie.Need-mul-slot-size Inv-loop μ-loop
-mul-slot-size c = omega (arith, short c)
+mul-slot-size c = omega (arith, short (c .before .before))
 
 add-slot-size : tie.Need-add-slot-size Inv-loop μ-loop
-add-slot-size c = omega (arith, short c)
+add-slot-size c = omega (arith, short (c .before .before))
 
 cast-slot-size : tie.Need-cast-slot-size Inv-loop μ-loop
-cast-slot-size c = omega (arith, short c)
+cast-slot-size c = omega (arith, short (c .before .before))
 
 slot-size-requires : tie.Need-slot-size-requires Inv-loop μ-loop
 slot-size-requires c κs =
-    let a = c .before .before in
-    let s = a .before .before .before .before in (
-      (omega (arith, short (c .before), s .pre .0 .1), omega (arith, short (c .before), s .pre .0 .1)),
-      (s .pre .1 .0, walks-on (s .pre .1 .1) (a .loop .inv .walked)),
-    )
+    let in-loop = c .before .before .before in
+    let a = in-loop .before in
+    let s = start a in
+    (omega (arith, short in-loop, s .pre .0 .1), (s .pre .1 .0, walks-on (s .pre .1 .1) (a .loop .inv .walked)))
+
+add-near : tie.Need-add-near Inv-loop μ-loop
+add-near c =
+    let after-slot = c .before .before .before .before .before in
+    let a = after-slot .before .before .before .before .before in
+    let s = start a in
+    omega (arith, after-slot .slot-size .ensures .row-most, a .before .rows-each .ensures, s .pre .1 .0 .after .within, goes-few (s .pre .1 .1))
 
 add-size : tie.Need-add-size Inv-loop μ-loop
 add-size c =
-    let a = c .before .before .before .before .before in
-    let goes = a .before .before .before .before .pre .1 .1 in
-    omega (arith, walks-most goes (a .loop .inv .walked), walks-most (walks-on goes (a .loop .inv .walked)) (c .before .before .slot-size .ensures))
+    let after-slot = c .before .before .before .before .before .before in
+    let a = after-slot .before .before .before .before .before in
+    let goes = start a .pre .1 .1 in
+    omega (arith, walks-most goes (a .loop .inv .walked), walks-most (walks-on goes (a .loop .inv .walked)) (after-slot .slot-size .ensures .walked))
 
 loop-again : tie.Need-loop-again Inv-loop μ-loop
-loop-again c = walking-turn (c .before .before .before .before .before .loop .inv) (search needs) (search needs) (c .before .before .slot-size .ensures)
+loop-again c =
+    let after-slot = c .before .before .before .before .before .before in
+    walking-turn (after-slot .before .before .before .before .before .loop .inv) (search needs) (search needs) (after-slot .slot-size .ensures .walked)
 
 returns : tie.Need-returns Inv-loop μ-loop
 returns c = walking-stop (c .before .loop .inv) (search needs)
@@ -68,14 +80,20 @@ column-size-spec =
     (tie.spec
     Inv-loop
     μ-loop
+    (λ c κs. search needs)
     loop-holds
     (λ c. search needs)
     mul-slot
     add-slot
+    (λ c. search needs)
+    (λ c κs. search needs)
     mul-slot-size
     add-slot-size
     cast-slot-size
     slot-size-requires
+    (λ c. search needs)
+    (λ c κs. search needs)
+    add-near
     add-size
     (λ c. search needs)
     (λ c. search needs)

@@ -5,7 +5,7 @@ use lib.ListN.{length, getD}
 use denote.Ref.{now}
 use borrow.Author.Needs.{needs}
 use Rattle.ot_layouts.specs.MarkBasePos.{markSlot}
-use Rattle.mark_points.proofs.Walking.{Walking, walking-start, walking-turn, walking-all, walks-on, walks-most}
+use Rattle.mark_points.proofs.Walking.{Walking, walking-start, walking-turn, walking-all, walks-on, walks-most, goes-few}
 use Rattle.mark_points.proofs.anchors.marks_size.Statement.{statement}
 use Rattle.mark_points.proofs.anchors.marks_size.Tie as tie
 
@@ -27,29 +27,39 @@ short c = omega (arith, c .shared-slice-known4 .given (c .before .before .loop .
 cast-place : tie.Need-cast-place Inv-loop μ-loop
 cast-place c = omega (arith, short c)
 
-mul-slot-size : tie.Need-mul-slot-size Inv-loop μ-loop
-mul-slot-size c = omega (arith, short c)
-
 add-slot-size : tie.Need-add-slot-size Inv-loop μ-loop
-add-slot-size c = omega (arith, short c)
+add-slot-size c =
+    let known = c .before in
+    let s = known .before .before .before .before .before .before .before in
+    omega (arith, short known, s .pre .0 .first .within, goes-few (s .pre .1))
+
+mul-slot-size : tie.Need-mul-slot-size Inv-loop μ-loop
+mul-slot-size c = omega (arith, short (c .before))
+
+add-slot-size-2 : tie.Need-add-slot-size-2 Inv-loop μ-loop
+add-slot-size-2 c = omega (arith, short (c .before))
 
 cast-slot-size : tie.Need-cast-slot-size Inv-loop μ-loop
-cast-slot-size c = omega (arith, short c)
+cast-slot-size c = omega (arith, short (c .before))
 
 slot-size-requires : tie.Need-slot-size-requires Inv-loop μ-loop
 slot-size-requires c κs =
-    let a = c .before .before .before in
+    let known = c .before .before in
+    let a = known .before .before in
     let s = a .before .before .before .before .before in
-    ((omega (arith, short (c .before)), omega (arith, short (c .before))), (s .pre .0, walks-on (s .pre .1) (a .loop .inv .walked)))
+    (omega (arith, short known), (s .pre .0, walks-on (s .pre .1) (a .loop .inv .walked)))
 
 add-size : tie.Need-add-size Inv-loop μ-loop
 add-size c =
-    let a = c .before .before .before .before .before .before in
+    let after-slot = c .before .before .before in
+    let a = after-slot .before .before .before .before .before in
     let goes = a .before .before .before .before .before .pre .1 in
-    omega (arith, walks-most goes (a .loop .inv .walked), walks-most (walks-on goes (a .loop .inv .walked)) (c .before .before .slot-size .ensures))
+    omega (arith, walks-most goes (a .loop .inv .walked), walks-most (walks-on goes (a .loop .inv .walked)) (after-slot .slot-size .ensures .walked))
 
 loop-again : tie.Need-loop-again Inv-loop μ-loop
-loop-again c = walking-turn (c .before .before .before .before .before .before .loop .inv) (search needs) (search needs) (c .before .before .slot-size .ensures)
+loop-again c =
+    let after-slot = c .before .before .before in
+    walking-turn (after-slot .before .before .before .before .before .loop .inv) (search needs) (search needs) (after-slot .slot-size .ensures .walked)
 
 returns : tie.Need-returns Inv-loop μ-loop
 returns c = walking-all markSlot (now (c .before .before .before .before .before .before .args .places)) (c .before .loop .inv) (search needs)
@@ -64,8 +74,9 @@ marks-size-spec =
     (λ c. search needs)
     (λ c. search needs)
     cast-place
-    mul-slot-size
     add-slot-size
+    mul-slot-size
+    add-slot-size-2
     cast-slot-size
     slot-size-requires
     add-size

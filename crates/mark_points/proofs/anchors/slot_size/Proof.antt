@@ -11,7 +11,7 @@ use Rattle.mark_points.proofs.anchors.slot_size.Tie as tie
 row-near-requires : tie.Need-row-near-requires
 row-near-requires c κs =
     let s = c .before .before .before in
-    (in-order _ (sound-fits _ (s .pre .1 .1 .1 .is-sound)), among-parent (s .pre .1 .0) _ (omega (arith, s .pre .0 .1)), s .pre .0 .0)
+    (in-order _ (sound-fits _ (s .pre .1 .1 .1 .is-sound)), among-parent (s .pre .1 .0) _ (omega (arith, s .pre .0)))
 
 next-row-requires : tie.Need-next-row-requires
 next-row-requires c κs =
@@ -23,9 +23,13 @@ returns c =
     let n = c .before .before .before .before in
     let s = n .before .before .before .before .before in
     record {
-      grown = λ b from u v.
-          slot-grown _ _ (sound-fits _ u) (s .pre .0 .1) (n .before .row-near .ensures) (n .next-row .ensures) v
-          (c .before .before .subgraph-size .ensures b from v);
+      walked = record {
+        grown = λ b from u v.
+            slot-grown _ _ (sound-fits _ u) (s .pre .0) (n .before .row-near .ensures) (n .next-row .ensures) v
+            (c .before .before .subgraph-size .ensures b from v);
+      };
+      row-most = n .before .row-near .ensures .within;
+      next-most = n .next-row .ensures .within;
     }
 
 pub slot-size-spec : {M : Type 1} → statement M

@@ -1,7 +1,7 @@
 -- `find_spot::spot_by_set` meets its contract: by the count of sets, and by the link at the slot. Assumes nothing.
 use Rattle.store_reader.proofs.Rows.{rows-in-order}
 use Rattle.store_rules.specs.Store.{lent}
-use Rattle.pair_reading.proofs.Finding.{no-set, no-link, set-inside, in-linked-set}
+use Rattle.pair_reading.proofs.Finding.{no-set, no-link, set-inside, set-is-sorted, in-linked-set}
 use borrow.Author.Needs.{needs}
 use Rattle.pair_reading.proofs.find_spot.spot_by_set.Statement.{statement}
 use Rattle.pair_reading.proofs.find_spot.spot_by_set.Tie as tie
@@ -16,7 +16,7 @@ child-at-requires : tie.Need-child-at-requires
 child-at-requires c κs =
     let start = c .before .before .before .before .before in
     let a = start .args in
-    rows-in-order (lent (a .«data» .now) (a .objects .now) (a .links .now) (a .counts)) (start .pre)
+    rows-in-order (lent (a .«data» .now) (a .objects .now) (a .links .now) (a .counts)) (start .pre .0)
 
 returns-2 : tie.Need-returns-2
 returns-2 c =
@@ -30,8 +30,14 @@ spot-in-set-requires c κs =
     let a = start .args in (
       set-inside (lent (a .«data» .now) (a .objects .now) (a .links .now) (a .counts)) (a .table) (a .layout) (a .second) (a .k)
           (c .before .before .before .before .before .if1 .left)
-          (c .before .before .before .before .child-at .ensures (a .«data» .now) (a .objects .now)) (c .before .before .child .given .1) (start .pre),
-      c .record-size .ensures .1,
+          (c .before .before .before .before .child-at .ensures (a .«data» .now) (a .objects .now)) (c .before .before .child .given .1) (start .pre .0),
+      (
+        c .record-size .ensures .1,
+        set-is-sorted (lent (a .«data» .now) (a .objects .now) (a .links .now) (a .counts)) (a .table) (a .layout) (a .second) (a .k)
+            (c .before .before .before .before .before .if1 .left)
+            (c .before .before .before .before .child-at .ensures (a .«data» .now) (a .objects .now)) (c .before .before .child .given .1) (start .pre .1)
+            (c .record-size .ensures .0),
+      ),
     )
 
 returns-3 : tie.Need-returns-3

@@ -1,10 +1,16 @@
 -- `find_spot::spot_in_set` meets its contract: by what the search finds. Assumes nothing.
+use mathlib.Core.List.{[]}
 use native.Mathlib.Omega.{arith}
 use Rattle.store_rules.specs.Store.{lent}
 use Rattle.pair_reading.proofs.Finding.{record-in, no-record-in, record-place}
 use borrow.Author.Needs.{needs}
 use Rattle.pair_reading.proofs.find_spot.spot_in_set.Statement.{statement}
 use Rattle.pair_reading.proofs.find_spot.spot_in_set.Tie as tie
+
+record-in-set-requires : tie.Need-record-in-set-requires
+record-in-set-requires c κs =
+    let start = c .before .before .before in
+    (start .pre .1 .0, rw (c .bytes-of .ensures [] []) (start .pre .1 .1 [] []))
 
 mul-at : tie.Need-mul-at
 mul-at c =
@@ -29,7 +35,7 @@ spot-in-set-spec =
     tie.close
     (tie.spec
     (λ c κs. search needs)
-    (λ c κs. search needs)
+    record-in-set-requires
     (λ c. search needs)
     (λ c. search needs)
     mul-at

@@ -1,6 +1,6 @@
 //! The names of the commands.
 
-use crate::command::failure::Failure;
+use crate::command::{failure::Failure, text::shown_word};
 use std::ffi::OsStr;
 
 /// A command.
@@ -16,6 +16,8 @@ pub enum Name {
     Pair,
     /// `mark`
     Mark,
+    /// `dump`
+    Dump,
     /// `font`
     Font,
     /// `help`
@@ -23,12 +25,13 @@ pub enum Name {
 }
 
 impl Name {
-    const ALL: [Self; 7] = [
+    const ALL: [Self; 8] = [
         Self::Sample,
         Self::Plan,
         Self::Split,
         Self::Pair,
         Self::Mark,
+        Self::Dump,
         Self::Font,
         Self::Help,
     ];
@@ -41,6 +44,7 @@ impl Name {
             Self::Split => "split",
             Self::Pair => "pair",
             Self::Mark => "mark",
+            Self::Dump => "dump",
             Self::Font => "font",
             Self::Help => "help",
         }
@@ -50,7 +54,13 @@ impl Name {
     pub const fn options(self) -> &'static [(&'static str, bool)] {
         match self {
             Self::Sample => &[("--output", true), ("--ascii", false)],
-            Self::Plan => &[("--marks", false), ("--all", false), ("--ascii", false)],
+            Self::Plan => &[
+                ("--marks", false),
+                ("--all", false),
+                ("--ascii", false),
+                ("--json", false),
+                ("--quiet", false),
+            ],
             Self::Split => &[
                 ("--output", true),
                 ("--in-place", false),
@@ -58,8 +68,13 @@ impl Name {
                 ("--marks", false),
                 ("--all", false),
                 ("--ascii", false),
+                ("--json", false),
+                ("--quiet", false),
             ],
-            Self::Pair | Self::Mark | Self::Font | Self::Help => &[],
+            Self::Pair | Self::Mark => &[("--json", false), ("--quiet", false)],
+            Self::Dump => &[("--marks", false), ("--all", false), ("--json", false)],
+            Self::Font => &[("--output", true), ("--json", false), ("--quiet", false)],
+            Self::Help => &[],
         }
     }
 
@@ -67,7 +82,7 @@ impl Name {
     pub fn of(word: &OsStr) -> Result<Self, Failure> {
         let named = |name: &Self| word == name.word();
         Self::ALL.into_iter().find(named).ok_or_else(|| {
-            let word = word.to_string_lossy();
+            let word = shown_word(word);
             let near = Self::ALL
                 .into_iter()
                 .find(|name| is_near(&word, name.word()));

@@ -17,7 +17,16 @@ fn plan_of(file: &str, table: Option<u32>) -> Plan {
         marks: false,
         all: false,
         ascii: false,
+        form: Form::Text,
     }
+}
+
+fn font_of(file: impl Into<PathBuf>, directory: Option<&str>) -> Request {
+    Request::Font(Font {
+        file: file.into(),
+        directory: directory.map(PathBuf::from),
+        form: Form::Text,
+    })
 }
 
 #[test]
@@ -44,26 +53,62 @@ fn requests() {
     assert_eq!(of("plan f"), Ok(Request::Plan(plan_of("f", None))));
     assert_eq!(of("plan f 0x1F"), Ok(Request::Plan(plan_of("f", Some(31)))));
     assert_eq!(of("plan -- -f"), Ok(Request::Plan(plan_of("-f", None))));
-    let pair = Pair {
-        file: "f".into(),
-        table: 3,
-        glyphs: [65_535, 0],
+    let pair = |table| {
+        Request::Pair(Pair {
+            file: "f".into(),
+            table,
+            glyphs: [65_535, 0],
+            form: Form::Text,
+        })
     };
-    assert_eq!(of("pair f 3 65535 0"), Ok(Request::Pair(pair)));
-    let mark = Mark {
-        file: "f".into(),
-        table: 3,
-        mark: 65_535,
-        base: 0,
+    assert_eq!(of("pair f 3 65535 0"), Ok(pair(Some(3))));
+    assert_eq!(of("pair f 65535 0"), Ok(pair(None)));
+    let mark = |table| {
+        Request::Mark(Mark {
+            file: "f".into(),
+            table,
+            mark: 65_535,
+            base: 0,
+            form: Form::Text,
+        })
     };
-    assert_eq!(of("mark f 3 65535 0"), Ok(Request::Mark(mark)));
+    assert_eq!(of("mark f 3 65535 0"), Ok(mark(Some(3))));
+    assert_eq!(of("mark f 65535 0"), Ok(mark(None)));
     let marks = Plan {
         marks: true,
         ..plan_of("f", Some(3))
     };
     assert_eq!(of("plan --marks f 3"), Ok(Request::Plan(marks)));
-    assert_eq!(of("font f"), Ok(Request::Font(Font { file: "f".into() })));
+    let dump = |object, all| {
+        Request::Dump(Dump {
+            file: "-".into(),
+            object,
+            marks: false,
+            all,
+            form: Form::Text,
+        })
+    };
+    assert_eq!(of("dump -"), Ok(dump(None, false)));
+    assert_eq!(of("dump - 7 --all"), Ok(dump(Some(7), true)));
+    assert_eq!(of("font f"), Ok(font_of("f", None)));
+    assert_eq!(of("font f -o D"), Ok(font_of("f", Some("D"))));
     assert_eq!(of("--version"), Ok(Request::Version));
+}
+
+/// A store that goes to standard output has it for itself.
+#[test]
+fn forms() {
+    for (words, form) in [
+        ("plan f", Form::Text),
+        ("plan f --json", Form::Json),
+        ("pair f 1 2 -q", Form::Quiet),
+        ("font f --quiet", Form::Quiet),
+        ("split f -o g --json", Form::Json),
+        ("split f -o -", Form::Quiet),
+        ("split - -o ./-", Form::Text),
+    ] {
+        assert_eq!(of(words).unwrap().form(), form, "{words}");
+    }
 }
 
 #[test]
@@ -115,10 +160,15 @@ fn words_that_cannot_be_followed() {
         ("split f -o", "wants a name behind -o"),
         ("split f -o g -o h", "takes -o once"),
         ("split f -o g --in-place", "not both"),
-        ("pair f 0 1", "pair wants G2"),
+        ("split f -o - --json", "not both"),
+        ("split - --in-place", "cannot write over standard input"),
+        ("plan f --json --quiet", "takes --json or --quiet, not both"),
+        ("dump f --quiet", "has no option --quiet"),
+        ("pair f 0", "pair wants G2"),
+        ("pair f 0 1 2 3", "no use for the word \"3\""),
         ("pair f 0 1 65536", "from 0 to 65535"),
         ("font", "font wants FILE"),
-        ("mark f 0 1", "mark wants BASE"),
+        ("mark f 0", "mark wants BASE"),
         (
             "mark f 0 65536 1",
             "wants MARK to be a number from 0 to 65535",
@@ -139,5 +189,5 @@ fn names_that_are_not_text() {
     use std::os::unix::ffi::OsStringExt;
     let name = OsString::from_vec(vec![b'-', 0xFF]);
     let request = read(["font".into(), name.clone()]).unwrap();
-    assert_eq!(request, Request::Font(Font { file: name.into() }));
+    assert_eq!(request, font_of(name, None));
 }

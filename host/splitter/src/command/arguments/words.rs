@@ -1,7 +1,7 @@
 //! The words behind a command, sorted.
 
 use super::Name;
-use crate::command::failure::Failure;
+use crate::command::{failure::Failure, screen::Form, text::shown_word};
 use std::{collections::VecDeque, ffi::OsString};
 
 /// The words behind a command: its options, and the rest in order.
@@ -44,11 +44,13 @@ impl Words {
         let long = match word {
             "-h" => "--help",
             "-o" => "--output",
+            "-q" => "--quiet",
             word => word,
         };
         let options = [("--help", false)];
         let mut options = options.iter().chain(self.command.options());
         let Some(&(name, takes_value)) = options.find(|(name, _)| *name == long) else {
+            let word = shown_word(word.as_ref());
             return Err(self.failure(&format!("has no option {word}")));
         };
         if self.has(name) {
@@ -79,6 +81,21 @@ impl Words {
         options.find(|(option, _)| *option == name)?.1.clone()
     }
 
+    /// What is written to standard output.
+    pub fn form(&self) -> Result<Form, Failure> {
+        match (self.has("--json"), self.has("--quiet")) {
+            (false, false) => Ok(Form::Text),
+            (true, false) => Ok(Form::Json),
+            (false, true) => Ok(Form::Quiet),
+            (true, true) => Err(self.failure("takes --json or --quiet, not both")),
+        }
+    }
+
+    /// How many words are left that are no options.
+    pub fn count(&self) -> usize {
+        self.operands.len()
+    }
+
     /// The next word that is no option, if there is one.
     pub fn optional(&mut self) -> Option<OsString> {
         self.operands.pop_front()
@@ -104,7 +121,7 @@ impl Words {
 
     /// A number, in tens or, behind `0x`, in sixteens.
     fn to_number<N: TryFrom<u32>>(&self, what: &str, word: &OsString) -> Result<N, Failure> {
-        let word = word.to_string_lossy();
+        let word = shown_word(word);
         let number = match word.strip_prefix("0x") {
             Some(digits) if !digits.starts_with('+') => u32::from_str_radix(digits, 16).ok(),
             _ => word.parse().ok(),
@@ -124,7 +141,7 @@ impl Words {
         match self.optional() {
             None => Ok(()),
             Some(word) => {
-                let word = word.to_string_lossy();
+                let word = shown_word(&word);
                 Err(self.failure(&format!("has no use for the word \"{word}\"")))
             }
         }

@@ -7,7 +7,7 @@ use super::*;
 use made::{collection, extension, font, gpos, lookup, mark_table, pair_rows, pair_sets, words};
 use splitter::{
     cut_plan,
-    font::{lengths, load_pairs},
+    font::{lengths, load_pairs, Bytes, Lookups},
     read_pair, PairValues, Store, Values,
 };
 
@@ -17,11 +17,7 @@ fn look_into(file: &[u8]) -> Result<Vec<Seen>, FontError> {
 }
 
 fn look_into_by(file: &[u8], scratch: &mut Scratch) -> Result<Vec<Seen>, FontError> {
-    let Some(gpos) = find_gpos(file)? else {
-        return Ok(Vec::new());
-    };
-    let subtables = Found::read(gpos)?.subtables();
-    Ok(see_all(gpos, &subtables, scratch))
+    Ok(see_all(&FontTables::read(file)?, scratch))
 }
 
 /// The store of the only subtable of a lookup for pairs.
@@ -104,7 +100,12 @@ fn lookups_of_both_kinds() {
     let seen = look_into(&file).unwrap();
     let places: Vec<_> = seen
         .iter()
-        .map(|seen| (seen.kind, seen.subtable.lookup, seen.subtable.number))
+        .map(|seen| {
+            let [Listed { lookup, subtable }] = seen.table.listed[..] else {
+                panic!("listed once")
+            };
+            (seen.table.kind, lookup, subtable)
+        })
         .collect();
     let (pairs, marks) = (Kind::Pairs, Kind::Marks);
     let expected = [(pairs, 1, 0), (pairs, 1, 1), (pairs, 2, 0), (marks, 2, 1)];
@@ -119,8 +120,7 @@ fn lookups_of_both_kinds() {
         .collect();
     let expected = [(1, 4, 4, 72), (2, 2, 3, 68), (2, 2, 3, 58), (1, 2, 2, 82)];
     assert_eq!(looks, expected);
-    let gpos = find_gpos(&file).unwrap().unwrap();
-    let found = Found::read(gpos).unwrap().in_words();
+    let found = in_words(&FontTables::read(&file).unwrap());
     let expected = "3 lookups in GPOS: 2 for pairs, with 3 subtables; \
                     1 for marks on bases, with 1 subtable";
     assert_eq!(found, expected);
@@ -207,6 +207,61 @@ fn subtables_without_end() {
     gpos.resize(lookup + 6 + 2 * 60_000, 0);
     let read = Lookups::read(Bytes::new(&gpos), Kind::Pairs);
     assert_eq!(read, Err(FontError::ManySubtables));
+}
+
+/// The same, where the subtables are extensions to another kind, of which none is taken.
+#[test]
+fn extensions_without_end() {
+    let mut gpos = words(&[1, 0, 0, 0, 10, 30_000]);
+    gpos.extend(words(&[60_000; 30_000]));
+    gpos.resize(10 + 60_000, 0);
+    gpos.extend(words(&[9, 0, 60_000]));
+    gpos.resize(10 + 60_000 + 6 + 2 * 60_000, 0);
+    let read = Lookups::read(Bytes::new(&gpos), Kind::Pairs);
+    assert_eq!(read, Err(FontError::ManySubtables));
+}
+
+/// A table that is listed a thousand times is loaded once and shown once.
+#[test]
+fn a_table_that_is_listed_often() {
+    let mut often = words(&[2, 0, 1_000]);
+    often.extend(words(&[6 + 2_000; 1_000]));
+    often.extend(words(&[1, 0, 4, 0, 0]));
+    let file = font(&[(b"GPOS", gpos(&[often]))]);
+    let tables = FontTables::read(&file).unwrap();
+    assert_eq!(tables.of_kind[0], (Kind::Pairs, 1, 1_000));
+    let seen = look_into(&file).unwrap();
+    assert_eq!(seen.len(), 1);
+    let lines = seen[0].lines();
+    assert_eq!(lines.last().unwrap().trim(), "listed 999 times more");
+    assert_eq!(lines.concat().matches("no link at position 2").count(), 1);
+    let (_, table) = Store::from_font(&file, 0, 999).unwrap();
+    assert_eq!(table, Table::pairs(TABLE));
+    let none = Store::from_font(&file, 0, 1_000);
+    let (lookup, subtable) = (0, 1_000);
+    assert_eq!(none, Err(FontError::NoSubtable { lookup, subtable }));
+}
+
+/// Tables that lie one over the other, each as large as the file: soon no more of them is loaded.
+#[test]
+fn tables_over_one_another() {
+    let mut lookup = words(&[2, 0, 2_000]);
+    let starts: Vec<u16> = (0..2_000).map(|table| 5_000 + 10 * table).collect();
+    lookup.extend(words(&starts));
+    lookup.resize(5_000, 0);
+    // Each has 30,000 pair sets, which all lie behind it.
+    for _ in 0..2_000 {
+        lookup.extend(words(&[1, 60_000, 4, 0, 30_000]));
+    }
+    lookup.extend(words(&[60_000; 40_000]));
+    lookup.resize(200_000, 1);
+    let file = font(&[(b"GPOS", gpos(&[lookup]))]);
+    let seen = look_into(&file).unwrap();
+    assert_eq!(seen.len(), 2_000);
+    let given_up = |seen: &&Seen| seen.cuts == Err(FontError::TooMuch);
+    let loaded = seen.iter().position(|seen| given_up(&seen)).unwrap();
+    assert!((100..1_900).contains(&loaded), "{loaded}");
+    assert!(seen[loaded..].iter().all(|seen| given_up(&seen)));
 }
 
 /// How many lines are shown of a font, or the sentence about it.

@@ -1,0 +1,4 @@
+pub mod Widths
+pub mod Ascending
+pub mod Halved
+pub mod Slots

@@ -1,0 +1,75 @@
+//! The host library's explanations of refusals, held to the proved functions.
+
+mod mend;
+
+pub use mend::mend;
+
+use crate::{check::Outcome, Archive, Attachment, Call, MarkSubject, Pair, Scratch, Subject};
+use oracle::Store;
+use splitter::{
+    explain::{self, Lent},
+    Explanation, Kind, StoreRef,
+};
+
+/// A store as the library reads it.
+pub fn lent(store: &Store) -> StoreRef<'_> {
+    StoreRef::new(&store.data, &store.objects, &store.links, &store.counts)
+}
+
+/// Why a split, a cut plan and a reading are refused, if they are.
+pub fn explanations(kind: Kind, call: &Call<u32>) -> [Explanation; 3] {
+    let lengths = lengths(&call.scratch, call.list.len());
+    let calls = [
+        explain::Call::Split(lengths),
+        explain::Call::Plan(lengths),
+        explain::Call::Reading,
+    ];
+    calls.map(|asked| kind.explain_call(asked, lent(&call.store), call.table))
+}
+
+fn lengths(scratch: &Scratch, list: usize) -> Lent {
+    Lent {
+        walk: scratch.walk.len(),
+        glyph_set: scratch.glyph_set.len(),
+        glyphs: scratch.glyphs.len(),
+        classes: scratch.classes.len(),
+        cuts: scratch.cuts.len(),
+        list,
+    }
+}
+
+/// What the proved functions answer to a split, a cut plan and a reading.
+pub fn proved_answers(kind: Kind, call: &Call<u32>) -> [u32; 3] {
+    let (mut split, mut plan) = (call.clone(), call.to_plan());
+    let (store, table) = (&call.store, call.table);
+    match kind {
+        Kind::Pairs => [
+            Archive.split_pairpos(&mut split),
+            Archive.cut_plan(&mut plan),
+            Archive.read_pair(store, table, [0; 2], &mut Pair::default()),
+        ],
+        Kind::Marks => [
+            Archive.split_markbasepos(&mut split),
+            Archive.cut_plan_markbasepos(&mut plan),
+            Archive.read_mark(store, table, [0; 2], &mut Attachment::default()),
+        ],
+    }
+}
+
+/// The numbers that are explained are the proved functions' answers.
+pub fn as_answered(kind: Kind, call: &Call<u32>) -> Outcome {
+    let explanations = explanations(kind, call);
+    let [ours, proved] = [
+        explanations.each_ref().map(Explanation::number),
+        proved_answers(kind, call),
+    ];
+    match ours == proved {
+        true => Ok(()),
+        false => Err(format!(
+            "explained as {ours:?}, answered by {proved:?}: {}",
+            explanations
+                .map(|explanation| explanation.to_string())
+                .join("; ")
+        )),
+    }
+}

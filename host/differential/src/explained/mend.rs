@@ -1,0 +1,145 @@
+//! A fault mended, where it stands and as it is wanted.
+
+use crate::{edit, model::numbers, Call};
+use splitter::{
+    explain::{Fault, LinkRow, Part, Place, Wanted},
+    Room,
+};
+
+/// Mends what a fault names, if one of its numbers can be what is wanted.
+pub fn mend(call: &mut Call<u32>, fault: &Fault) -> Option<()> {
+    match fault {
+        Fault::Number {
+            place,
+            wanted,
+            found,
+            ..
+        } => set(call, place, nearest(*wanted, *found)?),
+        Fault::NoLink {
+            parent,
+            position,
+            part,
+        } => {
+            let object = edit::add(&mut call.store, &numbers::bytes(empty(*part)));
+            edit::link(&mut call.store, *parent, *position, object);
+            Some(())
+        }
+        Fault::Order { rows: [_, second] } => {
+            let (rows, place) = (link_rows(call), second.row);
+            match rows[place - 1][..2] == rows[place][..2] {
+                true => remove_row(call, second.row),
+                false => rows.sort_unstable(),
+            }
+            Some(())
+        }
+        Fault::NoSlot { row, .. } => {
+            remove_row(call, row.row);
+            Some(())
+        }
+        Fault::WayBack { objects } => {
+            let &[.., last, table] = &objects[..] else {
+                return None;
+            };
+            edit::remove_links(&mut call.store, |link| [link[0], link[3]] == [last, table]);
+            Some(())
+        }
+        _ => None,
+    }
+}
+
+/// The wanted number that is nearest to what was found.
+fn nearest(wanted: Wanted, found: u64) -> Option<usize> {
+    let number = match wanted {
+        Wanted::Exactly(number) | Wanted::AtLeast(number) | Wanted::AtMost(number) => number,
+        Wanted::Above(number) => number + 1,
+        Wanted::Below(number) => number.checked_sub(1)?,
+        Wanted::Either(one, other) => match found.abs_diff(one) <= found.abs_diff(other) {
+            true => one,
+            false => other,
+        },
+        _ => return None,
+    };
+    Some(number as usize)
+}
+
+fn set(call: &mut Call<u32>, place: &Place, number: usize) -> Option<()> {
+    let store = &mut call.store;
+    match *place {
+        Place::Table => call.table = number as u32,
+        Place::Count(name) => store.counts[buffer(name)?] = number as u32,
+        Place::Head(row) => store.objects[2 * row] = number as u32,
+        Place::Tail(row) => {
+            // A tail need not reach over the next head.
+            let next = store.objects_in_use().get(row + 1).map(|next| next[0]);
+            let [head, tail] = [store.objects[2 * row], number as u32];
+            let tail = next.filter(|next| *next >= head).unwrap_or(tail).min(tail);
+            store.objects[2 * row + 1] = tail.max(head);
+        }
+        Place::Link { row, column } => set_link(call, row, column, number as u32),
+        // No store holds more.
+        Place::Length { .. } if number > Room::MOST.data => return None,
+        Place::Length { object, .. } => {
+            let mut bytes = edit::bytes(store, object).to_vec();
+            bytes.resize(number, 0);
+            edit::replace(store, object, &bytes);
+        }
+        Place::Bytes { object, at, .. } => {
+            edit::set_word(store, object, at, u16::try_from(number).ok()?)
+        }
+        Place::Glyphs { object, .. } => {
+            let count = number as u16;
+            let glyphs = [1, count].into_iter().chain(0..count);
+            edit::replace(store, object, &numbers::bytes(glyphs));
+        }
+        Place::Scratch("walk") => call.scratch.walk.resize(number, 1),
+        Place::Scratch("glyph_set") => call.scratch.glyph_set.resize(number, 1),
+        Place::Scratch("glyphs") => call.scratch.glyphs.resize(number, 1),
+        Place::Scratch("classes") => call.scratch.classes.resize(number, 1),
+        Place::Scratch("cuts") => call.scratch.cuts.resize(number, 1),
+        Place::Room(name) => {
+            let used = store.counts[buffer(name)?] as usize;
+            match name {
+                "data" => store.data.resize(used + number, 1),
+                "objects" => store.objects.resize(2 * (used + number), 1),
+                _ => store.links.resize(4 * (used + number), 1),
+            }
+        }
+        Place::List => call.list.resize(number, 1),
+        _ => return None,
+    }
+    Some(())
+}
+
+fn buffer(name: &str) -> Option<usize> {
+    ["data", "objects", "links"]
+        .iter()
+        .position(|it| *it == name)
+}
+
+/// A link of no object, or outside its parent, goes; another number is set.
+fn set_link(call: &mut Call<u32>, row: LinkRow, column: &str, number: u32) {
+    match column {
+        "width" => link_rows(call)[row.row][2] = number,
+        "child" => link_rows(call)[row.row][3] = number,
+        _ => remove_row(call, row.row),
+    }
+}
+
+fn link_rows(call: &mut Call<u32>) -> &mut [[u32; 4]] {
+    let in_use = 4 * call.store.counts[2] as usize;
+    call.store.links[..in_use].as_chunks_mut().0
+}
+
+fn remove_row(call: &mut Call<u32>, row: usize) {
+    call.store.links.drain(4 * row..4 * row + 4);
+    call.store.counts[2] -= 1;
+}
+
+/// The words of a part that says nothing.
+fn empty(part: Part) -> Vec<u16> {
+    match part {
+        Part::ClassDef1 | Part::ClassDef2 => vec![2, 0],
+        Part::MarkArray | Part::BaseArray => vec![0],
+        _ => vec![1, 0],
+    }
+}

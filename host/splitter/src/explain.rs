@@ -1,0 +1,191 @@
+//! Why a call is refused: what is at fault, where, what stands there, and what should.
+//!
+//! The proved functions decide, and give a number. This looks for the reason of that number, in plain
+//! Rust and by the same documents; tests hold it to the proved functions.
+
+mod fault;
+mod glyphs;
+mod lent;
+mod links;
+mod parts;
+mod room;
+mod soundness;
+mod table;
+
+pub use fault::{Fault, LinkRow, Part, Place, Wanted};
+pub use lent::{Call, Lent};
+
+use crate::{Kind, Refusal, StoreRef};
+use std::fmt::{self, Display, Formatter};
+
+/// The answer to a call, and what is at fault where it is refused.
+///
+/// ```
+/// use splitter::{explain, Refusal, Store};
+///
+/// let mut store = Store::new();
+/// let table = store.add_object(&[0, 1, 0, 0, 0, 4, 0, 0, 0, 0])?;
+/// let coverage = store.add_object(&[0, 7, 0, 0])?;
+/// store.add_link(table, 2, coverage)?;
+///
+/// let explanation = explain(&store, table);
+/// assert_eq!(explanation.refusal(), Some(Refusal::BadParts));
+/// let sentence = "coverage, object 1: its format, at byte 0, is 7; it must be 1 or 2";
+/// assert_eq!(explanation.to_string(), sentence);
+/// # Ok::<(), Refusal>(())
+/// ```
+#[derive(Clone, Debug, Default, PartialEq, Eq)]
+pub struct Explanation(Option<(Refusal, Fault)>);
+
+impl Explanation {
+    /// The answer's number: that of the refusal, or 0.
+    pub fn number(&self) -> u32 {
+        self.refusal().map_or(0, Refusal::number)
+    }
+
+    /// By what the call is refused.
+    pub fn refusal(&self) -> Option<Refusal> {
+        self.0.as_ref().map(|(refusal, _)| *refusal)
+    }
+
+    /// What is at fault. There may be more of it.
+    pub fn fault(&self) -> Option<&Fault> {
+        self.0.as_ref().map(|(_, fault)| fault)
+    }
+}
+
+impl Display for Explanation {
+    fn fmt(&self, f: &mut Formatter) -> fmt::Result {
+        match self.fault() {
+            Some(fault) => fault.fmt(f),
+            None => f.write_str("nothing is at fault"),
+        }
+    }
+}
+
+/// Explains what a cut plan of a PairPos table answers.
+///
+/// It is [`Kind::explain`] of [`Kind::Pairs`].
+pub fn explain<'a>(store: impl Into<StoreRef<'a>>, table: u32) -> Explanation {
+    Kind::Pairs.explain(store, table)
+}
+
+/// Explains what a cut plan of a MarkBasePos table answers.
+///
+/// It is [`Kind::explain`] of [`Kind::Marks`].
+pub fn explain_marks<'a>(store: impl Into<StoreRef<'a>>, table: u32) -> Explanation {
+    Kind::Marks.explain(store, table)
+}
+
+impl Kind {
+    /// Explains what [`Kind::cut_plan`] answers for a table. A split of it is refused alike, but for
+    /// room.
+    pub fn explain<'a>(self, store: impl Into<StoreRef<'a>>, table: u32) -> Explanation {
+        self.explain_call(Call::Plan(Lent::ENOUGH), store, table)
+    }
+
+    /// Explains what a call answers that is lent these buffers.
+    pub fn explain_call<'a>(
+        self,
+        call: Call,
+        store: impl Into<StoreRef<'a>>,
+        table: u32,
+    ) -> Explanation {
+        Asked {
+            kind: self,
+            call,
+            store: store.into(),
+            table,
+        }
+        .explain()
+    }
+}
+
+/// A call, and what it is asked of.
+#[derive(Clone, Copy)]
+struct Asked<'a> {
+    kind: Kind,
+    call: Call,
+    store: StoreRef<'a>,
+    table: u32,
+}
+
+/// A check: by what it refuses, and what it finds.
+type Check = (Refusal, fn(&Asked) -> Option<Fault>);
+
+/// The checks up to the table's format, in order.
+const BEFORE_FORMAT: &[Check] = &[
+    (Refusal::Unsound, |asked| soundness::fault(asked.store)),
+    (Refusal::NoTable, table::not_in_use),
+    (Refusal::BadTable, table::without_format),
+];
+
+/// The checks of a table whose format is split, in order.
+const OF_FORMAT: &[Check] = &[
+    (Refusal::BadTable, table::length),
+    (Refusal::BadParts, parts::fault),
+    (Refusal::FewGlyphs, parts::few_glyphs),
+    (Refusal::ShortScratch, lent::short_scratch),
+    (Refusal::BadLinks, links::at_no_slot),
+    (Refusal::BadLinks, links::way_back),
+    (Refusal::NoRoom, room::short),
+];
+
+impl Asked<'_> {
+    fn explain(&self) -> Explanation {
+        let before = self.first(BEFORE_FORMAT);
+        Explanation(match before {
+            None if self.is_split() => self.first(OF_FORMAT),
+            before => before,
+        })
+    }
+
+    /// The first check that finds something, of those that the call makes.
+    fn first(&self, checks: &[Check]) -> Option<(Refusal, Fault)> {
+        let asked = checks.iter().filter(|(by, _)| self.call.refuses(*by));
+        asked
+            .map(|(by, check)| Some((*by, check(self)?)))
+            .find_map(|found| found)
+    }
+
+    /// The table's bytes.
+    fn bytes(&self) -> &[u8] {
+        self.store.object(self.table).unwrap_or_default()
+    }
+
+    fn format(&self) -> usize {
+        word(self.bytes(), 0)
+    }
+
+    /// Whether the table has a format that is split.
+    fn is_split(&self) -> bool {
+        match self.kind {
+            Kind::Pairs => matches!(self.format(), 1 | 2),
+            Kind::Marks => self.format() == 1,
+        }
+    }
+
+    /// How many pair sets, rows or mark classes the header counts.
+    fn items(&self) -> usize {
+        let place = match (self.kind, self.format()) {
+            (Kind::Pairs, 1) => 8,
+            (Kind::Pairs, _) => 12,
+            (Kind::Marks, _) => 6,
+        };
+        word(self.bytes(), place)
+    }
+
+    /// The object that is a part, and its bytes, if it is linked.
+    fn part(&self, part: Part) -> Option<(u32, &[u8])> {
+        let object = self.store.child(self.table, part.position(self.kind)?)?;
+        Some((object, self.store.object(object)?))
+    }
+}
+
+/// The number at a place, or 0 where there is none.
+fn word(bytes: &[u8], place: usize) -> usize {
+    match bytes.get(place..place + 2) {
+        Some(&[high, low]) => u16::from_be_bytes([high, low]).into(),
+        _ => 0,
+    }
+}

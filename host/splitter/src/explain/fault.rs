@@ -1,0 +1,342 @@
+//! What is at fault, and how it is said.
+
+use crate::{Kind, Link};
+use std::fmt::{self, Display, Formatter};
+
+/// What is at fault.
+#[derive(Clone, Debug, PartialEq, Eq)]
+#[non_exhaustive]
+pub enum Fault {
+    /// A number is not what it must be.
+    Number {
+        /// Where it stands.
+        place: Place,
+        /// What stands there.
+        found: u64,
+        /// What should.
+        wanted: Wanted,
+        /// What makes it so, if it is not plain.
+        because: &'static str,
+    },
+    /// A link is missing.
+    NoLink {
+        /// The object that should have it.
+        parent: u32,
+        /// Where.
+        position: u32,
+        /// What it should lead to.
+        part: Part,
+    },
+    /// Two link rows, one behind the other, do not ascend by parent and position.
+    Order {
+        /// The two.
+        rows: [LinkRow; 2],
+    },
+    /// A link stands where no offset is.
+    NoSlot {
+        /// The link.
+        row: LinkRow,
+        /// What its parent is.
+        part: Part,
+    },
+    /// Links lead from the table back to it.
+    WayBack {
+        /// The objects on the way. The first and the last are the table.
+        objects: Vec<u32>,
+    },
+}
+
+/// A link, and its place among the rows.
+#[derive(Clone, Copy, Debug, PartialEq, Eq)]
+pub struct LinkRow {
+    /// The number of the row, from 0.
+    pub row: usize,
+    /// What it says.
+    pub link: Link,
+}
+
+/// Where a number stands that is not what it must be.
+#[derive(Clone, Copy, Debug, PartialEq, Eq)]
+#[non_exhaustive]
+pub enum Place {
+    /// The number of the table that was asked for.
+    Table,
+    /// A count of what is in use: `data`, `objects` or `links`.
+    Count(&'static str),
+    /// Where an object starts, by its row.
+    Head(usize),
+    /// Where an object ends, by its row.
+    Tail(usize),
+    /// A number of a link row: its `parent`, `position`, `width` or `child`.
+    Link {
+        /// The row.
+        row: LinkRow,
+        /// The number.
+        column: &'static str,
+    },
+    /// The length of an object.
+    Length {
+        /// The object.
+        object: u32,
+        /// What it is.
+        part: Part,
+    },
+    /// A number of an object's bytes.
+    Bytes {
+        /// The object.
+        object: u32,
+        /// What it is.
+        part: Part,
+        /// Where in it the number stands.
+        at: usize,
+        /// What the number is.
+        name: &'static str,
+        /// Of which glyph, range or mark, if there are several.
+        entry: Option<usize>,
+    },
+    /// How many glyphs a coverage has.
+    Glyphs {
+        /// The object.
+        object: u32,
+        /// Which coverage it is.
+        part: Part,
+    },
+    /// The length of a scratch buffer, by its name, in numbers.
+    Scratch(&'static str),
+    /// The room behind what is in use of `data`, `objects` or `links`.
+    Room(&'static str),
+    /// The length of the list that takes the result.
+    List,
+}
+
+/// What a number should be.
+#[derive(Clone, Copy, Debug, PartialEq, Eq)]
+#[non_exhaustive]
+pub enum Wanted {
+    /// This.
+    Exactly(u64),
+    /// This or more.
+    AtLeast(u64),
+    /// This or less.
+    AtMost(u64),
+    /// More than this.
+    Above(u64),
+    /// Less than this.
+    Below(u64),
+    /// One of these two.
+    Either(u64, u64),
+}
+
+/// What an object is to a table.
+#[derive(Clone, Copy, Debug, PartialEq, Eq, Hash)]
+#[non_exhaustive]
+pub enum Part {
+    /// The table itself.
+    Table,
+    /// The coverage of a PairPos table.
+    Coverage,
+    /// Class definition 1.
+    ClassDef1,
+    /// Class definition 2.
+    ClassDef2,
+    /// The mark coverage.
+    MarkCoverage,
+    /// The base coverage.
+    BaseCoverage,
+    /// The mark array.
+    MarkArray,
+    /// The base array.
+    BaseArray,
+    /// Any object.
+    Object,
+}
+
+impl Part {
+    /// Where a table of a kind has the offset of it.
+    pub(super) const fn position(self, kind: Kind) -> Option<u32> {
+        match (kind, self) {
+            (Kind::Pairs, Self::Coverage) | (Kind::Marks, Self::MarkCoverage) => Some(2),
+            (Kind::Marks, Self::BaseCoverage) => Some(4),
+            (Kind::Pairs, Self::ClassDef1) | (Kind::Marks, Self::MarkArray) => Some(8),
+            (Kind::Pairs, Self::ClassDef2) | (Kind::Marks, Self::BaseArray) => Some(10),
+            _ => None,
+        }
+    }
+
+    /// Its name.
+    pub const fn name(self) -> &'static str {
+        match self {
+            Self::Table => "table",
+            Self::Coverage => "coverage",
+            Self::ClassDef1 => "class definition 1",
+            Self::ClassDef2 => "class definition 2",
+            Self::MarkCoverage => "mark coverage",
+            Self::BaseCoverage => "base coverage",
+            Self::MarkArray => "mark array",
+            Self::BaseArray => "base array",
+            Self::Object => "object",
+        }
+    }
+
+    /// The name with an object's number.
+    fn of(self, object: u32) -> String {
+        match self {
+            Self::Table | Self::Object => format!("{} {object}", self.name()),
+            part => format!("{}, object {object}", part.name()),
+        }
+    }
+}
+
+impl Fault {
+    /// A number that is not what it must be.
+    pub(super) fn number(
+        place: Place,
+        found: usize,
+        wanted: Wanted,
+        because: &'static str,
+    ) -> Self {
+        Self::Number {
+            place,
+            found: found as u64,
+            wanted,
+            because,
+        }
+    }
+}
+
+impl Display for Fault {
+    fn fmt(&self, f: &mut Formatter) -> fmt::Result {
+        match self {
+            Self::Number {
+                place,
+                found,
+                wanted,
+                because,
+            } => {
+                write!(f, "{place} is {found}; it must be {wanted}")?;
+                match because.is_empty() {
+                    true => Ok(()),
+                    false => write!(f, ", {because}"),
+                }
+            }
+            Self::NoLink {
+                parent,
+                position,
+                part,
+            } => write!(
+                f,
+                "table {parent} has no link at position {position}, where its {} is wanted",
+                part.name()
+            ),
+            Self::Order { rows: [a, b] } if a.place() == b.place() => write!(
+                f,
+                "link rows {} and {} both stand at position {} of object {}",
+                a.row, b.row, a.link.position, a.link.parent
+            ),
+            Self::Order { rows: [a, b] } => write!(
+                f,
+                "link rows {} and {} are out of order: object {} at position {} comes before \
+                 object {} at position {}",
+                a.row, b.row, a.link.parent, a.link.position, b.link.parent, b.link.position,
+            ),
+            Self::NoSlot { row, part } => write!(
+                f,
+                "link row {} of {} stands at position {}, which is no slot; it leads to object {}",
+                row.row,
+                part.of(row.link.parent),
+                row.link.position,
+                row.link.child,
+            ),
+            Self::WayBack { objects } => write!(
+                f,
+                "links lead from table {} back to it: {}",
+                objects.first().copied().unwrap_or_default(),
+                way(objects),
+            ),
+        }
+    }
+}
+
+/// The objects of a way: where there are many, the first ones and the last.
+fn way(objects: &[u32]) -> String {
+    const MOST: usize = 12;
+    let words = |objects: &[u32]| {
+        let words: Vec<String> = objects.iter().map(u32::to_string).collect();
+        words.join(" -> ")
+    };
+    match objects.len() {
+        0..=MOST => words(objects),
+        len => format!(
+            "{} -> .. {} more .. -> {}",
+            words(&objects[..MOST - 3]),
+            len - MOST,
+            words(&objects[len - 3..])
+        ),
+    }
+}
+
+impl LinkRow {
+    fn place(&self) -> [u32; 2] {
+        [self.link.parent, self.link.position]
+    }
+}
+
+impl Display for Place {
+    fn fmt(&self, f: &mut Formatter) -> fmt::Result {
+        match self {
+            Self::Table => f.write_str("the number of the table"),
+            Self::Count(what) => write!(f, "the count of {} in use", counted(what)),
+            Self::Head(row) => write!(f, "the head of object row {row}"),
+            Self::Tail(row) => write!(f, "the tail of object row {row}"),
+            Self::Link { row, column } => {
+                let LinkRow { row, link } = row;
+                let (parent, position) = (link.parent, link.position);
+                write!(
+                    f,
+                    "link row {row} of object {parent} at position {position}: its {column}"
+                )
+            }
+            Self::Length { object, part } => write!(f, "{}: its length", part.of(*object)),
+            Self::Bytes {
+                object,
+                part,
+                at,
+                name,
+                entry,
+            } => {
+                let part = part.of(*object);
+                match entry {
+                    None => write!(f, "{part}: its {name}, at byte {at},"),
+                    Some(entry) => write!(f, "{part}: {name} {entry}, at byte {at},"),
+                }
+            }
+            Self::Glyphs { object, part } => {
+                write!(f, "{}: the number of its glyphs", part.of(*object))
+            }
+            Self::Scratch(name) => write!(f, "the scratch {name}: its length"),
+            Self::Room(what) => write!(f, "the room for new {}", counted(what)),
+            Self::List => f.write_str("the list for the result: its length"),
+        }
+    }
+}
+
+/// What is counted in a buffer.
+fn counted(buffer: &str) -> &str {
+    match buffer {
+        "data" => "data bytes",
+        rows => rows,
+    }
+}
+
+impl Display for Wanted {
+    fn fmt(&self, f: &mut Formatter) -> fmt::Result {
+        match self {
+            Self::Exactly(number) => write!(f, "{number}"),
+            Self::AtLeast(number) => write!(f, "at least {number}"),
+            Self::AtMost(number) => write!(f, "at most {number}"),
+            Self::Above(number) => write!(f, "above {number}"),
+            Self::Below(number) => write!(f, "below {number}"),
+            Self::Either(one, other) => write!(f, "{one} or {other}"),
+        }
+    }
+}

@@ -1,0 +1,95 @@
+//! What a call is lent beside the store.
+
+use super::{glyphs, Asked, Fault, Part, Place, Wanted};
+use crate::{Kind, Refusal};
+
+/// A call, with what it is lent beside the store.
+#[derive(Clone, Copy, Debug, PartialEq, Eq)]
+pub enum Call {
+    /// A reading of a pair or of an attachment.
+    Reading,
+    /// A cut plan.
+    Plan(Lent),
+    /// A split. The room is that of the store's buffers.
+    Split(Lent),
+}
+
+/// The lengths of scratch and list, in numbers.
+#[derive(Clone, Copy, Debug, PartialEq, Eq)]
+pub struct Lent {
+    /// Of `walk`.
+    pub walk: usize,
+    /// Of `glyph_set`.
+    pub glyph_set: usize,
+    /// Of `glyphs`.
+    pub glyphs: usize,
+    /// Of `classes`.
+    pub classes: usize,
+    /// Of `cuts`.
+    pub cuts: usize,
+    /// Of the list that takes the result.
+    pub list: usize,
+}
+
+impl Lent {
+    /// Enough for any table, as this library lends it.
+    pub const ENOUGH: Self = Self {
+        walk: usize::MAX,
+        glyph_set: usize::MAX,
+        glyphs: usize::MAX,
+        classes: usize::MAX,
+        cuts: usize::MAX,
+        list: usize::MAX,
+    };
+}
+
+impl Call {
+    /// Whether it is refused for this at all.
+    pub(super) fn refuses(self, by: Refusal) -> bool {
+        match self {
+            Self::Reading => !matches!(
+                by,
+                Refusal::ShortScratch | Refusal::BadLinks | Refusal::NoRoom
+            ),
+            Self::Plan(_) | Self::Split(_) => true,
+        }
+    }
+
+    /// What it is lent; a reading needs nothing.
+    pub(super) fn lent(self) -> Lent {
+        match self {
+            Self::Reading => Lent::ENOUGH,
+            Self::Plan(lent) | Self::Split(lent) => lent,
+        }
+    }
+}
+
+pub(super) fn short_scratch(asked: &Asked) -> Option<Fault> {
+    let lent = asked.call.lent();
+    let [_, objects, _] = asked.store.counts();
+    let part = match asked.kind {
+        Kind::Pairs => Part::Coverage,
+        Kind::Marks => Part::MarkCoverage,
+    };
+    let (_, coverage) = asked.part(part)?;
+    let covered = glyphs::covered(coverage).len();
+    let of_glyphs = "one for each covered glyph";
+    let buffers = [
+        (
+            "walk",
+            lent.walk,
+            2 * objects as usize,
+            "two for each object in use",
+        ),
+        ("glyph_set", lent.glyph_set, 8_192, "one bit for each glyph"),
+        ("glyphs", lent.glyphs, covered, of_glyphs),
+        ("classes", lent.classes, covered, of_glyphs),
+        ("cuts", lent.cuts, asked.items(), "one for each item"),
+    ];
+    buffers
+        .into_iter()
+        .find_map(|(name, lent, least, because)| {
+            let wanted = Wanted::AtLeast(least as u64);
+            (lent < least).then(|| Fault::number(Place::Scratch(name), lent, wanted, because))
+        })
+}

@@ -1,0 +1,58 @@
+//! What is wrong with a table's number, or with its length.
+
+use super::{word, Asked, Fault, Part, Place, Wanted};
+use crate::Kind;
+
+pub(super) fn not_in_use(asked: &Asked) -> Option<Fault> {
+    let [_, objects, _] = asked.store.counts();
+    let wanted = Wanted::Below(objects.into());
+    (asked.table >= objects).then(|| {
+        let because = "how many objects are in use";
+        Fault::number(Place::Table, asked.table as usize, wanted, because)
+    })
+}
+
+pub(super) fn without_format(asked: &Asked) -> Option<Fault> {
+    let wanted = Wanted::AtLeast(2);
+    (asked.bytes().len() < 2).then(|| length_fault(asked, wanted, "to have a format"))
+}
+
+pub(super) fn length(asked: &Asked) -> Option<Fault> {
+    let bytes = asked.bytes();
+    let (header, of_items) = match (asked.kind, asked.format()) {
+        (Kind::Marks, _) => (12, 0),
+        (Kind::Pairs, 1) => (10, 2 * asked.items()),
+        (Kind::Pairs, _) => (16, asked.items() * row_size(bytes)),
+    };
+    let wanted = (header + of_items) as u64;
+    if bytes.len() < header {
+        let wanted = Wanted::AtLeast(header as u64);
+        return Some(length_fault(asked, wanted, "to have a header"));
+    }
+    (bytes.len() as u64 != wanted).then(|| {
+        let because = match asked.kind {
+            Kind::Pairs => "by its header",
+            Kind::Marks => "as every mark-to-base table's is",
+        };
+        length_fault(asked, Wanted::Exactly(wanted), because)
+    })
+}
+
+fn length_fault(asked: &Asked, wanted: Wanted, because: &'static str) -> Fault {
+    let place = Place::Length {
+        object: asked.table,
+        part: Part::Table,
+    };
+    Fault::number(place, asked.bytes().len(), wanted, because)
+}
+
+/// The bytes of a row of format 2.
+pub(super) fn row_size(table: &[u8]) -> usize {
+    record_size(table) * word(table, 14)
+}
+
+/// The bytes of the two values of a pair: two for each of the low eight bits of either format.
+pub(super) fn record_size(table: &[u8]) -> usize {
+    let fields = [4, 6].map(|place| (word(table, place) & 0xFF).count_ones() as usize);
+    2 * (fields[0] + fields[1])
+}
