@@ -1,0 +1,4 @@
+pub mod FewestCuts
+pub mod Resulting
+pub mod AgainUncut
+pub mod MarksFit
