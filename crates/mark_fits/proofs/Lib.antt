@@ -2,3 +2,4 @@ pub mod FewestCuts
 pub mod Resulting
 pub mod AgainUncut
 pub mod MarksFit
+pub mod Pinned
