@@ -1,8 +1,8 @@
 -- Those of a list whose number lies in a range, and what they count together. Assumes nothing.
-use Prim.Native.Nat.{ℕ, _+_, _<_, _≤_}
+use Prim.Native.Nat.{ℕ, _+_, _-_, _<_, _≤_}
 use mathlib.Core.Path.{_≡_, refl, sym, ap, _∙_}
 use mathlib.Core.Bool.{Bool, true, false, cond, _&&_, _||_}
-use mathlib.Core.List.{List, [], _∷_}
+use mathlib.Core.List.{List, [], _∷_, map}
 use mathlib.Core.Logic.{_⊎_, inl, inr}
 use native.Mathlib.Omega.{arith}
 use lib.ListN.{length, getD}
@@ -12,6 +12,8 @@ use Rattle.folds.specs.Folds.{sum}
 use Rattle.folds.specs.Lists.{sift}
 use Rattle.folds.proofs.Tests.{either, and-both, and-intro, and-first, and-second}
 use Rattle.folds.proofs.Each.{Each, each-sift}
+use Rattle.folds.proofs.Agree.{both-ways}
+use Rattle.folds.proofs.Moved.{sift-map, sift-sift}
 use Rattle.folds.proofs.FromTheFront.{sum-cons}
 
 -- n lies from lo up to hi, hi left out
@@ -110,3 +112,28 @@ module _ {A : Type 0} where
         one (inr p) (inl q) r = rw (is-between a b (f x) p q, below-range b c (f x) q, is-between a c (f x) p (omega arith)) (omega arith)
         one (inr p) (inr q) (inl r) = rw (above-range a b (f x) q, is-between b c (f x) q r, is-between a c (f x) p r) (omega arith)
         one (inr p) (inr q) (inr r) = rw (above-range a b (f x) q, above-range b c (f x) r, above-range a c (f x) r)
+
+-- ---- counted from the range's first
+
+-- from a up to b of a range, with its first taken off
+pub between-moved : (lo hi a b c : ℕ) → lo + b ≤ hi → (between lo hi c && between a b (c - lo)) ≡ between (lo + a) (lo + b) c
+between-moved lo hi a b c h =
+    both-ways (between lo hi c && between a b (c - lo)) (between (lo + a) (lo + b) c)
+    (λ e.
+    let (p, q) = and-both (between lo hi c) (between a b (c - lo)) e in
+    let (x, y) = between-is lo hi c p in
+    let (z, w) = between-is a b (c - lo) q in
+    is-between (lo + a) (lo + b) c (omega arith) (omega arith))
+    (λ e.
+    let (x, y) = between-is (lo + a) (lo + b) c e in
+    and-intro (between lo hi c) (between a b (c - lo)) (is-between lo hi c (omega arith) (omega arith)) (is-between a b (c - lo) (omega arith) (omega arith)))
+
+-- some of a range's elements, whose numbers `less` counts from its first
+pub ranged-moved : {A : Type 0} (f : A → ℕ) (less : A → A) (lo hi a b : ℕ) → ((x : A) → f (less x) ≡ f x - lo) → lo + b ≤ hi → (xs : List A)
+    → ranged f a b (map less (ranged f lo hi xs)) ≡ map less (ranged f (lo + a) (lo + b) xs)
+ranged-moved {A} f less lo hi a b e h xs =
+    sift-map less (λ x. between a b (f x)) (ranged f lo hi xs)
+    ∙ ap (map less)
+    (sift-sift (λ x. between a b (f (less x))) (λ x. between lo hi (f x)) xs
+    ∙ (λ i. sift (λ x. between lo hi (f x) && between a b (e x i)) xs)
+    ∙ (λ i. sift (λ x. between-moved lo hi a b (f x) h i) xs))

@@ -9,12 +9,10 @@ use lib.Dec.{leb, ltb}
 use borrow.Author.Tests.{lt-leb, le-leb, lt-ltb, le-ltb}
 use Rattle.folds.specs.Folds.{upto, flat}
 use Rattle.folds.specs.Lists.{sift}
-use Rattle.folds.proofs.Tests.{either, and-both, and-intro}
-use Rattle.folds.proofs.Agree.{both-ways}
-use Rattle.folds.proofs.Moved.{sift-map, sift-sift}
+use Rattle.folds.proofs.Tests.{either}
 use Rattle.folds.proofs.Picked.{sift-append}
 use Rattle.folds.proofs.Each.{each-sift, each-then, Each}
-use Rattle.folds.proofs.InRange.{between, between-is, is-between, ranged-each, ranged-inside}
+use Rattle.folds.proofs.InRange.{ranged-each, ranged-inside, ranged-moved}
 use Rattle.ot_layouts.specs.Coverage.{Entry, Ascends, Under}
 use Rattle.ot_layouts.proofs.Runs.{ascends-sift, under-sift}
 use Rattle.ot_layouts.proofs.RunStarts.{entry}
@@ -83,25 +81,13 @@ pub reduced-none : (es : List Entry) → reduced 0 es ≡ es
 reduced-none [] = refl
 reduced-none (e ∷ es) = let z : e .class - 0 ≡ e .class = omega arith in ap₂ (λ (x : Entry) (y : List Entry). x ∷ y) (ap (entry (e .glyph)) z) (reduced-none es)
 
--- some of a range's items, in either order
+-- the first n items of a range, in either order
 pub within-reduced : (lo hi n : ℕ) (es : List Entry) → lo + n ≤ hi → within 0 n (reduced lo (within lo hi es)) ≡ reduced lo (within lo (lo + n) es)
 unfolding within
 within-reduced lo hi n es h =
-    let less : Entry → Entry = λ e. entry (e .glyph) (e .class - lo) in
-    sift-map less (inRange 0 n) (sift (inRange lo hi) es)
-    ∙ ap (map less) (sift-sift (λ e. inRange 0 n (less e)) (inRange lo hi) es ∙ (λ i. sift (λ e. same (e .class) i) es))
-  where
-    same : (c : ℕ) → (between lo hi c && between 0 n (c - lo)) ≡ between lo (lo + n) c
-    same c =
-        both-ways (between lo hi c && between 0 n (c - lo)) (between lo (lo + n) c)
-        (λ e.
-        let (a, b) = and-both (between lo hi c) (between 0 n (c - lo)) e in
-        let (x, y) = between-is lo hi c a in
-        let (z, w) = between-is 0 n (c - lo) b in
-        is-between lo (lo + n) c x (omega arith))
-        (λ e.
-        let (x, y) = between-is lo (lo + n) c e in
-        and-intro (between lo hi c) (between 0 n (c - lo)) (is-between lo hi c x (omega arith)) (is-between 0 n (c - lo) (omega arith) (omega arith)))
+    let z : lo + 0 ≡ lo = omega arith in
+    ranged-moved (λ (e : Entry). e .class) (λ e. entry (e .glyph) (e .class - lo)) lo hi 0 n (λ e. refl) h es
+    ∙ ap (λ (a : ℕ). reduced lo (sift (inRange a (lo + n)) es)) z
 
 pub reduced-glyphs : (k : ℕ) (es : List Entry) → map (λ e. e .glyph) (reduced k es) ≡ map (λ e. e .glyph) es
 reduced-glyphs k [] = refl

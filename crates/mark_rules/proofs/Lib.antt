@@ -7,4 +7,5 @@ pub mod Anchors
 pub mod ArrayCounts
 pub mod LinkCounts
 pub mod ClassLinks
+pub mod Measured
 pub mod Pinned

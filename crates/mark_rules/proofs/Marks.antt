@@ -11,7 +11,7 @@ use Rattle.folds.specs.Lists.{sift}
 use Rattle.folds.proofs.Folds.{upto-cons, length-upto}
 use Rattle.folds.proofs.FromTheFront.{upto-at}
 use Rattle.folds.proofs.Each.{Each, each-upto}
-use Rattle.folds.proofs.InRange.{ranged-each, ranged-all, ranged-inside}
+use Rattle.folds.proofs.InRange.{ranged-each, ranged-all, ranged-inside, ranged-moved}
 use Rattle.ot_layouts.specs.Coverage.{Ascends, plain}
 use Rattle.ot_layouts.specs.MarkBasePos.{coverAt}
 use Rattle.ot_layouts.proofs.Runs.{ascends-lower, plain-glyphs}
@@ -105,3 +105,8 @@ reduced-none [] = refl
 reduced-none (m ∷ ms) =
     let z : m .class - 0 ≡ m .class = omega arith in
     ap₂ (λ (x : Mark) (y : List Mark). x ∷ y) (λ i. record { glyph = m .glyph; class = z i; anchor = m .anchor }) (reduced-none ms)
+
+-- some classes of a range, in either order
+pub within-reduced : (lo hi a b : ℕ) (ms : List Mark) → lo + b ≤ hi → within a b (reduced lo (within lo hi ms)) ≡ reduced lo (within (lo + a) (lo + b) ms)
+unfolding within
+within-reduced lo hi a b ms h = ranged-moved classed (reduce lo) lo hi a b (λ m. refl) h ms

@@ -1,7 +1,7 @@
 -- How long a written ClassDef is: as the shorter of its formats, but for one that format 1 cannot count. Assumes nothing.
-use Prim.Native.Nat.{ℕ, suc, _+_, _-_, _*_, _≤_}
-use mathlib.Core.Path.{_≡_, refl, ap}
-use mathlib.Core.Bool.{Bool, true, false, cond}
+use Prim.Native.Nat.{ℕ, _+_, _*_, _≤_}
+use mathlib.Core.Path.{_≡_}
+use mathlib.Core.Bool.{Bool, true, false}
 use mathlib.Core.List.{List, [], _∷_, _++_}
 use mathlib.Core.Logic.{⊎-elim}
 use native.Mathlib.Omega.{arith}
@@ -19,7 +19,6 @@ use Rattle.ot_layouts.specs.ClassDef.{classIn, firstGlyph, lastGlyph, sp
 use Rattle.ot_layouts.proofs.Numbers.{length-be16}
 use Rattle.ot_layouts.proofs.RunCount.{many}
 use Rattle.ot_layouts.proofs.RangeBytes.{ranged-length}
-use Rattle.ot_layouts.proofs.Classes.{last-after}
 
 -- ---- from the first glyph to the last, of some of the entries
 

@@ -72,7 +72,7 @@ class-named (e ∷ es) lo g a = go (eqb (e .class) 0) refl (class-named es (e .g
 
 -- ---- from the first glyph to the last
 
-pub last-after : (e : Entry) (es : List Entry) (lo : ℕ) → Ascends lo (e ∷ es) → e .glyph ≤ lastGlyph (e ∷ es)
+last-after : (e : Entry) (es : List Entry) (lo : ℕ) → Ascends lo (e ∷ es) → e .glyph ≤ lastGlyph (e ∷ es)
 unfolding lastGlyph
 last-after e [] lo a = omega arith
 last-after e (f ∷ es) lo a = let h : f .glyph ≤ lastGlyph (f ∷ es) = last-after f es (e .glyph + 1) (a .1) in let k : e .glyph + 1 ≤ f .glyph = a .1 .0 in omega arith

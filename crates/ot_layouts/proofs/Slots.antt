@@ -1,21 +1,21 @@
 -- A field lies in its value record, and a link slot in its unit. Assumes nothing.
 use Prim.Native.Nat.{ℕ, _+_, _-_, _*_, _/_, _%_, _<_, _≤_}
-use mathlib.Core.Path.{_≡_, refl}
+use mathlib.Core.Path.{_≡_, refl, sym, ap, _∙_}
 use mathlib.Core.Bool.{Bool, true, false, cond, _&&_}
 use mathlib.Core.List.{List, [], _∷_, map}
 use mathlib.Core.Logic.{⊎-elim}
 use native.Mathlib.Omega.{arith}
-use native.Mathlib.Nat.{div-add-mod, lt-of-mul-lt-mul-left, mul-le-mul-left, mul-add, mul-assoc}
+use native.Mathlib.Nat.{div-add-mod, lt-of-mul-lt-mul-left, mul-le-mul-left, mul-add, mul-assoc, mul-comm, mul-add-mod-self-right}
 use lib.Dec.{eqb, leb}
-use borrow.Author.Tests.{eqb-false, eqb-true, ne-eqb, leb-true}
+use borrow.Author.Tests.{eqb-false, eqb-true, ne-eqb, leb-true, le-leb}
 use Rattle.folds.specs.Lists.{among}
-use Rattle.folds.proofs.Tests.{and-both}
-use Rattle.folds.proofs.Joined.{or-either}
+use Rattle.folds.proofs.Tests.{and-both, and-intro, true-false}
+use Rattle.folds.proofs.Joined.{or-either, or-second}
 use Rattle.folds.proofs.Each.{Each, each-flat, each-append, each-map, each-among}
 use Rattle.ot_layouts.specs.Values.{bit, position, fieldCount, devices, fieldAt}
-use Rattle.ot_layouts.specs.PairPos.{recordSize, deviceSlots, value1, value2, isSlot, shapeOf, itemAt, shape1, shape2, columns}
+use Rattle.ot_layouts.specs.PairPos.{recordSize, deviceSlots, value1, value2, heads, isSlot, shapeOf, itemAt, shape1, shape2, columns}
 use Rattle.ot_layouts.proofs.Values.{position-more, position-le, position-all}
-use Rattle.ot_layouts.proofs.Shapes.{by-format}
+use Rattle.ot_layouts.proofs.Shapes.{by-format, heads-within}
 
 -- ---- fields
 
@@ -75,3 +75,28 @@ slot-fits b q n =
     let m : recordSize b * columns b * n ≡ recordSize b * (columns b * n) = mul-assoc (recordSize b) (columns b) n in
     omega (arith, unit-fits (recordSize b) (columns b * n) (q - 16) z (omega arith)))
     (or-either (among q (2 ∷ 8 ∷ 10 ∷ [])) (leb 16 q && among ((q - 16) % recordSize b) (deviceSlots b)) h))
+
+-- ---- some items further on
+
+-- an item is a whole number of units
+item-units : (b : List ℕ) → (m : ℕ) × (shapeOf b .item ≡ shapeOf b .unit * m)
+unfolding shape1 shape2
+item-units b = by-format (λ sh. (m : ℕ) × (sh .item ≡ sh .unit * m)) b (λ e. (1, refl)) (λ e. (columns b, refl))
+
+-- a slot of an item stays one where the items before item n are left out
+pub slot-moved : (b : List ℕ) (q n : ℕ) → isSlot (shapeOf b) q ≡ true → itemAt (shapeOf b) n ≤ q → isSlot (shapeOf b) (q - shapeOf b .item * n) ≡ true
+unfolding isSlot
+slot-moved b q n h l =
+    let sh = shapeOf b in
+    let r = q - sh .item * n in
+    let (m, e) = item-units b in
+    let whole : sh .item * n ≡ m * n * sh .unit = ap (λ (i : ℕ). i * n) e ∙ mul-assoc (sh .unit) m n ∙ mul-comm (sh .unit) (m * n) in
+    let apart : q - sh .header ≡ m * n * sh .unit + (r - sh .header) = omega arith in
+    let same : (q - sh .header) % sh .unit ≡ (r - sh .header) % sh .unit = ap (λ (x : ℕ). x % sh .unit) apart ∙ mul-add-mod-self-right (m * n) (sh .unit) (r - sh .header) in
+    ⊎-elim
+    (λ a. true-false (sym a ∙ heads-within b q (omega arith)))
+    (λ a.
+    or-second (among r (heads sh)) (leb (sh .header) r && among ((r - sh .header) % sh .unit) (sh .slots))
+    (and-intro (leb (sh .header) r) (among ((r - sh .header) % sh .unit) (sh .slots)) (le-leb (sh .header) r (omega arith))
+    (ap (λ (x : ℕ). among x (sh .slots)) (sym same) ∙ and-both (leb (sh .header) q) (among ((q - sh .header) % sh .unit) (sh .slots)) a .1)))
+    (or-either (among q (heads sh)) (leb (sh .header) q && among ((q - sh .header) % sh .unit) (sh .slots)) h)

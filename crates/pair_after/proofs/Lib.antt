@@ -10,7 +10,9 @@ pub mod SoundThen
 pub mod SortedThen
 pub mod ViewReach
 pub mod ViewParts
-pub mod Resulting
+pub mod ViewReads
 pub mod SameReach
+pub mod NewChecked
+pub mod Resulting
 pub mod KeptUncut
 pub mod SplitLinks

@@ -1,5 +1,5 @@
 -- What the kept table's items reach is what they reached, and check 7 does not apply to it. Assumes nothing.
-use Prim.Native.Nat.{ℕ, _+_, _-_, _<_, _≤_}
+use Prim.Native.Nat.{ℕ, _+_, _<_, _≤_}
 use mathlib.Core.Path.{_≡_, refl, sym, ap, subst, _∙_}
 use mathlib.Core.Bool.{Bool, true, false, not}
 use mathlib.Core.List.{List, _++_, map}
@@ -48,7 +48,7 @@ module _ (s : Store) (t : ℕ) (cs : List ℕ) (g : Ready s t cs) where
 
   -- a row after the split is an old one that stays, or a new table's
   abbrev Kind : Link → Type 0
-  Kind l = ((m : ℕ) × (m < s .linkCount) × (l ≡ kept (sh .own) t v (linkAt s m)) × (stays s t cs (linkAt s m) ≡ true)) ⊎ ((j : ℕ) × (j < length cs) × (l .parent ≡ newNumber s (perTable (shape s t)) j))
+  Kind l = ((m : ℕ) × (m < s .linkCount) × (l ≡ kept (sh .own) t v (linkAt s m))) ⊎ ((j : ℕ) × (j < length cs) × (l .parent ≡ newNumber s (perTable (shape s t)) j))
 
   abbrev IsRow : Link → Type 0
   IsRow l = (k : ℕ) × (k < s .linkCount) × (l ≡ linkAt s k)
@@ -68,7 +68,7 @@ module _ (s : Store) (t : ℕ) (cs : List ℕ) (g : Ready s t cs) where
   kinds : Each Kind (stayed s t cs ++ flat (piece s t cs) (length cs))
   kinds =
       each-append Kind (stayed s t cs) (flat (piece s t cs) (length cs))
-      (each-moved IsRow Kind (kept (sh .own) t v) (stays s t cs) (λ l (k, a, b) h. inl (k, a, ap (kept (sh .own) t v) b, subst (λ (m : Link). stays s t cs m ≡ true) b h)) (linksOf s) old-rows)
+      (each-moved IsRow Kind (kept (sh .own) t v) (stays s t cs) (λ l (k, a, b) h. inl (k, a, ap (kept (sh .own) t v) b)) (linksOf s) old-rows)
       (each-flat Kind (piece s t cs) (length cs) piece-kind)
 
   many-rows : s′ .linkCount ≡ length (stayed s t cs ++ flat (piece s t cs) (length cs))
@@ -81,15 +81,15 @@ module _ (s : Store) (t : ℕ) (cs : List ℕ) (g : Ready s t cs) where
 
   -- a row from an old object is an old row
   old-row : (k i : ℕ) → k < s′ .linkCount → parentOf s′ k ≡ i → i < s .objectCount
-      → (m : ℕ) × (m < s .linkCount) × (parentOf s m ≡ i) × (linkAt s′ k ≡ kept (sh .own) t v (linkAt s m)) × (stays s t cs (linkAt s m) ≡ true)
+      → (m : ℕ) × (m < s .linkCount) × (parentOf s m ≡ i) × (linkAt s′ k ≡ kept (sh .own) t v (linkAt s m))
   old-row k i l p h =
-      ⊎-elim (λ (m, a, q, st). (m, a, sym (ap (λ (x : Link). x .parent) q ∙ kept-parent (sh .own) t v (linkAt s m)) ∙ p, q, st))
+      ⊎-elim (λ (m, a, q). (m, a, sym (ap (λ (x : Link). x .parent) q ∙ kept-parent (sh .own) t v (linkAt s m)) ∙ p, q))
       (λ (j, a, q). absurd (omega arith)) (row-kind k l)
 
   -- no row leads from the kept table's new parts
   no-row : (k i : ℕ) → k < s′ .linkCount → parentOf s′ k ≡ i → v ≤ i → ⊥
   no-row k i l p h =
-      ⊎-elim (λ (m, a, q, st). omega (arith, ap (λ (x : Link). x .parent) q, kept-parent (sh .own) t v (linkAt s m), g .fit .link m a .parentUsed))
+      ⊎-elim (λ (m, a, q). omega (arith, ap (λ (x : Link). x .parent) q, kept-parent (sh .own) t v (linkAt s m), g .fit .link m a .parentUsed))
       (λ (j, a, q). omega (arith, per-two (bytesOf s t), mul-le-mul-left {m = j + 1} {n = length cs} (perTable sh) (omega arith), mul-add (perTable sh) j 1)) (row-kind k l)
 
   child-is : (k : ℕ) (l : Link) → linkAt s′ k ≡ l → childOf s′ k ≡ l .child
@@ -109,7 +109,7 @@ module _ (s : Store) (t : ℕ) (cs : List ℕ) (g : Ready s t cs) where
     where
       one : (k : ℕ) → k < s′ .linkCount → parentOf s′ k ≡ t → isSlot (shape s′ t) (positionOf s′ k) ≡ true
       one k l e =
-          let (m, a, p, q, st) = old-row k t l e (g .reads .used) in
+          let (m, a, p, q) = old-row k t l e (g .reads .used) in
           slot-same (positionOf s′ k) ∙ ap (isSlot sh) (ap (λ (x : Link). x .position) q ∙ kept-position (sh .own) t v (linkAt s m)) ∙ at-slot s t (g .atSlots) m a p
 
   -- rows of the table
@@ -124,7 +124,7 @@ module _ (s : Store) (t : ℕ) (cs : List ℕ) (g : Ready s t cs) where
   leads : {i : ℕ} → Reach s′ (ofT s′) i → (v ≤ i) ⊎ ((i < s .objectCount) × Reach s (ofT s) i)
   leads (Reach.seed {i} k l a e) =
       let p : parentOf s′ k ≡ t = eqb-true (parentOf s′ k) t a in
-      let (m, b, c, q, st) = old-row k t l p (g .reads .used) in
+      let (m, b, c, q) = old-row k t l p (g .reads .used) in
       let d = child-is k (kept (sh .own) t v (linkAt s m)) q in
       ⊎-elim
       (λ x.
@@ -135,7 +135,7 @@ module _ (s : Store) (t : ℕ) (cs : List ℕ) (g : Ready s t cs) where
   leads (Reach.step {i} {j} r k l p e) =
       ⊎-elim (λ x. absurd (no-row k i l p x))
       (λ (x, y).
-      let (m, b, c, q, st) = old-row k i l p x in
+      let (m, b, c, q) = old-row k i l p x in
       let ne : parentOf s m ≡ t → ⊥ = λ z. not-back (subst (Reach s (ofT s)) (sym c ∙ z) y) in
       let w : childOf s m ≡ j = sym (kept-other (sh .own) t v (linkAt s m) ne) ∙ sym (child-is k (kept (sh .own) t v (linkAt s m)) q) ∙ e in
       inr (subst (λ (n : ℕ). n < s .objectCount) w (g .fit .link m b .childUsed), Reach.step y m b c w))

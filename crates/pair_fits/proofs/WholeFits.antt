@@ -4,7 +4,7 @@ use mathlib.Core.Path.{_≡_, sym, ap, ap₂, subst, _∙_}
 use mathlib.Core.Bool.{true}
 use mathlib.Core.List.{List}
 use native.Mathlib.Omega.{arith}
-use lib.ListN.{length, getD}
+use lib.ListN.{getD}
 use Rattle.ot_layouts.specs.PairPos.{Shape}
 use Rattle.store_rules.specs.Store.{Store, sizeOf}
 use Rattle.store_rules.proofs.Sound.{size-bytes}
@@ -18,7 +18,7 @@ use Rattle.pair_rules.specs.Written.{splitStore}
 use Rattle.pair_rules.proofs.TableCuts.{rule-count}
 use Rattle.pair_rules.proofs.Measured.{itemsReach, itemsTake, rule-start, totals}
 use Rattle.pair_after.proofs.Ready.{Ready}
-use Rattle.pair_after.proofs.View.{View, view-shape}
+use Rattle.pair_after.proofs.View.{view-shape}
 use Rattle.pair_after.proofs.ViewReach.{reach-same}
 use Rattle.pair_after.proofs.Resulting.{TableOf}
 use Rattle.pair_after.proofs.SoundThen.{fits-then}

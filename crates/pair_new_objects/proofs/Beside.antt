@@ -2,25 +2,20 @@
 use Prim.Native.Nat.{ℕ, _+_, _-_, _*_, _≤_}
 use mathlib.Core.Path.{_≡_, refl, ap}
 use mathlib.Core.Bool.{Bool, true, false}
-use mathlib.Core.List.{List, [], _∷_, _++_, map}
+use mathlib.Core.List.{List, [], _∷_, map}
 use native.Mathlib.Omega.{arith}
-use lib.ListN.{length, length-append}
-use lib.Dec.{eqb, ltb}
-use borrow.Author.Tests.{ltb-false}
-use Rattle.folds.specs.Folds.{flat}
+use lib.ListN.{length}
+use lib.Dec.{eqb}
 use Rattle.folds.specs.Lists.{join, sift}
-use Rattle.folds.proofs.Tests.{by-test, or-none}
+use Rattle.folds.proofs.Tests.{by-test}
 use Rattle.folds.proofs.Moved.{length-map}
-use Rattle.folds.proofs.FromTheFront.{length-even}
-use Rattle.ot_layouts.specs.Numbers.{be16}
-use Rattle.ot_layouts.specs.Coverage.{Entry, coverageBytes, runs}
-use Rattle.ot_layouts.specs.ClassDef.{classIn, firstGlyph, span, named, inRanges, classDefBytes}
+use Rattle.ot_layouts.specs.Coverage.{Entry, coverageBytes}
+use Rattle.ot_layouts.specs.ClassDef.{named, classDefBytes}
 use Rattle.ot_layouts.specs.PairPos.{ownIn, shapeOf}
 use Rattle.ot_layouts.proofs.Shapes.{own-of}
-use Rattle.ot_layouts.proofs.Numbers.{length-be16}
-use Rattle.ot_layouts.proofs.RunCount.{many, many-le}
+use Rattle.ot_layouts.proofs.RunCount.{many-le}
 use Rattle.ot_layouts.proofs.CoverageLength.{cover-length}
-use Rattle.ot_layouts.proofs.RangeBytes.{ranged-length}
+use Rattle.ot_layouts.proofs.ClassDefLength.{ranges-most}
 use Rattle.glyph_rules.specs.Entries.{within, reduced}
 use Rattle.pair_rules.specs.Written.{partOf, newParts}
 use Rattle.ot_class_def_writer.specs.Entries.{reducedEntries}
@@ -66,24 +61,7 @@ named-shorter es = sift-shorter _ es
 
 -- a class definition is never longer than its ranges
 pub class-def-short : (es : List Entry) → length (classDefBytes es) ≤ 4 + 6 * length es
-unfolding classDefBytes
-class-def-short es =
-    let ns = named es in
-    let k : many ns ≤ length es = omega (arith, many-le ns, named-shorter es) in
-    by-test (inRanges ns)
-    (λ e. rw e (omega (arith, ranged-length (runs ns))))
-    (λ e. rw e
-    (omega (
-      arith,
-      ltb-false (4 + 6 * length (runs ns)) (6 + 2 * span ns) (or-none (ltb (4 + 6 * length (runs ns)) (6 + 2 * span ns)) (eqb (span ns) 65536) e .0),
-      length-append (be16 1 ++ be16 (firstGlyph ns) ++ be16 (span ns)) (flat (λ j. be16 (classIn ns (firstGlyph ns + j))) (span ns)),
-      length-append (be16 1 ++ be16 (firstGlyph ns)) (be16 (span ns)),
-      length-append (be16 1) (be16 (firstGlyph ns)),
-      length-be16 1,
-      length-be16 (firstGlyph ns),
-      length-be16 (span ns),
-      length-even (λ j. be16 (classIn ns (firstGlyph ns + j))) 2 (λ j. length-be16 (classIn ns (firstGlyph ns + j))) (span ns),
-    )))
+class-def-short es = omega (arith, ranges-most es, many-le (named es), named-shorter es)
 
 pub parts-short : (f : ℕ) (es : List Entry) (lo : ℕ) → length (join (partsOf f es lo)) ≤ 8 + 8 * length es
 parts-short f es lo =

@@ -14,6 +14,7 @@ pub mod AttachmentsKept
 pub mod Rows
 pub mod SameAnchors
 pub mod KeptChecked
+pub mod NewSlots
 pub mod SameReach
 pub mod AgainNothing
 pub mod StaysOctets

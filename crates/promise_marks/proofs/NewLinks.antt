@@ -54,7 +54,7 @@ module _ (s : Store) (t : ℕ) where
   unfolding arrayLinks
   array-each P p lo hi a b = each-append P (markLinks s t p lo hi) (baseLinks s t (p + 1) lo hi) a b
 
-  array-of : (p lo hi : ℕ) → Each (Of p (p + 2)) (arrayLinks s t p lo hi)
+  pub array-of : (p lo hi : ℕ) → Each (Of p (p + 2)) (arrayLinks s t p lo hi)
   unfolding markLinks baseLinks
   array-of p lo hi =
       array-each (Of p (p + 2)) p lo hi

@@ -1,7 +1,7 @@
--- What the kept table's classes reach is what they reached. Assumes nothing.
+-- What classes of a table of a range reach after a split is what they reached in the old table. Assumes nothing.
 use Prim.Native.Nat.{ℕ, _+_, _-_, _<_, _≤_}
-use mathlib.Core.Path.{_≡_, ap₂, subst, _∙_}
-use mathlib.Core.Bool.{Bool}
+use mathlib.Core.Path.{_≡_, ap, ap₂, subst, _∙_}
+use mathlib.Core.Bool.{Bool, true}
 use mathlib.Core.List.{List}
 use mathlib.Core.Logic.{inl, inr}
 use native.Mathlib.Omega.{arith}
@@ -12,10 +12,12 @@ use Rattle.store_rules.proofs.SameReach.{Seed, SameWays, RowsBehind, behind-goe
 use Rattle.cut_rules.specs.Ranges.{from}
 use Rattle.mark_rules.specs.Table.{markAnchor, baseAnchor, ofClasses}
 use Rattle.mark_rules.specs.Written.{splitStore}
-use Rattle.mark_rules.proofs.Checks.{parts-read}
+use Rattle.mark_rules.specs.Reads.{Reads}
+use Rattle.mark_rules.proofs.Checks.{AtSlots, parts-read}
 use Rattle.mark_rules.proofs.Anchors.{Anchor, row-anchor, anchor-row}
 use Rattle.promise_marks.proofs.Ready.{Ready, objects-then}
 use Rattle.promise_marks.proofs.NewBytes.{old-size}
+use Rattle.promise_marks.proofs.View.{View}
 use Rattle.promise_marks.proofs.KeptAndNew.{view-kept}
 use Rattle.promise_marks.proofs.StaysSound.{fits-then}
 use Rattle.promise_marks.proofs.WrittenAfresh.{kept-reads}
@@ -31,55 +33,67 @@ module _ (s : Store) (t : ℕ) (cs : List ℕ) (g : Ready s t cs) where
   abbrev ofT : ℕ → Bool
   ofT k = ofParent t (linkAt s k)
 
-  -- what the classes below j reach, j at most the first cut
-  module _ (j : ℕ) (small : j ≤ from cs 0) where
-    -- rows of these classes
-    abbrev ofC : Store → ℕ → Bool
-    ofC x k = ofClasses x t 0 j (linkAt x k)
+  -- what the first j classes of the table u of a range reach
+  module _ {u lo hi : ℕ} (v : View s t (splitStore s t cs) u lo hi) (reads : Reads (splitStore s t cs) u) (slots : AtSlots (splitStore s t cs) u) where
+    module _ (j : ℕ) (small : lo + j ≤ hi) where
+      -- rows of these classes, then and before
+      abbrev then : ℕ → Bool
+      then k = ofClasses s′ u 0 j (linkAt s′ k)
 
-    -- what the classes reach, the table reaches
-    anchor-known : (c : ℕ) → Anchor s t 0 j c → Reach s ofT c
-    unfolding markAnchor baseAnchor
-    anchor-known c (inl (i, l, a, b, e)) = mark-leads s t cs g (markSlot i) c e
-    anchor-known c (inr (i, k, l, m, a, b, e)) = base-leads s t cs g _ c e
+      abbrev before : ℕ → Bool
+      before k = ofClasses s t lo (lo + j) (linkAt s k)
 
-    classes-table : {i : ℕ} → Reach s (ofC s) i → Reach s ofT i
-    classes-table (Reach.seed k l a e) =
-        subst (Reach s ofT) e (anchor-known (childOf s k) (row-anchor s t (g .fit) (g .parts) (g .atSlots) 0 j k l a))
-    classes-table (Reach.step r k l p e) = Reach.step (classes-table r) k l p e
+      -- what the classes reach, the table reaches
+      anchor-known : (c : ℕ) → Anchor s t lo (lo + j) c → Reach s ofT c
+      unfolding markAnchor baseAnchor
+      anchor-known c (inl (i, l, a, b, e)) = mark-leads s t cs g (markSlot i) c e
+      anchor-known c (inr (i, k, l, m, a, b, e)) = base-leads s t cs g _ c e
 
-    -- the rows that they reach stay, and the new ones stand behind
-    rows-behind : RowsBehind s s′ (ofC s)
-    rows-behind =
-        record {
-          rows = omega (arith, rows-then s t cs g);
-          parents = same-parent s t cs g;
-          children = λ k l r. same-child s t cs g k l (λ z. not-back s t cs g (subst (Reach s ofT) z (classes-table r)));
-          behind = new-parent s t cs g;
-        }
+      row-known : (k : ℕ) → k < s .linkCount → before k ≡ true → Anchor s t lo (lo + j) (childOf s k)
+      row-known k l a = row-anchor s t (g .fit) (g .parts) (g .atSlots) lo (lo + j) k l a
 
-    -- then as before, they lead to the same anchors
-    starts : (c : ℕ) → Seed s (ofC s) c → Seed s′ (ofC s′) c
-    starts c (k, l, a, e) =
-        let old : Anchor s t 0 j (childOf s k) = row-anchor s t (g .fit) (g .parts) (g .atSlots) 0 j k l a in
-        let (m, b, d, f) = anchor-row s′ t 0 j (childOf s k) (anchor-new (view-kept s t cs g) (g .reads) j small (childOf s k) old) in
-        (m, b, d, f ∙ e)
+      classes-table : {i : ℕ} → Reach s before i → Reach s ofT i
+      classes-table (Reach.seed k l a e) = subst (Reach s ofT) e (anchor-known (childOf s k) (row-known k l a))
+      classes-table (Reach.step r k l p e) = Reach.step (classes-table r) k l p e
 
-    started : (c : ℕ) → Seed s′ (ofC s′) c → Seed s (ofC s) c
-    started c (k, l, a, e) =
-        let parts = parts-read s′ t (kept-reads s t cs g .parts) in
-        let now : Anchor s′ t 0 j (childOf s′ k) = row-anchor s′ t (fits-then s t cs g) parts (slots-then s t cs g) 0 j k l a in
-        let (m, b, d, f) = anchor-row s t 0 j (childOf s′ k) (anchor-old (view-kept s t cs g) (g .reads) j small (childOf s′ k) now) in
-        (m, b, d, f ∙ e)
+      -- the rows that they reach stay, and the new ones stand behind
+      rows-behind : RowsBehind s s′ before
+      rows-behind =
+          record {
+            rows = omega (arith, rows-then s t cs g);
+            parents = same-parent s t cs g;
+            children = λ k l r. same-child s t cs g k l (λ z. not-back s t cs g (subst (Reach s ofT) z (classes-table r)));
+            behind = new-parent s t cs g;
+          }
 
-    same-ways : SameWays s s′ (ofC s) (ofC s′)
-    same-ways = record { starts = starts; started = started; goes = behind-goes rows-behind; went = behind-went rows-behind (g .fit) }
+      -- then as before, they lead to the same anchors
+      starts : (c : ℕ) → Seed s before c → Seed s′ then c
+      starts c (k, l, a, e) =
+          let (m, b, d, f) = anchor-row s′ u 0 j (childOf s k) (anchor-new v (g .reads) j small (childOf s k) (row-known k l a)) in
+          (m, b, d, f ∙ e)
 
-    reach-same : reachOf s′ (ofClasses s′ t 0 j) ≡ reachOf s (ofClasses s t 0 j)
-    reach-same =
-        reach-size-same same-ways (g .fit) (fits-then s t cs g) (omega (arith, objects-then s t cs g)) (λ i h r. old-size s t cs g i h)
+      started : (c : ℕ) → Seed s′ then c → Seed s before c
+      started c (k, l, a, e) =
+          let now : Anchor s′ u 0 j (childOf s′ k) = row-anchor s′ u (fits-then s t cs g) (parts-read s′ u (reads .parts)) slots 0 j k l a in
+          let (m, b, d, f) = anchor-row s t lo (lo + j) (childOf s′ k) (anchor-old v (g .reads) j small (childOf s′ k) now) in
+          (m, b, d, f ∙ e)
 
-  -- S of the kept table's classes is what it was
+      same-ways : SameWays s s′ before then
+      same-ways = record { starts = starts; started = started; goes = behind-goes rows-behind; went = behind-went rows-behind (g .fit) }
+
+      pub reach-same : reachOf s′ (ofClasses s′ u 0 j) ≡ reachOf s (ofClasses s t lo (lo + j))
+      reach-same =
+          reach-size-same same-ways (g .fit) (fits-then s t cs g) (omega (arith, objects-then s t cs g)) (λ i h r. old-size s t cs g i h)
+
+    -- S of its classes is what it was
+    pub class-same : (i : ℕ) → lo + i < hi → itemSize s′ (ofClasses s′ u) 0 i ≡ itemSize s (ofClasses s t) lo (lo + i)
+    unfolding itemSize
+    class-same i h =
+        let z : lo + (i + 1) ≡ lo + i + 1 = omega arith in
+        ap₂ (λ (a b : ℕ). a - b) (reach-same (i + 1) (omega arith) ∙ ap (λ (n : ℕ). reachOf s (ofClasses s t lo n)) z) (reach-same i (omega arith))
+
+  -- S of the kept table's classes
   pub size-same : (i : ℕ) → i < from cs 0 → itemSize s′ (ofClasses s′ t) 0 i ≡ itemSize s (ofClasses s t) 0 i
-  unfolding itemSize
-  size-same i h = ap₂ (λ (a b : ℕ). a - b) (reach-same (i + 1) (omega arith)) (reach-same i (omega arith))
+  size-same i h =
+      let z : 0 + i ≡ i = omega arith in
+      class-same (view-kept s t cs g) (kept-reads s t cs g) (slots-then s t cs g) i (omega arith) ∙ ap (itemSize s (ofClasses s t) 0) z

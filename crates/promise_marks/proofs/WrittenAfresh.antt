@@ -60,7 +60,7 @@ module _ {s : Store} {t : ℕ} {s′ : Store} {u lo hi : ℕ} (v : View s t s′
   bases-long : 2 + 2 * (basesIn s t * (hi - lo)) ≡ 2 + 2 * (basesIn s′ u * classesOf s′ u)
   bases-long = sym (ap (λ (n : ℕ). 2 + 2 * (n * classesOf s′ u)) (view-bases v old) ∙ ap (λ (n : ℕ). 2 + 2 * (basesIn s t * n)) (v .classes))
 
-  view-reads : Reads s′ u
+  pub view-reads : Reads s′ u
   view-reads =
       let (c, cn, ce, cf) = v .cover in
       let (m, mn, me, mf, mh) = v .marks in

@@ -1,38 +1,27 @@
 -- Each table is written afresh, from the old table alone. Assumes nothing.
-use Prim.Native.Nat.{ℕ, _+_, _-_, _<_, _≤_, min}
+use Prim.Native.Nat.{ℕ, _+_, _-_, _<_, _≤_}
 use mathlib.Core.Path.{_≡_, sym, ap, _∙_}
-use mathlib.Core.Bool.{true, false, _&&_, _||_}
+use mathlib.Core.Bool.{true, false}
 use mathlib.Core.List.{List, [], _∷_, map}
 use mathlib.Core.Option.{Option, some, Option·getD}
 use native.Mathlib.Omega.{arith}
 use native.Mathlib.Nat.{mul-le-mul-left, mul-add}
-use lib.ListN.{length, getD}
-use lib.Dec.{eqb, ltb}
-use borrow.Author.Tests.{ltb-false, le-ltb, ne-eqb}
-use Rattle.folds.specs.Lists.{isSome, among, Bytes}
-use Rattle.folds.proofs.Tests.{and-intro, by-test}
-use Rattle.folds.proofs.Folds.{length-upto}
-use Rattle.folds.proofs.Joined.{three-hold}
+use lib.Dec.{eqb}
+use borrow.Author.Tests.{ne-eqb}
+use Rattle.folds.specs.Lists.{among, Bytes}
 use Rattle.folds.proofs.Each.{Each, each-among, each-then}
-use Rattle.folds.proofs.Moved.{length-map}
-use Rattle.ot_layouts.specs.Coverage.{Entry, coverageBytes, coverReadable, Ascends, Under}
-use Rattle.ot_layouts.specs.ClassDef.{classDefBytes, classReadable, classOf, classIn}
-use Rattle.ot_layouts.specs.PairPos.{Shape, itemAt, formatOf}
-use Rattle.ot_layouts.proofs.Runs.{under-sift}
-use Rattle.ot_layouts.proofs.CoverageRoundTrip.{cover-readable}
-use Rattle.ot_layouts.proofs.ClassDefRoundTrip.{class-readable}
-use Rattle.ot_layouts.proofs.RunStarts.{entry}
-use Rattle.ot_layouts.proofs.Shapes.{header-long, format-test}
-use Rattle.ot_layouts.proofs.Entries.{ascends-plain, Agrees, agrees-self}
+use Rattle.ot_layouts.specs.Coverage.{Entry, Ascends}
+use Rattle.ot_layouts.specs.ClassDef.{classOf, classIn}
+use Rattle.ot_layouts.specs.PairPos.{itemAt}
+use Rattle.ot_layouts.proofs.Entries.{Agrees, agrees-self}
 use Rattle.store_rules.specs.Store.{Store, sound, childAt, bytesOf, linkedBytes, linkedAt}
 use Rattle.glyph_rules.specs.Entries.{within, reduced}
-use Rattle.pair_rules.specs.Table.{entriesOf, shape, partsReadable, glyphsOf, setsSorted, cutPlaces}
+use Rattle.pair_rules.specs.Table.{entriesOf, shape, glyphsOf, setsSorted, cutPlaces}
 use Rattle.pair_rules.specs.Written.{splitStore}
-use Rattle.store_rules.proofs.Lookups.{linked-some}
-use Rattle.glyph_rules.proofs.Entries.{under-reduced, inRange, within-upto, within-low, within-agrees}
-use Rattle.pair_rules.proofs.Entries.{entries1, entries-agree}
+use Rattle.glyph_rules.proofs.Entries.{within-low, within-agrees}
+use Rattle.pair_rules.proofs.Entries.{entries-agree}
 use Rattle.pair_rules.specs.Reads.{Reads}
-use Rattle.pair_rules.proofs.Checks.{entries-ascend, entries-under, class-read}
+use Rattle.pair_rules.proofs.Checks.{entries-ascend}
 use Rattle.pair_rules.proofs.SortedSets.{pairs-no-case}
 use Rattle.pair_rules.proofs.NewCounts.{per-two}
 use Rattle.promise_calls.specs.Unchanged.{Octets}
@@ -40,8 +29,9 @@ use Rattle.promise_pairs.specs.Demands.{Afresh, AllAfresh, WrittenAfresh
 use Rattle.pair_after.proofs.Ready.{Ready, objects-then, new-used}
 use Rattle.promise_pairs.proofs.GoesAhead.{splits-ready, splits-sorted, store-written}
 use Rattle.pair_after.proofs.NewBytes.{kept-bytes}
-use Rattle.pair_after.proofs.View.{View, renumbered, within-up, view-test, renumbered-up, view-glyphs, view-format, view-shape, view-class}
+use Rattle.pair_after.proofs.View.{View, renumbered-up, view-glyphs, view-class}
 use Rattle.pair_after.proofs.KeptAndNew.{view-kept, view-new, bytes-new}
+use Rattle.pair_after.proofs.ViewReads.{view-cover, view-class1, view-reads}
 use Rattle.pair_after.proofs.SoundThen.{sound-then}
 use Rattle.pair_after.proofs.SortedThen.{kept-sorted, new-sorted}
 
@@ -54,64 +44,6 @@ module _ {s : Store} {t : ℕ} {s′ : Store} {u lo hi : ℕ} (v : View s t s′
 
   up : Ascends 0 (entriesOf s t)
   up = entries-ascend s t old
-
-  own-under : Under 65536 (renumbered v up)
-  unfolding within
-  own-under = under-reduced lo es 65536 (under-sift (inRange lo hi) (entriesOf s t) 65536 (entries-under s t old octets))
-
-  view-cover : linkedBytes s′ u 2 ≡ coverageBytes (map (λ e. e .glyph) es)
-  view-cover = let (c, n, e, f) = v .cover in linked-some s′ u 2 c e ∙ f
-
-  view-class1 : eqb (shape s t .format) 1 ≡ false → linkedBytes s′ u 8 ≡ classDefBytes (reduced lo es)
-  view-class1 z = let (c, n, e, f) = v .class1 z in linked-some s′ u 8 c e ∙ f
-
-  view-class2 : eqb (shape s t .format) 1 ≡ false → linkedBytes s′ u 10 ≡ linkedBytes s t 10
-  view-class2 z = let (d, x, y, w) = v .class2 z in linked-some s′ u 10 d x ∙ w ∙ sym (linked-some s t 10 d y)
-
-  view-parts : partsReadable s′ u ≡ true
-  unfolding partsReadable
-  view-parts =
-      let (c, n, e, f) = v .cover in
-      and-intro (isSome (childAt s′ u 2) && coverReadable (linkedBytes s′ u 2)) _
-      (and-intro (isSome (childAt s′ u 2)) (coverReadable (linkedBytes s′ u 2)) (ap isSome e)
-      (ap coverReadable view-cover ∙ cover-readable (map (λ e. e .glyph) es) (ascends-plain es 0 (within-up v up))))
-      (by-test (eqb (shape s t .format) 1) (λ z. rw (view-test v up ∙ z)) (λ z. rw (view-test v up ∙ z) (classes z)))
-    where
-      classes : eqb (shape s t .format) 1 ≡ false → (isSome (childAt s′ u 8) && classReadable (linkedBytes s′ u 8) && isSome (childAt s′ u 10) && classReadable (linkedBytes s′ u 10)) ≡ true
-      classes z =
-          let (c, n, e, f) = v .class1 z in
-          let (d, x, y, w) = v .class2 z in
-          let (p, q, r, o) = class-read s t (old .parts) z in
-          and-intro _ _ (three-hold (isSome (childAt s′ u 8)) (classReadable (linkedBytes s′ u 8)) (isSome (childAt s′ u 10)) (ap isSome e)
-          (ap classReadable (view-class1 z) ∙ class-readable (reduced lo es) (renumbered-up v up) own-under)
-          (ap isSome x)) (ap classReadable (view-class2 z) ∙ o)
-
-  -- in format 1 a table of n items has n covered glyphs
-  view-many : eqb (shape s t .format) 1 ≡ true → shape s t .count ≤ length (glyphsOf s t) → length (glyphsOf s′ u) ≡ hi - lo
-  view-many e h =
-      let gs = glyphsOf s t in
-      let hh = v .high in
-      ap length (view-glyphs v up) ∙ length-map (λ (e : Entry). e .glyph) es
-      ∙ ap length (ap (within lo hi) (entries1 s t e) ∙ within-upto (λ k. getD gs k 0) lo hi (length gs)) ∙ length-upto (λ k. entry (getD gs (lo + k) 0) (lo + k)) (min (length gs) hi - lo) ∙ omega arith
-
-  view-reads : Reads s′ u
-  view-reads =
-      record {
-        sounds = sounds;
-        used = used;
-        two = omega (arith, v .long, header-long (bytesOf s t));
-        known = ap (λ (n : ℕ). eqb n 1 || eqb n 2) (view-format v) ∙ old .known;
-        exactly = v .long ∙ sym (ap (λ (sh : Shape). itemAt sh (sh .count)) (view-shape v));
-        parts = view-parts;
-        enough = by-test (eqb (formatOf (bytesOf s t)) 1) (λ e. plenty e) (λ e. rw (view-format v, e));
-      }
-    where
-      plenty : eqb (formatOf (bytesOf s t)) 1 ≡ true → (eqb (formatOf (bytesOf s′ u)) 1 && ltb (length (glyphsOf s′ u)) (shape s′ u .count)) ≡ false
-      plenty e =
-          let q : ltb (length (glyphsOf s t)) (shape s t .count) ≡ false = rw e at (old .enough) in
-          let n = view-many (format-test (bytesOf s t) ∙ e) (ltb-false (length (glyphsOf s t)) (shape s t .count) q) in
-          let c : shape s′ u .count ≡ hi - lo = ap (λ (sh : Shape). sh .count) (view-shape v) in
-          rw (view-format v, e) (le-ltb (length (glyphsOf s′ u)) (shape s′ u .count) (omega arith))
 
   -- classes by the new class definition, and by the old one
   abbrev newClass : ℕ → ℕ
@@ -147,13 +79,13 @@ module _ {s : Store} {t : ℕ} {s′ : Store} {u lo hi : ℕ} (v : View s t s′
   afresh : setsSorted s′ u ≡ true → Afresh s t s′ u lo hi
   afresh sorted =
       record {
-        readable = pairs-no-case s′ u (record { reads = view-reads; sorted = sorted });
+        readable = pairs-no-case s′ u (record { reads = view-reads v old sounds used octets; sorted = sorted });
         covers = view-glyphs v up;
-        coverBytes = view-cover;
+        coverBytes = view-cover v old sounds used octets;
         coverNew = let (c, n, e, f) = v .cover in linked-at 2 c e n;
         classNew = λ e. let (c, n, x, f) = v .class1 (two e) in linked-at 8 c x n;
         classes = λ e g h. view-classes (two e) g h;
-        classBytes = λ e. view-class1 (two e);
+        classBytes = λ e. view-class1 v old sounds used octets (two e);
         shared = λ e. let (d, x, y, w) = v .class2 (two e) in x ∙ sym y;
         items = item;
       }

@@ -1,0 +1,5 @@
+pub mod FewestCuts
+pub mod Resulting
+pub mod AgainUncut
+pub mod MarksFit
+pub mod Pinned
