@@ -295,7 +295,7 @@ fn standard_input_and_output() {
     let (code, out) = run_with(&["pair", "-", "30", "70", "--json"], &split);
     assert_eq!(code, Some(0));
     let told = parse(&String::from_utf8(out).unwrap());
-    assert_eq!(told.at("table"), &number(5));
+    assert_eq!(told.at("table"), &number(8));
     assert_eq!(told.at("file"), &word("-"));
     let (code, out) = run_with(&["font", "-"], b"no font");
     assert_eq!((code, out), (Some(3), Vec::new()));
