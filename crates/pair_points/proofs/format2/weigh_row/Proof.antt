@@ -104,14 +104,21 @@ same-length-2 c = c .before .set2 .given ∙ c .before .before .before .before .
 
 returns : tie.Need-returns
 returns c =
-    let m = c .before .before .before .before .before .before .before .before .before .before .before .before .before .before .before .before .before .before .before .before .before .before .before in
+    let anew = c .before .before in
+    let after-cut = anew .before .before .before .before in
+    let again = after-cut .before .before .before .before in
+    let test = again .before .before in
+    let due = test .before in
+    let held = due .before .before in
+    let added = held .before .before .before .before in
+    let m = added .before .before .before .before in
     let s = begin m in
     λ b d v.
     let y = m .measure .ensures b _ _ (s .args .i) (m .before .before .item-end .ensures ∙ row-ends v (s .pre .0) .0) (v .at) in
-    let (h, e) = c .before .before .before .before .before .before .before .before .before .before .before .before .before .before .before .before .before .before .before .add .ensures _ _ (v .filled .first) (v .table .ordered) (v .held) in
-    row-cut v (s .pre .0) y h (c .before .before .before .before .before .before .before .before .before .before .before .before .before .before .before .beside .ensures) (c .before .before .before .before .before .before .before .before .before .before .before .before .before .is-due .ensures) (c .before .before .before .before .before .before .before .before .before .before .before .before .if1 .taken)
-    (c .before .before .before .before .before .before .before .before .before .before .measure-at-cut .ensures b _ _ _ (at-cut (row-short v (s .pre .0)) (v .at) y)) (c .before .before .before .before .before .before .cut .ensures)
-    (c .before .before .restart .ensures _ _ _ (v .filled .first) (v .table .ordered) h e)
+    let (h, e) = added .add .ensures _ _ (v .filled .first) (v .table .ordered) (v .held) in
+    row-cut v (s .pre .0) y h (held .beside .ensures) (due .is-due .ensures) (test .if1 .taken)
+    (again .measure-at-cut .ensures b _ _ _ (at-cut (row-short v (s .pre .0)) (v .at) y)) (after-cut .cut .ensures)
+    (anew .restart .ensures _ _ _ (v .filled .first) (v .table .ordered) h e)
 
 add-add : tie.Need-add-add
 add-add c = omega (arith, most (c .before .before .before .before .before .before .before .before .before .before .before .before))
