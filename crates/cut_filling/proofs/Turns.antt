@@ -11,7 +11,7 @@ use borrow.Author.Tests.{leb-false, ltb-false}
 use Rattle.folds.specs.Lists.{put, part}
 use Rattle.folds.proofs.Tests.{by-test, cond-has}
 use Rattle.folds.proofs.Put.{put-nil, put-front, length-put}
-use Rattle.cut_rules.specs.Cuts.{Rule, Cutting, second, costAtCut, leastCut, exceeds, due, cutHere, goOn, weigh, step, after, cutsOf}
+use Rattle.cut_rules.specs.Cuts.{Rule, Cutting, second, costAtCut, leastCut, exceeds, cutDue, cutHere, goOn, weigh, step, after, cutsOf}
 use Rattle.cut_rules.proofs.Turns.{looksAt, costNow, step-passed, step-looked, weigh-cut, weigh-on}
 use Rattle.cut_filling.specs.declared.Filling.{Filling}
 use Rattle.cut_filling.specs.Filling.{Fills, Listed, Placed, Filled}
@@ -31,11 +31,11 @@ module _ (r : Rule) (i : ℕ) where
     after-looked = after-one ∙ step-looked r (after r i) i looks ∙ ap (weigh r (after r i) i) (sym costs)
 
     -- no cut: the item is in the table that is being filled
-    pub goes-on : due r (after r i) i cost ≡ false → after r (i + 1) ≡ goOn (after r i) cost
+    pub goes-on : cutDue r (after r i) i cost ≡ false → after r (i + 1) ≡ goOn (after r i) cost
     goes-on e = after-looked ∙ weigh-on r (after r i) i cost e
 
     -- a cut: the item is the first of the next table
-    pub cuts-here : due r (after r i) i cost ≡ true → after r (i + 1) ≡ cutHere r (after r i) i cost
+    pub cuts-here : cutDue r (after r i) i cost ≡ true → after r (i + 1) ≡ cutHere r (after r i) i cost
     cuts-here e = after-looked ∙ weigh-cut r (after r i) i cost e
 
 -- a sum that goes on stays small: within the limit, but for item 0 where no cut is at 0
@@ -48,8 +48,8 @@ module _ (r : Rule) where
   unfolding after
   start-sum i e = ap (λ (k : ℕ). after r k .sum) e
 
-  stays-small : (i cost : ℕ) → r .start + cost ≤ 67108864 → due r (after r i) i cost ≡ false → after r i .sum + cost ≤ 67108864
-  unfolding due exceeds
+  stays-small : (i cost : ℕ) → r .start + cost ≤ 67108864 → cutDue r (after r i) i cost ≡ false → after r i .sum + cost ≤ 67108864
+  unfolding cutDue exceeds
   stays-small i cost few h =
       by-test (exceeds r (after r i) i cost)
       (λ x.
@@ -98,7 +98,7 @@ module _ (r : Rule) where
 
     module _ (looks : looksAt r i ≡ true) (cost : ℕ) (costs : cost ≡ costNow r (after r i) i) {f′ : Filling} where
       -- no cut
-      pub added : due r (after r i) i cost ≡ false → r .start + cost ≤ 67108864 → Listed f′ (goOn (after r i) cost) d l → Filled r d (i + 1) f′ l
+      pub added : cutDue r (after r i) i cost ≡ false → r .start + cost ≤ 67108864 → Listed f′ (goOn (after r i) cost) d l → Filled r d (i + 1) f′ l
       unfolding goOn
       added h few g =
           let e = goes-on r i looks cost costs h in
@@ -110,7 +110,7 @@ module _ (r : Rule) where
             room = v .room;
           }
 
-      pub cut : {l′ : List ℕ} → due r (after r i) i cost ≡ true → r .start + costAtCut r i cost ≤ 67108864
+      pub cut : {l′ : List ℕ} → cutDue r (after r i) i cost ≡ true → r .start + costAtCut r i cost ≤ 67108864
           → Listed f′ (cutHere r (after r i) i cost) d l′ → Filled r d (i + 1) f′ l′
       unfolding cutHere
       cut {l′} h few g =

@@ -10,7 +10,7 @@ use borrow.Author.Tests.{lt-ltb, le-ltb, le-leb, ne-eqb}
 use Rattle.folds.specs.Lists.{put}
 use Rattle.folds.proofs.Tests.{and-first}
 use Rattle.folds.proofs.Put.{put-set}
-use Rattle.cut_rules.specs.Cuts.{Rule, Cutting, leastCut, costAtCut, exceeds, due, cutHere, goOn, after}
+use Rattle.cut_rules.specs.Cuts.{Rule, Cutting, leastCut, costAtCut, exceeds, cutDue, cutHere, goOn, after}
 use Rattle.cut_filling.specs.Filling.{Fills, Listed}
 use Rattle.cut_filling.specs.declared.Filling.{Filling}
 
@@ -24,21 +24,21 @@ module _ (f : Filling) (i cost beside e : ℕ) (r : Rule) (c : Cutting) (edition
   same-weight : c .sum + cost + r .beside (c .first) i ≡ f .sum + cost + beside
   same-weight = omega (arith, stands, w .sum)
 
-  pub not-due : f .sum + cost + beside ≤ 65535 → due r c i cost ≡ false
-  unfolding due exceeds
+  pub not-due : f .sum + cost + beside ≤ 65535 → cutDue r c i cost ≡ false
+  unfolding cutDue exceeds
   not-due h = and-first (exceeds r c i cost) (leb (leastCut (r .edition)) i) (le-ltb 65535 (c .sum + cost + r .beside (c .first) i) (omega (arith, same-weight)))
 
   module _ (h : 65535 < f .sum + cost + beside) where
-    due-from : due r c i cost ≡ leb (leastCut (r .edition)) i
-    unfolding due exceeds
+    due-from : cutDue r c i cost ≡ leb (leastCut (r .edition)) i
+    unfolding cutDue exceeds
     due-from =
         ap (λ (b : Bool). b && leb (leastCut (r .edition)) i) (lt-ltb 65535 (c .sum + cost + r .beside (c .first) i) (omega (arith, same-weight)))
 
-    pub due-second : e ≡ 2 → due r c i cost ≡ ltb 0 i
+    pub due-second : e ≡ 2 → cutDue r c i cost ≡ ltb 0 i
     unfolding leastCut
     due-second two = due-from ∙ ap (λ (x : ℕ). leb (leastCut x) i) (edition ∙ two)
 
-    pub due-first : (e ≡ 2 → ⊥) → due r c i cost ≡ true
+    pub due-first : (e ≡ 2 → ⊥) → cutDue r c i cost ≡ true
     unfolding leastCut
     due-first ne = due-from ∙ rw (ne-eqb (r .edition) 2 (λ two. ne (sym edition ∙ two))) (le-leb 0 i (omega arith))
 

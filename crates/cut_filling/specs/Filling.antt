@@ -5,7 +5,7 @@ use mathlib.Core.Bool.{Bool}
 use mathlib.Core.List.{List}
 use lib.ListN.{length}
 use Rattle.folds.specs.Lists.{put}
-use Rattle.cut_rules.specs.Cuts.{Rule, Cutting, costAtCut, due, cutHere, goOn, after}
+use Rattle.cut_rules.specs.Cuts.{Rule, Cutting, costAtCut, cutDue, cutHere, goOn, after}
 use Rattle.cut_filling.specs.declared.Filling.{Filling}
 
 -- f is the code's account of c
@@ -21,11 +21,11 @@ pub record Listed (f : Filling) (c : Cutting) (d l : List ℕ) : Type 0 where
 
 -- by any rule of that edition, of which what stands beside the items up to i is `beside`: whether a cut is due at item i
 abbrev pub IsDue : Filling → ℕ → ℕ → ℕ → ℕ → Bool → Type 0
-IsDue f i cost beside e b = (r : Rule) (c : Cutting) → r .edition ≡ e → r .beside (c .first) i ≡ beside → Fills f c → b ≡ due r c i cost
+IsDue f i cost beside e b = (r : Rule) (c : Cutting) → r .edition ≡ e → r .beside (c .first) i ≡ beside → Fills f c → b ≡ cutDue r c i cost
 
 -- an item was added
-abbrev pub Added : Filling → ℕ → Filling → Type 0
-Added f cost f′ = (c : Cutting) (d l : List ℕ) → Listed f c d l → Listed f′ (goOn c cost) d l
+abbrev pub ItemAdded : Filling → ℕ → Filling → Type 0
+ItemAdded f cost f′ = (c : Cutting) (d l : List ℕ) → Listed f c d l → Listed f′ (goOn c cost) d l
 
 -- by any rule with that start, by which item i costs so much at a cut: item i was cut at, whatever it cost before
 abbrev pub Cut : Filling → ℕ → ℕ → ℕ → List ℕ → Filling → List ℕ → Type 0

@@ -5,7 +5,7 @@ ghost use Prim.Native.Nat.{_<_};
 ghost use lib.ListN.{length};
 ghost use Rattle.cut_rules.specs.Cuts.{Rule, after};
 ghost use Rattle.folds.specs.Moments.{came, left};
-ghost use Rattle.cut_filling.specs.Filling.{Fills, IsDue, Added, Cut};
+ghost use Rattle.cut_filling.specs.Filling.{Fills, IsDue, ItemAdded, Cut};
 
 // The table that is being filled: its first item, the sum of its items so far, and how many cuts stand before it.
 pub struct Filling {
@@ -43,7 +43,7 @@ impl Filling {
     // An item that costs `cost` goes into the table.
     pub fn add(mut self, cost: u64) -> Self
         requires { ⌜ (self .sum < 4294967296) × (cost < 4294967296) ⌝ }
-        ensures { λ f. ⌜ Added self cost f ⌝ }
+        ensures { λ f. ⌜ ItemAdded self cost f ⌝ }
     {
         self.sum = self.sum + cost;
         self

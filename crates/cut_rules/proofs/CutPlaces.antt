@@ -11,7 +11,7 @@ use lib.ListN.{length, getD, List·getD-eq-default}
 use Rattle.folds.proofs.Tests.{either}
 use Rattle.folds.proofs.Parts.{getD-default}
 use Rattle.cut_rules.specs.Cuts.{Rule, Cutting, leastCut, cutHere, goOn, after, cutsOf}
-use Rattle.cut_rules.specs.Places.{Places, ascending}
+use Rattle.cut_rules.specs.Places.{Places, placesAscend}
 use Rattle.cut_rules.proofs.Turns.{costNow, due-both, Turn, turn}
 use Rattle.cut_rules.proofs.Ascending.{ascending-wide, ascending-more, ascending-places}
 
@@ -31,15 +31,15 @@ module _ (n : ℕ) (cs : List ℕ) (p : Places n cs) where
 -- ---- the cuts
 
 module _ (r : Rule) where
-  ascending-next : (c : Cutting) (k : ℕ) {d : Cutting} → Turn r c k d → ascending (leastCut (r .edition)) k (c .cuts) ≡ true
-      → ascending (leastCut (r .edition)) (suc k) (d .cuts) ≡ true
+  ascending-next : (c : Cutting) (k : ℕ) {d : Cutting} → Turn r c k d → placesAscend (leastCut (r .edition)) k (c .cuts) ≡ true
+      → placesAscend (leastCut (r .edition)) (suc k) (d .cuts) ≡ true
   unfolding goOn cutHere
   ascending-next c k (Turn.passed l) p = ascending-wide (leastCut (r .edition)) k (suc k) (c .cuts) (omega arith) p
   ascending-next c k (Turn.added l x) p = ascending-wide (leastCut (r .edition)) k (suc k) (c .cuts) (omega arith) p
   ascending-next c k (Turn.cut x) p = ascending-more (leastCut (r .edition)) k (c .cuts) (due-both r c k (costNow r c k) x .1) p
 
-  ascending-after : (k : ℕ) → ascending (leastCut (r .edition)) k (after r k .cuts) ≡ true
-  unfolding after ascending
+  ascending-after : (k : ℕ) → placesAscend (leastCut (r .edition)) k (after r k .cuts) ≡ true
+  unfolding after placesAscend
   ascending-after zero = refl
   ascending-after (suc k) = ascending-next (after r k) k (turn r (after r k) k) (ascending-after k)
 
@@ -47,7 +47,7 @@ module _ (r : Rule) where
   places k = ascending-places (leastCut (r .edition)) k (after r k .cuts) (ascending-after k)
 
   -- none is below the edition's least: in edition 2 none is 0
-  pub cuts-ascend : ascending (leastCut (r .edition)) (r .count) (cutsOf r) ≡ true
+  pub cuts-ascend : placesAscend (leastCut (r .edition)) (r .count) (cutsOf r) ≡ true
   unfolding cutsOf
   cuts-ascend = ascending-after (r .count)
 

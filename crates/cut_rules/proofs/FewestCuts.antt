@@ -14,7 +14,7 @@ use Rattle.folds.proofs.Tests.{and-both, true-false, either}
 use Rattle.folds.proofs.Joined.{and-three, three-hold}
 use Rattle.cut_rules.specs.Cuts.{Rule, Cutting, cutHere, goOn, after, cutsOf}
 use Rattle.cut_rules.specs.Measure.{fits, tableFits, tablesFit, withinLimit}
-use Rattle.cut_rules.specs.Places.{ascending}
+use Rattle.cut_rules.specs.Places.{placesAscend}
 use Rattle.cut_rules.proofs.Measures.{fits-after}
 use Rattle.cut_rules.proofs.SumMeasured.{Filling, filling, Next, next-of}
 
@@ -26,18 +26,18 @@ LaterFits r = (a b i : ℕ) → a ≤ b → b ≤ i → fits r a i ≡ true → 
 
 -- the list from item k on, whose table being filled starts at a: it cuts at k, or it does not, and then item k fits
 data Place (r : Rule) (a k : ℕ) : List ℕ → Type 0 where
-  cut : {rest : List ℕ} → ascending (suc k) (r .count) rest ≡ true → tablesFit r k rest (r .count) ≡ true → Place r a k (k ∷ rest)
-  none : {rest : List ℕ} → ascending (suc k) (r .count) rest ≡ true → (a < k → fits r a k ≡ true) → Place r a k rest
+  cut : {rest : List ℕ} → placesAscend (suc k) (r .count) rest ≡ true → tablesFit r k rest (r .count) ≡ true → Place r a k (k ∷ rest)
+  none : {rest : List ℕ} → placesAscend (suc k) (r .count) rest ≡ true → (a < k → fits r a k ≡ true) → Place r a k rest
 
-place : (r : Rule) (a k : ℕ) (cs : List ℕ) → k < r .count → ascending k (r .count) cs ≡ true → tablesFit r a cs (r .count) ≡ true → Place r a k cs
-unfolding ascending tablesFit
+place : (r : Rule) (a k : ℕ) (cs : List ℕ) → k < r .count → placesAscend k (r .count) cs ≡ true → tablesFit r a cs (r .count) ≡ true → Place r a k cs
+unfolding placesAscend tablesFit
 place r a k [] l h t = Place.none refl (λ m. fits-after r a (r .count) t k m l)
 place r a k (c ∷ cs) l h t =
-    let (x, y, z) = and-three (leb k c) (ltb c (r .count)) (ascending (c + 1) (r .count) cs) h in
+    let (x, y, z) = and-three (leb k c) (ltb c (r .count)) (placesAscend (c + 1) (r .count) cs) h in
     let (u, v) = and-both (tableFits r a c) (tablesFit r c cs (r .count)) t in
     ⊎-elim
     (λ e. subst (λ (i : ℕ). Place r a k (i ∷ cs)) e (Place.cut (rw (← e, add-one) at z) (rw (← e) at v)))
-    (λ lt. Place.none (three-hold (leb (suc k) c) (ltb c (r .count)) (ascending (c + 1) (r .count) cs) (le-leb (suc k) c lt) y z) (λ m. fits-after r a c u k m lt))
+    (λ lt. Place.none (three-hold (leb (suc k) c) (ltb c (r .count)) (placesAscend (c + 1) (r .count) cs) (le-leb (suc k) c lt) y z) (λ m. fits-after r a c u k m lt))
     (eq-or-lt-of-le (leb-true k c x))
 
 -- ---- edition 2 beside it
@@ -49,7 +49,7 @@ record Rival (r : Rule) (cs : List ℕ) (k : ℕ) (c : Cutting) : Type 0 where
   passed : ℕ
   first : ℕ
   parted : length cs ≡ passed + length rest
-  rises : ascending k (r .count) rest ≡ true
+  rises : placesAscend k (r .count) rest ≡ true
   within : tablesFit r first rest (r .count) ≡ true
   low : first ≤ k
   begun : 0 < k → first < k
@@ -92,12 +92,12 @@ module _ (r : Rule) (two : r .edition ≡ 2) (later : LaterFits r) (cs : List �
           let (fewer, level) = past n t in
           record { rest = rest; passed = v .passed; first = v .first; parted = e; rises = s; within = w; low = omega (arith, v .low); begun = λ l. omega (arith, v .low); fewer = fewer; level = level }
 
-  rival : ascending 0 (r .count) cs ≡ true → withinLimit r cs ≡ true → (k : ℕ) → k ≤ r .count → Rival r cs k (after r k)
+  rival : placesAscend 0 (r .count) cs ≡ true → withinLimit r cs ≡ true → (k : ℕ) → k ≤ r .count → Rival r cs k (after r k)
   unfolding after withinLimit
   rival h t zero l =
       record { rest = cs; passed = 0; first = 0; parted = omega arith; rises = h; within = t; low = omega arith; begun = λ q. q; fewer = omega arith; level = λ q. omega arith }
   rival h t (suc k) l = rival-next (after r k) k (omega arith) (filling r two k) (next-of r two k) (rival h t k (omega arith))
 
-  pub fewest : ascending 0 (r .count) cs ≡ true → withinLimit r cs ≡ true → length (cutsOf r) ≤ length cs
+  pub fewest : placesAscend 0 (r .count) cs ≡ true → withinLimit r cs ≡ true → length (cutsOf r) ≤ length cs
   unfolding cutsOf
   fewest h t = let v = rival h t (r .count) (omega arith) in omega (arith, v .fewer, v .parted)

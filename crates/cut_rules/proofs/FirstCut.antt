@@ -8,7 +8,7 @@ use lib.Dec.{leb}
 use lib.ListN.{length, getD, length-append}
 use borrow.Author.Tests.{ltb-false, le-ltb}
 use Rattle.folds.proofs.Tests.{and-first, and-second, by-test}
-use Rattle.cut_rules.specs.Cuts.{Rule, Cutting, second, looked, leastCut, exceeds, due, cutHere, goOn, step, after, cutsOf}
+use Rattle.cut_rules.specs.Cuts.{Rule, Cutting, second, looked, leastCut, exceeds, cutDue, cutHere, goOn, step, after, cutsOf}
 use Rattle.cut_rules.proofs.Turns.{looksAt, costNow, step-passed, step-looked, weigh-on, Turn, turn}
 use Rattle.cut_rules.proofs.CutPlaces.{places}
 
@@ -62,7 +62,7 @@ module _ (r q : Rule) (n : ℕ) (uncut-up : (k : ℕ) → k ≤ n → after r k 
 
   -- one item of both
   alike-next : (c : Cutting) (k : ℕ) {d : Cutting} → k < n → c .first ≡ 0 → c .seen ≡ 0 → Turn r c k d → d .cuts ≡ [] → Alike (step q c k) d
-  unfolding goOn cutHere looked exceeds due
+  unfolding goOn cutHere looked exceeds cutDue
   alike-next c k l f w t u = go t u
     where
       looks : looksAt q k ≡ looksAt r k
@@ -71,7 +71,7 @@ module _ (r q : Rule) (n : ℕ) (uncut-up : (k : ℕ) → k ≤ n → after r k 
       costs : costNow q c k ≡ costNow r c k
       costs = ap (λ (a : ℕ). q .cost a k) w ∙ cost k l ∙ sym (ap (λ (a : ℕ). r .cost a k) w)
 
-      fewer : due r c k (costNow r c k) ≡ false → due q c k (costNow q c k) ≡ false
+      fewer : cutDue r c k (costNow r c k) ≡ false → cutDue q c k (costNow q c k) ≡ false
       fewer h =
           by-test (leb (leastCut (r .edition)) k)
           (λ t.

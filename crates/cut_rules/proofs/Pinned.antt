@@ -12,7 +12,7 @@ use Rattle.cut_rules.specs.Cuts as Cuts
 use Rattle.cut_rules.specs.Cuts.{Rule, cutsOf}
 use Rattle.cut_rules.specs.Ranges.{from, to}
 use Rattle.cut_rules.specs.Places as Places
-use Rattle.cut_rules.specs.Places.{ascending}
+use Rattle.cut_rules.specs.Places.{placesAscend}
 use Rattle.cut_rules.specs.Measure as Measure
 use Rattle.cut_rules.specs.Measure.{measure, fits, tableFits, withinLimit}
 
@@ -61,7 +61,7 @@ pins =
     -- `from`, `to`: a range ends where the next one starts, the last one with the items
     ∷ eqb (from [] 0) 0 ∷ eqb (from (3 ∷ 5 ∷ []) 1) 5 ∷ eqb (to 9 (3 ∷ 5 ∷ []) 0) 5 ∷ eqb (to 9 (3 ∷ 5 ∷ []) 1) 9
     -- `ascending`: from the first bound to below the second, no place twice
-    ∷ ascending 1 5 (1 ∷ 4 ∷ []) ∷ not (ascending 1 5 (0 ∷ 4 ∷ [])) ∷ not (ascending 1 5 (1 ∷ 5 ∷ [])) ∷ not (ascending 1 5 (2 ∷ 2 ∷ [])) ∷ ascending 1 0 []
+    ∷ placesAscend 1 5 (1 ∷ 4 ∷ []) ∷ not (placesAscend 1 5 (0 ∷ 4 ∷ [])) ∷ not (placesAscend 1 5 (1 ∷ 5 ∷ [])) ∷ not (placesAscend 1 5 (2 ∷ 2 ∷ [])) ∷ placesAscend 1 0 []
     -- `measure`: from its own start, over the header, with nothing seen before it
     ∷ eqb (measure (sample 2 (5 ∷ 7 ∷ 9 ∷ [])) 1 2) 234
     -- `fits`: 65,535 bytes do

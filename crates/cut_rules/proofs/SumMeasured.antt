@@ -7,7 +7,7 @@ use lib.Dec.{leb}
 use borrow.Author.Tests.{ltb-true, ltb-false, le-leb, eq-eqb}
 use Rattle.folds.proofs.Tests.{by-test, true-false}
 use Rattle.folds.proofs.Joined.{or-first}
-use Rattle.cut_rules.specs.Cuts.{Rule, Cutting, second, costAtCut, seenFrom, looked, leastCut, exceeds, due, cutHere, goOn, step, after}
+use Rattle.cut_rules.specs.Cuts.{Rule, Cutting, second, costAtCut, seenFrom, looked, leastCut, exceeds, cutDue, cutHere, goOn, step, after}
 use Rattle.cut_rules.specs.Measure.{costs, measure, fits}
 use Rattle.cut_rules.proofs.Measures.{costs-none, costs-more, measured, most-fits, more-fails}
 use Rattle.cut_rules.proofs.Turns.{looksAt, costNow, due-both, Turn, turn}
@@ -49,10 +49,10 @@ module _ (r : Rule) (two : r .edition ≡ 2) where
     whole = omega (arith, f .sum, measured r (c .first) k (f .low), ap (λ (s : ℕ). r .cost s k) (f .seen))
 
     pub next : Next r c k (step r c k)
-    unfolding exceeds due
+    unfolding exceeds cutDue
     next = go (turn r c k)
       where
-        small : due r c k (costNow r c k) ≡ false → 0 < k → fits r (c .first) k ≡ true
+        small : cutDue r c k (costNow r c k) ≡ false → 0 < k → fits r (c .first) k ≡ true
         small h l =
             let t : leb (leastCut (r .edition)) k ≡ true = le-leb (leastCut (r .edition)) k (omega (arith, from-one)) in
             let u : exceeds r c k (costNow r c k) ≡ false = by-test (exceeds r c k (costNow r c k)) (λ e. sym (rw (e, t)) ∙ h) (λ e. e) in

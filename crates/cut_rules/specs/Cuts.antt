@@ -50,8 +50,8 @@ unfoldable pub exceeds : Rule → Cutting → ℕ → ℕ → Bool
 exceeds r c i cost = ltb 65535 (c .sum + cost + r .beside (c .first) i)
 
 -- a cut is due at item i
-unfoldable pub due : Rule → Cutting → ℕ → ℕ → Bool
-due r c i cost = exceeds r c i cost && leb (leastCut (r .edition)) i
+unfoldable pub cutDue : Rule → Cutting → ℕ → ℕ → Bool
+cutDue r c i cost = exceeds r c i cost && leb (leastCut (r .edition)) i
 
 -- "cut at i; sum = ..": the start and the item's cost
 unfoldable pub cutHere : Rule → Cutting → ℕ → ℕ → Cutting
@@ -63,7 +63,7 @@ goOn c cost = record { first = c .first; seen = c .seen; sum = c .sum + cost; cu
 
 -- item i, which is looked at
 unfoldable pub weigh : Rule → Cutting → ℕ → ℕ → Cutting
-weigh r c i cost = cond (due r c i cost) (cutHere r c i cost) (goOn c cost)
+weigh r c i cost = cond (cutDue r c i cost) (cutHere r c i cost) (goOn c cost)
 
 -- one item
 unfoldable pub step : Rule → Cutting → ℕ → Cutting
@@ -80,5 +80,5 @@ cutsOf r = after r (r .count) .cuts
 
 -- all of this file's definitions, for checks that compute
 unfoldable pub computes : Unit {0}
-unfolding costAtCut seenFrom looked leastCut exceeds due cutHere goOn weigh step after cutsOf
+unfolding costAtCut seenFrom looked leastCut exceeds cutDue cutHere goOn weigh step after cutsOf
 computes = tt

@@ -11,11 +11,11 @@ pub record Places (n : ℕ) (cs : List ℕ) : Type 0 where
   pub rising : (j : ℕ) → j + 1 < length cs → getD cs j 0 < getD cs (j + 1) 0
 
 -- the same as a test, none below a: "strictly ascending, each place from" a "to below" n
-unfoldable pub ascending : ℕ → ℕ → List ℕ → Bool
-ascending a n [] = true
-ascending a n (c ∷ cs) = leb a c && ltb c n && ascending (c + 1) n cs
+unfoldable pub placesAscend : ℕ → ℕ → List ℕ → Bool
+placesAscend a n [] = true
+placesAscend a n (c ∷ cs) = leb a c && ltb c n && placesAscend (c + 1) n cs
 
 -- all of this file's definitions, for checks that compute
 unfoldable pub computes : Unit {0}
-unfolding ascending
+unfolding placesAscend
 computes = tt

@@ -25,7 +25,7 @@ use Rattle.glyph_set.proofs.Marks.{mark-here, mark-other, length-mark}
 use Rattle.glyph_set.proofs.Members.{members-of}
 use Rattle.glyph_set.proofs.Emptied.{member-empty}
 use Rattle.glyph_estimator.specs.declared.Estimator.{Estimator}
-use Rattle.glyph_estimator.specs.States.{valuesOf, Counts, rangesSize, EstimatorReady, Added, Small, Estimates}
+use Rattle.glyph_estimator.specs.States.{valuesOf, Counts, rangesSize, EstimatorReady, ClassAdded, Small, Estimates}
 use Rattle.glyph_estimator.proofs.Counting.{length-sift, members-le, runs-le}
 use Rattle.glyph_estimator.proofs.ByClass.{has-more, has-apart, runs-more, class-size}
 
@@ -194,7 +194,7 @@ module _ (all : List Entry) (up : Ascends 0 all) (under : Under 65536 all) where
           }
 
       -- with the class: the state and the set of the classes from a to i
-      pub estimates-more : (r : Estimator) (t : List ℕ) → Added e s i gs r t → Estimates r t (within a (i + 1) all)
+      pub estimates-more : (r : Estimator) (t : List ℕ) → ClassAdded e s i gs r t → Estimates r t (within a (i + 1) all)
       unfolding estimate
       estimates-more r t d = record { values = estimated t (within a (i + 1) all) more-members r (d .counts) more-ranged; holds = more-holds }
         where

@@ -8,7 +8,7 @@ use Rattle.glyph_set.specs.GlyphSet.{runCount, joined}
 use Rattle.glyph_set.specs.Words.{Spans}
 use Rattle.glyph_set.proofs.Members.{members-span}
 use Rattle.glyph_estimator.specs.declared.Estimator.{Estimator}
-use Rattle.glyph_estimator.specs.States.{withRuns, counted, EstimatorReady, Added, Takes, Taken}
+use Rattle.glyph_estimator.specs.States.{withRuns, counted, EstimatorReady, ClassAdded, Takes, Taken}
 use Rattle.glyph_estimator.proofs.Counting.{joined-runs}
 use Rattle.glyph_estimator.proofs.Taking.{Adding, set-length, stop}
 
@@ -33,7 +33,7 @@ module _ (e : Estimator) (s : List ℕ) (class : ℕ) (gs : List ℕ) (y : Estim
     pub spans : Spans t (r .first) (r .last)
     spans = rw (a .added .counts .first, a .added .counts .last) (members-span t)
 
-    pub added-counted : length gs ≤ k → (n : ℕ) → n ≡ runCount t → Added e s class gs (withRuns r n) t
+    pub added-counted : length gs ≤ k → (n : ℕ) → n ≡ runCount t → ClassAdded e s class gs (withRuns r n) t
     added-counted l n q =
-        subst (λ (m : ℕ). Added e s class gs (withRuns r m) t) (sym q)
-        (subst (λ (m : ℕ). Added (withRuns e m) s class gs (counted r t) t) (sym (y .counts .runs)) (stop (counted e s) s class gs (counted r t) t k a l))
+        subst (λ (m : ℕ). ClassAdded e s class gs (withRuns r m) t) (sym q)
+        (subst (λ (m : ℕ). ClassAdded (withRuns e m) s class gs (counted r t) t) (sym (y .counts .runs)) (stop (counted e s) s class gs (counted r t) t k a l))

@@ -16,7 +16,7 @@ use Rattle.ot_layouts.proofs.RunCount.{alone, many, gap, many-none, many-one, m
 use Rattle.glyph_set.specs.GlyphSet.{member, mark, markAll}
 use Rattle.glyph_set.proofs.Emptied.{markAll-more, length-markAll}
 use Rattle.glyph_estimator.specs.declared.Estimator.{Estimator}
-use Rattle.glyph_estimator.specs.States.{rangesSize, EstimatorReady, Added, Takes, Taken, Covered, startsRun}
+use Rattle.glyph_estimator.specs.States.{rangesSize, EstimatorReady, ClassAdded, Takes, Taken, Covered, startsRun}
 
 -- ---- runs
 
@@ -93,7 +93,7 @@ taken-some e s class gs k r t a c z n q =
 pub record Adding (e : Estimator) (s : List ℕ) (class : ℕ) (gs : List ℕ) (r : Estimator) (t : List ℕ) (k : ℕ) : Type 0 where
   pub ready : EstimatorReady e s gs
   pub some : k ≤ length gs
-  pub added : Added e s class (take k gs) r t
+  pub added : ClassAdded e s class (take k gs) r t
 
 module _ (e : Estimator) (s : List ℕ) (class : ℕ) (gs : List ℕ) where
   pub start : EstimatorReady e s gs → Adding e s class gs e s 0
@@ -129,5 +129,5 @@ module _ (e : Estimator) (s : List ℕ) (class : ℕ) (gs : List ℕ) where
               };
         }
 
-    pub stop : length gs ≤ k → Added e s class gs r t
+    pub stop : length gs ≤ k → ClassAdded e s class gs r t
     stop l = rw (take-all k gs l) at (a .added)

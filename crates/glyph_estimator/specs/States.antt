@@ -47,7 +47,7 @@ pub record EstimatorReady (e : Estimator) (s gs : List ℕ) : Type 0 where
   pub new : (k : ℕ) → k < length gs → member (markAll s (take k gs)) (getD gs k 0) ≡ false
 
 -- the state r and the set t are e and s with the glyphs of a class
-pub record Added (e : Estimator) (s : List ℕ) (class : ℕ) (gs : List ℕ) (r : Estimator) (t : List ℕ) : Type 0 where
+pub record ClassAdded (e : Estimator) (s : List ℕ) (class : ℕ) (gs : List ℕ) (r : Estimator) (t : List ℕ) : Type 0 where
   pub marked : t ≡ markAll s gs
   pub counts : Counts r t
   pub ranged : r .ranged ≡ e .ranged + rangesSize class gs

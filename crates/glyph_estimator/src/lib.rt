@@ -11,7 +11,7 @@ ghost use lib.ListN.{length, getD};
 ghost use Rattle.glyph_set.specs.GlyphSet.{blankAll};
 ghost use Rattle.glyph_rules.specs.Estimates.{estimate, coverSize, classSize, besideRows};
 ghost use Rattle.folds.specs.Moments.{came, left};
-ghost use Rattle.glyph_estimator.specs.States.{valuesOf, counted, startsRun, Takes, Taken, Covered, EstimatorReady, Added, Small};
+ghost use Rattle.glyph_estimator.specs.States.{valuesOf, counted, startsRun, Takes, Taken, Covered, EstimatorReady, ClassAdded, Small};
 
 // A class of fewer glyphs is added glyph by glyph.
 const FEW: usize = 32;
@@ -57,7 +57,7 @@ impl Estimator {
     // Adds a class with its glyphs, which are not in the set yet, and puts them in. A class with no glyphs changes nothing.
     pub fn add(self, class: u16, glyphs: &[u16], set: &mut [u8]) -> Self
         requires { ⌜ EstimatorReady self (now set) (now glyphs) ⌝ }
-        ensures { λ r. ⌜ Added self (came set) class (came glyphs) r (left set) ⌝ }
+        ensures { λ r. ⌜ ClassAdded self (came set) class (came glyphs) r (left set) ⌝ }
     {
         if self.fills_words(glyphs) {
             return self.add_by_word(class, glyphs, set);
@@ -83,7 +83,7 @@ impl Estimator {
     // Adds a class glyph by glyph, each with the runs that it makes or joins.
     fn add_by_glyph(mut self, class: u16, glyphs: &[u16], set: &mut [u8]) -> Self
         requires { ⌜ EstimatorReady self (now set) (now glyphs) ⌝ }
-        ensures { λ r. ⌜ Added self (came set) class (came glyphs) r (left set) ⌝ }
+        ensures { λ r. ⌜ ClassAdded self (came set) class (came glyphs) r (left set) ⌝ }
     {
         let mut k: usize = 0;
         while k < glyphs.len() {
@@ -96,7 +96,7 @@ impl Estimator {
     // Adds a class as a whole: once its glyphs are in the set, the runs are counted by the word.
     fn add_by_word(mut self, class: u16, glyphs: &[u16], set: &mut [u8]) -> Self
         requires { ⌜ EstimatorReady self (now set) (now glyphs) ⌝ }
-        ensures { λ r. ⌜ Added self (came set) class (came glyphs) r (left set) ⌝ }
+        ensures { λ r. ⌜ ClassAdded self (came set) class (came glyphs) r (left set) ⌝ }
     {
         let mut k: usize = 0;
         while k < glyphs.len() {

@@ -15,13 +15,13 @@ use Rattle.lookup_rules.specs.Listed.{linkedIn, listSlots, eachOnce, lookupsOf,
 use Rattle.lookup_rules.proofs.Slots.{among-once}
 use Rattle.lookup_rules.proofs.Linked.{list-linked}
 use Rattle.lookup_rules.proofs.Listed.{list-fits, listed-good}
-use Rattle.lookup_checks.specs.Objects.{InUse}
+use Rattle.lookup_checks.specs.Objects.{ObjectInUse}
 use Rattle.lookup_checks.specs.Rows.{rowCount, leadsAt, toRewrite}
 use Rattle.lookup_checks.specs.Ordered.{chosen, Orderable, Ordered}
 use Rattle.lookup_checks.proofs.Objects.{use-fits, rows-lead}
 use Rattle.lookup_checks.proofs.Looking.{zeros-at}
 
-module _ (s : Store) (l t : ℕ) (u : InUse s l) (fine : badList s l t ≡ false) {r : LinkRows} (rows : ParentRows (s .links) (s .linkCount) l r)
+module _ (s : Store) (l t : ℕ) (u : ObjectInUse s l) (fine : badList s l t ≡ false) {r : LinkRows} (rows : ParentRows (s .links) (s .linkCount) l r)
     (small : (k : ℕ) → positionOf s k < 4294967296) where
   abbrev lead : ℕ → ℕ
   lead = leadsAt (s .links) r

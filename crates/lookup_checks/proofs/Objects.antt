@@ -23,12 +23,12 @@ use Rattle.lookup_rules.specs.Listed.{ofPairs, names, goodLookup}
 use Rattle.lookup_rules.proofs.NewLookup.{exact-long}
 use Rattle.lookup_rules.proofs.Listed.{good-exact}
 use Rattle.lookup_rules.proofs.Linked.{childrenOf, names-linked}
-use Rattle.lookup_checks.specs.Objects.{InUse}
+use Rattle.lookup_checks.specs.Objects.{ObjectInUse}
 use Rattle.lookup_checks.specs.Rows.{RowsIn, RowsUsed, rowCount, leadsAt}
 
 -- ---- an object in use of a sound store
 
-module _ {s : Store} {p : ℕ} (u : InUse s p) where
+module _ {s : Store} {p : ℕ} (u : ObjectInUse s p) where
   abbrev pub use-fits : Fits s
   use-fits = sound-fits s (u .sounds)
 
@@ -47,11 +47,11 @@ module _ {s : Store} {p : ℕ} {r : LinkRows} (f : Fits s) (rows : ParentRows (s
   rows-lead small = ap (map (λ l. l .child)) (own-links s p rows small) ∙ map-upto (λ l. l .child) (λ i. linkAt s (r .first + i)) (rowCount r)
 
 -- the rows of an object in use
-pub rows-used : {s : Store} {p : ℕ} {r : LinkRows} → InUse s p → ParentRows (s .links) (s .linkCount) p r → RowsUsed s r
+pub rows-used : {s : Store} {p : ℕ} {r : LinkRows} → ObjectInUse s p → ParentRows (s .links) (s .linkCount) p r → RowsUsed s r
 rows-used u rows = record { sounds = u .sounds; within = rows .after .within; rows = rows-in (use-fits u) rows }
 
 -- what a row leads to is in use
-pub lead-used : {s : Store} {r : LinkRows} → RowsUsed s r → (i : ℕ) → i < rowCount r → InUse s (leadsAt (s .links) r i)
+pub lead-used : {s : Store} {r : LinkRows} → RowsUsed s r → (i : ℕ) → i < rowCount r → ObjectInUse s (leadsAt (s .links) r i)
 lead-used {s} {r} u i h =
     record { sounds = u .sounds; used = sound-fits s (u .sounds) .link (r .first + i) (omega (arith, u .rows .rise, u .within)) .childUsed }
 

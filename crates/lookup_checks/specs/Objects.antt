@@ -5,6 +5,6 @@ use mathlib.Core.Bool.{true}
 use Rattle.store_rules.specs.Store.{Store, sound}
 
 -- object p of a sound store is in use
-pub record InUse (s : Store) (p : ℕ) : Type 0 where
+pub record ObjectInUse (s : Store) (p : ℕ) : Type 0 where
   pub sounds : sound s ≡ true
   pub used : p < s .objectCount

@@ -26,12 +26,12 @@ ghost use Rattle.store_rules.specs.Store.{lent, perLink, rowPosition, allAt};
 ghost use Rattle.store_rules.specs.Moments.{storeCameWith, storeNowWith};
 ghost use Rattle.store_reader.specs.Rows.{InOrder};
 ghost use Rattle.lookup_rules.specs.Listed.{goodList, goodLookup};
-ghost use Rattle.lookup_checks.specs.Objects.{InUse};
+ghost use Rattle.lookup_checks.specs.Objects.{ObjectInUse};
 ghost use Rattle.lookup_checks.specs.Rows.{RowsIn, rowCount, leadsAt, toRewrite};
 
 // Whether a list has its length, and each of its links stands at a slot.
 pub fn list_fits(data: &[u8], objects: &[u32], links: &[u32], counts: [u32; 3], list: u32) -> bool
-    requires { ⌜ InUse (storeNowWith «data» objects links counts) list ⌝ }
+    requires { ⌜ ObjectInUse (storeNowWith «data» objects links counts) list ⌝ }
     ensures { λ r. ⌜ r ≡ goodList (storeCameWith «data» objects links counts) list ⌝ }
 {
     let bytes = bytes_of(data, objects, list as usize);
@@ -49,7 +49,7 @@ pub fn lookup_fits(
     counts: [u32; 3],
     lookup: u32,
 ) -> bool
-    requires { ⌜ InUse (storeNowWith «data» objects links counts) lookup ⌝ }
+    requires { ⌜ ObjectInUse (storeNowWith «data» objects links counts) lookup ⌝ }
     ensures { λ r. ⌜ r ≡ goodLookup (storeCameWith «data» objects links counts) lookup ⌝ }
 {
     let bytes = bytes_of(data, objects, lookup as usize);
@@ -94,7 +94,7 @@ pub fn is_rewritten(
     lookup: u32,
     table: u32,
 ) -> bool
-    requires { ⌜ InUse (storeNowWith «data» objects links counts) lookup ⌝ }
+    requires { ⌜ ObjectInUse (storeNowWith «data» objects links counts) lookup ⌝ }
     requires { ⌜ goodLookup (storeNowWith «data» objects links counts) lookup ≡ true ⌝ }
     ensures { λ r. ⌜ r ≡ toRewrite (storeCameWith «data» objects links counts) table lookup ⌝ }
 {

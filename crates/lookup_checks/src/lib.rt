@@ -18,7 +18,7 @@ ghost use mathlib.Core.Bool.{not};
 ghost use Rattle.folds.specs.Moments.{came};
 ghost use Rattle.store_rules.specs.Moments.{storeCameWith, storeNowWith};
 ghost use Rattle.lookup_rules.specs.Listed.{badList};
-ghost use Rattle.lookup_checks.specs.Objects.{InUse};
+ghost use Rattle.lookup_checks.specs.Objects.{ObjectInUse};
 ghost use Rattle.lookup_checks.specs.Rows.{RowsUsed, rowCount, leadsAt, fitAndName};
 
 // Whether 9 does not apply. A lookup that has a place in the walk is looked at once, one that has none as often as it is listed: then the walk is too short
@@ -32,7 +32,7 @@ pub fn check_list(
     table: u32,
     walk: &mut [u32],
 ) -> bool
-    requires { ⌜ InUse (storeNowWith «data» objects links counts) list ⌝ }
+    requires { ⌜ ObjectInUse (storeNowWith «data» objects links counts) list ⌝ }
     ensures { λ r. ⌜ r ≡ not (badList (storeCameWith «data» objects links counts) list table) ⌝ }
 {
     if !list_fits(data, objects, links, counts, list) {

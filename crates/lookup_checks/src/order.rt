@@ -14,7 +14,7 @@ ghost use lib.ListN.{length, getD};
 ghost use Rattle.folds.specs.Moments.{came, left};
 ghost use Rattle.store_rules.specs.Moments.{storeCameWith, storeNowWith};
 ghost use Rattle.lookup_rules.specs.Listed.{rewritten, badList};
-ghost use Rattle.lookup_checks.specs.Objects.{InUse};
+ghost use Rattle.lookup_checks.specs.Objects.{ObjectInUse};
 ghost use Rattle.lookup_checks.specs.Rows.{RowsUsed, rowCount, leadsAt};
 ghost use Rattle.lookup_checks.specs.Ordered.{chosen, Orderable, Ordered};
 
@@ -28,7 +28,7 @@ pub fn order_lookups(
     table: u32,
     walk: &mut [u32],
 ) -> usize
-    requires { ⌜ InUse (storeNowWith «data» objects links counts) list ⌝ }
+    requires { ⌜ ObjectInUse (storeNowWith «data» objects links counts) list ⌝ }
     requires { ⌜ badList (storeNowWith «data» objects links counts) list table ≡ false ⌝ }
     requires { ⌜ 2 * getD counts 1 0 ≤ length (now walk) ⌝ }
     ensures { λ r. ⌜ Ordered (getD counts 1 0) (rewritten (storeCameWith «data» objects links counts) list table) (left walk) r ⌝ }

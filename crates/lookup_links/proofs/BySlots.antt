@@ -19,7 +19,7 @@ use Rattle.store_rules.proofs.Sound.{Fits}
 use Rattle.lookup_rules.specs.Listed.{goodLookup, subtableSlots}
 use Rattle.lookup_rules.specs.Written.{entered, newSlots, subtableLinks, newLookupLinks}
 use Rattle.lookup_rules.proofs.Filled.{Filled, end, empty, linked, lookup-filled}
-use Rattle.lookup_links.specs.Copies.{tableLinks, linkEntered, linksEntered, lookupCopies}
+use Rattle.lookup_links.specs.Copies.{newTableLinks, linkEntered, linksEntered, lookupCopies}
 
 module _ (u : ℕ) where
   -- the links at slots, of which the first is at q, one after another
@@ -47,7 +47,7 @@ module _ (u : ℕ) where
       ap (λ (r : List Link). slotLink u q x ++ r) (at-append (q + 2) xs ys ∙ ap (λ (n : ℕ). linksAt (q + 2) xs ++ linksAt n ys) z)
       ∙ sym (append-assoc (slotLink u q x) (linksAt (q + 2) xs) (linksAt (q + 2 * suc (length xs)) ys))
 
-  tables-front : (q : ℕ) (us : List ℕ) → linksAt q (map some us) ≡ tableLinks us u q
+  tables-front : (q : ℕ) (us : List ℕ) → linksAt q (map some us) ≡ newTableLinks us u q
   unfolding linksAt slotLink flat
   tables-front q [] = refl
   tables-front q (v ∷ us) =
@@ -74,7 +74,7 @@ module _ (u : ℕ) where
         ∙ ap (λ (r : List Link). link u (l .position + 2 * up) (l .child) ∷ r) (go (l .position + 2 * up + 2) (omega arith) (eqb (l .child) t) (λ k. by-rows f k))
       where
         go : (q : ℕ) → q ≡ a + 2 + 2 * up → (b : Bool) → ((k : ℕ) → linksAt (a + 2 + 2 * k) (entered t us os) ≡ linksEntered t us u k ls)
-            → linksAt q (enteredBehind os b) ≡ cond b (tableLinks us u q) [] ++ linksEntered t us u (cond b (up + length us) up) ls
+            → linksAt q (enteredBehind os b) ≡ cond b (newTableLinks us u q) [] ++ linksEntered t us u (cond b (up + length us) up) ls
         go q z true later =
             let new : List (Option ℕ) = map some us in
             let w : q + 2 * length new ≡ a + 2 + 2 * (up + length us) = omega (arith, length-map some us) in

@@ -15,7 +15,7 @@ use Rattle.store_rules.specs.Appended.{link, numbersOf, rowNumbers}
 use Rattle.store_link_rows.specs.Rows.{linkIn}
 use Rattle.store_link_rows.specs.Copies.{RowsRoom, Copied}
 use Rattle.store_link_rows.proofs.Copying.{room-rest, copied-more, Turns, turns-start, turns-turn, turns-stop}
-use Rattle.lookup_links.specs.Copies.{tableLinks, linkEntered, linksEntered, RowReady}
+use Rattle.lookup_links.specs.Copies.{newTableLinks, linkEntered, linksEntered, RowReady}
 
 -- one row
 pub one-copied : {ls : List ℕ} {at u q c : ℕ} {out : List ℕ} → out ≡ put ls (perLink * at) (numbersOf (link u q c)) → Copied ls at (link u q c ∷ []) out (at + 1)
@@ -52,10 +52,10 @@ module _ (ls : List ℕ) (at : ℕ) (us : List ℕ) (u q : ℕ) where
               (turns-turn ls [] at (tableTurn us u q) (length us) (done .turns) l (one-copied e));
         }
 
-    pub tables-stop : length us ≤ j → Copied ls at (tableLinks us u q) out (at + length us)
+    pub tables-stop : length us ≤ j → Copied ls at (newTableLinks us u q) out (at + length us)
     tables-stop l =
         let z : j ≡ length us = omega (arith, done .turns .some) in
-        subst (λ (n : ℕ). Copied ls at (tableLinks us u q) out (at + n)) z (turns-stop ls [] at (tableTurn us u q) (length us) (done .turns) l)
+        subst (λ (n : ℕ). Copied ls at (newTableLinks us u q) out (at + n)) z (turns-stop ls [] at (tableTurn us u q) (length us) (done .turns) l)
 
 -- ---- a row of the old lookup
 
@@ -77,7 +77,7 @@ module _ (t : ℕ) (us : List ℕ) (u up : ℕ) (l : Link) where
   entered-other ne = rw (ne-eqb (l .child) t ne)
 
   -- it leads to the old table
-  pub entered-listing : l .child ≡ t → linkEntered t us u up l ≡ (link u (l .position + 2 * up) (l .child) ∷ []) ++ tableLinks us u (l .position + 2 * up + 2)
+  pub entered-listing : l .child ≡ t → linkEntered t us u up l ≡ (link u (l .position + 2 * up) (l .child) ∷ []) ++ newTableLinks us u (l .position + 2 * up + 2)
   unfolding linkEntered
   entered-listing e = rw (eq-eqb (l .child) t e)
 
@@ -105,7 +105,7 @@ module _ {ls : List ℕ} {t : ℕ} {us : List ℕ} {k up at u : ℕ} (ready : Ro
     other-copied ne = subst (λ (x : List Link). Copied ls at x out (at + 1)) (sym (entered-other t us u up old ne)) (one-copied written)
 
     module _ (e : old .child ≡ t) where
-      both-room : RowsRoom ls [] at ((new ∷ []) ++ tableLinks us u (old .position + 2 * up + 2))
+      both-room : RowsRoom ls [] at ((new ∷ []) ++ newTableLinks us u (old .position + 2 * up + 2))
       both-room =
           subst (λ (x : List Link). RowsRoom ls [] at x) (entered-listing t us u up old e)
           (record { behind = omega arith; fits = ready .room })
@@ -113,11 +113,11 @@ module _ {ls : List ℕ} {t : ℕ} {us : List ℕ} {k up at u : ℕ} (ready : Ro
       pub listing-room : perLink * (at + 1 + length us) ≤ length out
       listing-room =
           let long = length-upto (λ j. link u (old .position + 2 * up + 2 + 2 * j) (getD us j 0)) (length us) in
-          let rest = room-rest (new ∷ []) (tableLinks us u (old .position + 2 * up + 2)) both-room (one-copied written) in
+          let rest = room-rest (new ∷ []) (newTableLinks us u (old .position + 2 * up + 2)) both-room (one-copied written) in
           omega (arith, rest .fits)
 
-      pub listing-copied : {out′ : List ℕ} {r : ℕ} → Copied out (at + 1) (tableLinks us u (old .position + 2 * up + 2)) out′ r
+      pub listing-copied : {out′ : List ℕ} {r : ℕ} → Copied out (at + 1) (newTableLinks us u (old .position + 2 * up + 2)) out′ r
           → Copied ls at (linkEntered t us u up old) out′ r
       listing-copied {out′} {r} more =
           subst (λ (x : List Link). Copied ls at x out′ r) (sym (entered-listing t us u up old e))
-          (copied-more (new ∷ []) (tableLinks us u (old .position + 2 * up + 2)) both-room (one-copied written) more)
+          (copied-more (new ∷ []) (newTableLinks us u (old .position + 2 * up + 2)) both-room (one-copied written) more)

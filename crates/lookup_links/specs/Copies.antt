@@ -15,12 +15,12 @@ use Rattle.store_link_rows.specs.Copies.{inUse, RowsRoom}
 -- ---- what is written: t is the old table, us are the new ones, and u is the new lookup
 
 -- the new tables' links, the first at position q
-abbrev pub tableLinks : List ℕ → ℕ → ℕ → List Link
-tableLinks us u q = upto (λ j. link u (q + 2 * j) (getD us j 0)) (length us)
+abbrev pub newTableLinks : List ℕ → ℕ → ℕ → List Link
+newTableLinks us u q = upto (λ j. link u (q + 2 * j) (getD us j 0)) (length us)
 
 -- an old link, up by so many slots; and behind it the new tables, where it leads to the old one
 unfoldable pub linkEntered : ℕ → List ℕ → ℕ → ℕ → Link → List Link
-linkEntered t us u up l = link u (l .position + 2 * up) (l .child) ∷ cond (eqb (l .child) t) (tableLinks us u (l .position + 2 * up + 2)) []
+linkEntered t us u up l = link u (l .position + 2 * up) (l .child) ∷ cond (eqb (l .child) t) (newTableLinks us u (l .position + 2 * up + 2)) []
 
 -- old links in order: "later subtables moving up"
 unfoldable pub linksEntered : ℕ → List ℕ → ℕ → ℕ → List Link → List Link

@@ -11,7 +11,7 @@ ghost use Rattle.store_link_rows.specs.Rows.{linkIn};
 ghost use Rattle.store_link_rows.specs.Copies.{inUse, Copied};
 ghost use Rattle.lookup_rules.specs.Written.{newLookupLinks, redirected};
 ghost use Rattle.lookup_rules.specs.Marks.{Marked};
-ghost use Rattle.lookup_links.specs.Copies.{tableLinks, linkEntered, lookupCopies, RowReady, LookupReady};
+ghost use Rattle.lookup_links.specs.Copies.{newTableLinks, linkEntered, lookupCopies, RowReady, LookupReady};
 ghost use Rattle.lookup_links.specs.Entering.{Entering, EnteringLent};
 ghost use Rattle.lookup_links.specs.Redirecting.{linksIn, movedBy, Redirecting};
 use store_link_rows::put_link;
@@ -24,7 +24,7 @@ use store_reader::rows_of;
 fn put_tables(links: &mut [u32], at: usize, parent: u32, position: u32, tables: &[u32]) -> usize
     requires { ⌜ perLink * (at + length (now tables)) ≤ length (now links) ⌝ }
     requires { ⌜ position + 2 * length (now tables) ≤ 4294967296 ⌝ }
-    ensures { λ r. ⌜ Copied (came links) at (tableLinks (came tables) parent position) (left links) r ⌝ }
+    ensures { λ r. ⌜ Copied (came links) at (newTableLinks (came tables) parent position) (left links) r ⌝ }
 {
     let mut j = 0;
     while j < tables.len() {

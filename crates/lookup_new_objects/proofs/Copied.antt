@@ -14,13 +14,13 @@ use Rattle.ot_layouts.proofs.Numbers.{length-be16}
 use Rattle.store_object_rows.specs.Objects.{Laid}
 use Rattle.lookup_rules.specs.Written.{newLookup}
 use Rattle.lookup_rules.proofs.NewLookup.{new-length}
-use Rattle.lookup_new_objects.specs.Written.{CopyReady}
+use Rattle.lookup_new_objects.specs.Written.{LookupCopyReady}
 
 -- what a list has from k on, as a part
 drop-part : (b : List ℕ) (k : ℕ) → drop k b ≡ part b k (length b)
 drop-part b k = sym (take-all (length b - k) (drop k b) (omega (arith, length-drop k b)))
 
-module _ {d : List ℕ} {head tail n at : ℕ} (ready : CopyReady d head tail n at) where
+module _ {d : List ℕ} {head tail n at : ℕ} (ready : LookupCopyReady d head tail n at) where
   -- the old lookup
   abbrev old : List ℕ
   old = part d head tail

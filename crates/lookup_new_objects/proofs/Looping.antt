@@ -18,7 +18,7 @@ use Rattle.store_object_rows.proofs.Rounds.{Rounds, rounds-start, rounds-stop, 
 use Rattle.lookup_rules.specs.Listed.{slotsAt, subtableSlots, goodLookup}
 use Rattle.lookup_rules.specs.Written.{newLookup, newSlots, newLookups, listings, countsFit}
 use Rattle.lookup_new_objects.specs.Counted.{countWith, lookupWith, lookupsWith}
-use Rattle.lookup_new_objects.specs.Written.{LookupReady, Writing}
+use Rattle.lookup_new_objects.specs.Written.{NewLookupReady, WritingLookups}
 use Rattle.lookup_new_objects.proofs.Counted.{count-is, lookups-are}
 
 -- ---- a lookup of the store with other bytes and rows behind those in use
@@ -54,7 +54,7 @@ module _ (s : Store) (t k : ℕ) (ps : List ℕ) where
   unfolding lookupsWith
   all-are us many = lookups-are s t us ps ∙ ap (λ (n : ℕ). lookupsWith s t n ps) many
 
-  pub lookups-start : Writing s t k ps → LookupsWritten s t k ps (s .bytes) (s .objects) (s .byteCount) (s .objectCount) 0
+  pub lookups-start : WritingLookups s t k ps → LookupsWritten s t k ps (s .bytes) (s .objects) (s .byteCount) (s .objectCount) 0
   lookups-start w =
       let room = subst (ObjectsRoom (s .bytes) (s .objects) (s .byteCount) (s .objectCount)) (all-are (w .tables) (w .many)) (w .room) in
       record {
@@ -68,7 +68,7 @@ module _ (s : Store) (t k : ℕ) (ps : List ℕ) where
         subst (λ (new : List (List ℕ)). Written (s .bytes) (s .objects) (s .byteCount) (s .objectCount) new d o at) (sym (all-are us many))
         (rounds-stop (s .bytes) (s .objects) (s .byteCount) (s .objectCount) (lookupRound s t k ps) (length ps) 1 d o at row m (done .rounds) l)
 
-    module _ (w : Writing s t k ps) (l : m < length ps) where
+    module _ (w : WritingLookups s t k ps) (l : m < length ps) where
       abbrev p : ℕ
       p = getD ps m 0
 
@@ -94,7 +94,7 @@ module _ (s : Store) (t k : ℕ) (ps : List ℕ) where
           (all-at (λ m. leb (length (newSlots s t (w .tables) (getD ps m 0))) 65535) (length ps) (w .counts-fit) m l) in
           omega (arith, count-is s t (w .tables) p, ap (λ (n : ℕ). countWith s t n p) (w .many))
 
-      pub lookup-ready : LookupReady (with s d o) t k p at row
+      pub lookup-ready : NewLookupReady (with s d o) t k p at row
       lookup-ready =
           record {
             sizing = record {

@@ -17,7 +17,7 @@ use Rattle.store_rules.specs.SlotLinks.{linksFrom}
 use Rattle.store_object_rows.proofs.Joining.{join-one, join-flat}
 use Rattle.lookup_rules.specs.Written.{newSlots, countsFit, linksNeeded, lookupsNeed}
 use Rattle.lookup_new_objects.specs.declared.Size.{Size}
-use Rattle.lookup_new_objects.specs.Counted.{enteredIn, countWith, lookupWith, lookupsWith, Sized, Sizing, Measuring, Measured}
+use Rattle.lookup_new_objects.specs.Counted.{enteredIn, countWith, lookupWith, lookupsWith, Sized, Sizing, Measuring, LookupsMeasured}
 use Rattle.lookup_new_objects.proofs.Counted.{count-is, lookups-are}
 
 -- of new lookup m: whether its count can be said, its links and its bytes
@@ -72,7 +72,7 @@ module _ (s : Store) (t k : ℕ) (ps : List ℕ) where
         }
 
     pub added-stop : length ps ≤ m → (us : List ℕ) → length us ≡ k
-        → Measured s t us ps (record { fits = fits; needs = record { objects = length ps; links = links; bytes = bytes; entries = 0 } })
+        → LookupsMeasured s t us ps (record { fits = fits; needs = record { objects = length ps; links = links; bytes = bytes; entries = 0 } })
     unfolding countsFit lookupsNeed linksNeeded lookupsWith
     added-stop l us many =
         let n : m ≡ length ps = omega (arith, a .some) in

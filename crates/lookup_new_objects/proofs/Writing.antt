@@ -11,10 +11,10 @@ use Rattle.store_object_rows.specs.Objects.{Laid, Written}
 use Rattle.store_object_rows.proofs.Writing.{written-one, one-fits, one-row, one-small}
 use Rattle.lookup_rules.specs.Written.{newLookup}
 use Rattle.lookup_new_objects.specs.Counted.{countWith, lookupWith}
-use Rattle.lookup_new_objects.specs.Written.{CopyReady, LookupReady}
+use Rattle.lookup_new_objects.specs.Written.{LookupCopyReady, NewLookupReady}
 use Rattle.lookup_new_objects.proofs.Sizing.{bytes-long}
 
-module _ {s : Store} {t k p at row : ℕ} (ready : LookupReady s t k p at row) where
+module _ {s : Store} {t k p at row : ℕ} (ready : NewLookupReady s t k p at row) where
   fits : Fits s
   fits = sound-fits s (ready .sizing .sound-is)
 
@@ -37,7 +37,7 @@ module _ {s : Store} {t k p at row : ℕ} (ready : LookupReady s t k p at row) w
     unfolding bytesOf
     new-is = ap (newLookup (bytesOf s p)) count
 
-    pub copy-ready : CopyReady (s .bytes) (headOf s p) (tailOf s p) n at
+    pub copy-ready : LookupCopyReady (s .bytes) (headOf s p) (tailOf s p) n at
     unfolding bytesOf
     copy-ready =
         let size = size-bytes s fits p used in

@@ -62,6 +62,6 @@ pub record Measuring (s : Store) (k : ℕ) (ps : List ℕ) : Type 0 where
   pub short : length ps ≤ 65536
 
 -- for a caller: 10 does not apply, and what 8 counts
-pub record Measured (s : Store) (t : ℕ) (us ps : List ℕ) (r : Extent) : Type 0 where
+pub record LookupsMeasured (s : Store) (t : ℕ) (us ps : List ℕ) (r : Extent) : Type 0 where
   pub fits-is : r .fits ≡ countsFit s t us ps
   pub needs-are : r .needs ≡ lookupsNeed s t us ps

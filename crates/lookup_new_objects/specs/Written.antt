@@ -13,20 +13,20 @@ use Rattle.lookup_rules.specs.Rewritable.{EachRewritable}
 use Rattle.lookup_new_objects.specs.Counted.{countWith, lookupWith, Sizing}
 
 -- the bytes of a new lookup of n subtables can be written from `at` on: its old one, which stands from head up to tail, lies below and holds its slots
-pub record CopyReady (d : List ℕ) (head tail n at : ℕ) : Type 0 where
+pub record LookupCopyReady (d : List ℕ) (head tail n at : ℕ) : Type 0 where
   pub long : head + (lookupHeader + 2 * subtableCount (part d head tail)) ≤ tail
   pub apart : tail ≤ at
   pub room : at + length (newLookup (part d head tail) n) ≤ length d
 
 -- the new lookup for p can be written from byte `at` and row `row` on, where k new tables are entered behind each listing of t
-pub record LookupReady (s : Store) (t k p at row : ℕ) : Type 0 where
+pub record NewLookupReady (s : Store) (t k p at row : ℕ) : Type 0 where
   pub sizing : Sizing s k p
   pub count-fits : countWith s t k p ≤ 65535
   pub apart : s .byteCount ≤ at
   pub room : ObjectsRoom (s .bytes) (s .objects) at row (lookupWith s t k p ∷ [])
 
 -- those for the lookups ps can be, and these are k new tables: 10 does not apply, and there is room
-pub record Writing (s : Store) (t k : ℕ) (ps : List ℕ) : Type 0 where
+pub record WritingLookups (s : Store) (t k : ℕ) (ps : List ℕ) : Type 0 where
   pub sound-is : sound s ≡ true
   pub lookups : EachRewritable s ps
   pub few : k ≤ 65536

@@ -22,8 +22,8 @@ ghost use Rattle.store_rules.specs.Store.{perLink};
 ghost use Rattle.store_rules.specs.Moments.{storeCameWith, storeNowWith};
 ghost use Rattle.store_object_rows.specs.Objects.{Laid, Written};
 ghost use Rattle.lookup_rules.specs.Written.{newLookup, newLookups};
-ghost use Rattle.lookup_new_objects.specs.Counted.{listedIn, lookupWith, Sized, Sizing, Measuring, Measured};
-ghost use Rattle.lookup_new_objects.specs.Written.{CopyReady, LookupReady, Writing};
+ghost use Rattle.lookup_new_objects.specs.Counted.{listedIn, lookupWith, Sized, Sizing, Measuring, LookupsMeasured};
+ghost use Rattle.lookup_new_objects.specs.Written.{LookupCopyReady, NewLookupReady, WritingLookups};
 
 // A new lookup: how many subtables and links it has, and how many bytes it takes.
 struct Size {
@@ -100,7 +100,7 @@ pub fn measure(
 ) -> Extent
     requires { ⌜ Measuring (storeNowWith «data» objects links counts) tables (now lookups) ⌝ }
     ensures { λ r. ⌜
-        ((us : List ℕ) → length us ≡ tables → Measured (storeCameWith «data» objects links counts) table us (came lookups) r)
+        ((us : List ℕ) → length us ≡ tables → LookupsMeasured (storeCameWith «data» objects links counts) table us (came lookups) r)
         ⌝ }
 {
     let mut fits = true;
@@ -128,7 +128,7 @@ pub fn measure(
 // Writes the bytes of a new lookup of so many subtables at byte `at`: those of its old one, which stands from `head` up to `tail`, but for the count and for
 // the offsets, which are zero. Returns where it ends.
 fn copy_lookup(data: &mut [u8], head: usize, tail: usize, subtables: u16, at: usize) -> usize
-    requires { ⌜ CopyReady (now «data») head tail subtables at ⌝ }
+    requires { ⌜ LookupCopyReady (now «data») head tail subtables at ⌝ }
     ensures { λ r. ⌜ Laid (came «data») at (newLookup (part (came «data») head tail) subtables) (left «data») r ⌝ }
 {
     let behind = head + 6 + 2 * (subtable_count(&data[head..tail]) as usize);
@@ -152,7 +152,7 @@ fn write_lookup(
     at: usize,
     row: usize,
 ) -> usize
-    requires { ⌜ LookupReady (storeNowWith «data» objects links counts) table tables lookup at row ⌝ }
+    requires { ⌜ NewLookupReady (storeNowWith «data» objects links counts) table tables lookup at row ⌝ }
     ensures { λ r. ⌜
         Written (came «data») (came objects) at row (lookupWith (storeCameWith «data» objects links counts) table tables lookup ∷ [])
         (left «data») (left objects) r
@@ -176,7 +176,7 @@ pub fn write_lookups(
     tables: usize,
     lookups: &[u32],
 ) -> usize
-    requires { ⌜ Writing (storeNowWith «data» objects links counts) table tables (now lookups) ⌝ }
+    requires { ⌜ WritingLookups (storeNowWith «data» objects links counts) table tables (now lookups) ⌝ }
     ensures { λ r. ⌜
         ((us : List ℕ) → length us ≡ tables
         → Written (came «data») (came objects) (getD counts 0 0) (getD counts 1 0)

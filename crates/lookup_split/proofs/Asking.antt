@@ -8,7 +8,7 @@ use Rattle.call_rules.specs.declared.Answer.the-variants.{Unsound, NoTable, Bad
 use Rattle.call_rules.specs.Answers.{firstCase}
 use Rattle.lookup_rules.specs.Listed.{badList}
 use Rattle.lookup_rules.specs.Calls.{listCases}
-use Rattle.lookup_checks.specs.Objects.{InUse}
+use Rattle.lookup_checks.specs.Objects.{ObjectInUse}
 use Rattle.lookup_split.specs.declared.deciding.Listing.the-variants.{Good, Settled}
 use Rattle.lookup_split.specs.Deciding.{listingAs}
 
@@ -31,7 +31,7 @@ module _ (s : Store) (l t : ℕ) {b : Bool} (e : b ≡ sound s) where
       no-list out = rw (sounds, lt-leb (s .objectCount) t table-in, le-leb (s .objectCount) l out)
 
       module _ (list-in : l < s .objectCount) where
-        pub list-used : InUse s l
+        pub list-used : ObjectInUse s l
         list-used = record { sounds = sounds; used = list-in }
 
         module _ {good : Bool} (f : good ≡ not (badList s l t)) where

@@ -28,12 +28,12 @@ use Rattle.lookup_rules.specs.Written.{enteredStore, countsFit, lookupsNeed}
 -- ---- what a split of t at cs leaves once its new tables are entered in the lookups ps
 
 -- the store
-abbrev pub storeEntered : Store → ℕ → List ℕ → List ℕ → Store
-storeEntered s t cs ps = enteredStore s t (newTables s t cs) ps (splitStore s t cs)
+abbrev pub storeEnteredAt : Store → ℕ → List ℕ → List ℕ → Store
+storeEnteredAt s t cs ps = enteredStore s t (newTables s t cs) ps (splitStore s t cs)
 
 -- it is carried out
 abbrev pub EnteredAt : Store → ℕ → List ℕ → List ℕ → List ℕ → Store → List ℕ → Type 0
-EnteredAt s t cs ps list s′ list′ = Carried (storeEntered s t cs ps) (newTables s t cs) list s′ list′
+EnteredAt s t cs ps list s′ list′ = Carried (storeEnteredAt s t cs ps) (newTables s t cs) list s′ list′
 
 -- what it needs
 abbrev pub allNeeded : Store → ℕ → List ℕ → List ℕ → Needs
@@ -46,7 +46,7 @@ roomCases s t cs ps list =
 
 -- the outcome, if none of these cases applies
 abbrev pub enteredUnless : List Case → Store → ℕ → List ℕ → List ℕ → Scratch → List ℕ → Outcome
-enteredUnless cases s t cs ps w list = settle (firstCase cases) s list w (done (storeEntered s t cs ps) (newTables s t cs) list w)
+enteredUnless cases s t cs ps w list = settle (firstCase cases) s list w (done (storeEnteredAt s t cs ps) (newTables s t cs) list w)
 
 -- what is left of the call over list l once 1 to 9 do not apply
 abbrev pub enteredThen : Store → ℕ → ℕ → Scratch → List ℕ → Outcome

@@ -19,7 +19,7 @@ use Rattle.cut_rules.proofs.TablesUncut.{range-fits}
 use Rattle.cut_rules.proofs.Totals.{table-total}
 use Rattle.call_rules.specs.Settings.{secondEdition}
 use Rattle.mark_rules.specs.Rules.{markRule}
-use Rattle.mark_rules.specs.Table.{Mark, classesOf, basesIn, markArray, baseArray, marksOf, within, ruleOf}
+use Rattle.mark_rules.specs.Table.{Mark, classesOf, basesIn, markArray, baseArray, marksOf, marksWithin, ruleOf}
 use Rattle.mark_rules.specs.Written.{newCoverage, splitStore}
 use Rattle.mark_rules.proofs.NewArrays.{array-long, base-long}
 use Rattle.mark_rules.proofs.Measured.{marksWithin, classesReach, classesTake, totals, beside-marks}
@@ -42,7 +42,7 @@ module _ (s : Store) (t : ℕ) (cs : List ℕ) (g : Ready s t cs) {u : ℕ} (w :
 
   -- its marks
   abbrev ms : List Mark
-  ms = within lo hi (marksOf s t)
+  ms = marksWithin lo hi (marksOf s t)
 
   -- ---- how long its parts are
 

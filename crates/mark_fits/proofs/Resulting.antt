@@ -15,7 +15,7 @@ use Rattle.store_rules.specs.Store.{Store, sizeOf, linkedAt}
 use Rattle.store_rules.specs.Appended.{newNumber}
 use Rattle.store_rules.proofs.Lookups.{child-used, linked-is}
 use Rattle.cut_rules.proofs.CutPlaces.{loAt}
-use Rattle.mark_rules.specs.Table.{Mark, classesOf, marksOf, within}
+use Rattle.mark_rules.specs.Table.{Mark, classesOf, marksOf, marksWithin}
 use Rattle.mark_rules.specs.Written.{splitStore, newTables, perTable}
 use Rattle.mark_rules.specs.Reads.{Reads}
 use Rattle.mark_rules.proofs.Checks.{AtSlots}
@@ -73,9 +73,9 @@ module _ (s : Store) (t : ℕ) (cs : List ℕ) (g : Ready s t cs) where
     -- the marks of some of its classes are as many as they were
     pub marks-same : (a b : ℕ) → lo + b ≤ hi → marksWithin s′ u a b ≡ marksWithin s t (lo + a) (lo + b)
     marks-same a b h =
-        ap (λ (ms : List Mark). length (within a b ms)) (view-marks v (g .reads))
+        ap (λ (ms : List Mark). length (marksWithin a b ms)) (view-marks v (g .reads))
         ∙ ap length (within-reduced lo hi a b (marksOf s t) h)
-        ∙ length-map (reduce lo) (within (lo + a) (lo + b) (marksOf s t))
+        ∙ length-map (reduce lo) (marksWithin (lo + a) (lo + b) (marksOf s t))
 
     -- the base coverage is the old one
     pub base-same : sizeOf s′ (linkedAt s′ u baseCoverAt) ≡ sizeOf s (linkedAt s t baseCoverAt)

@@ -19,7 +19,7 @@ use Rattle.store_rules.specs.Header.{ownChild, headerLinks}
 use Rattle.store_rules.specs.SlotLinks.{slotLink, slotLinks}
 use Rattle.cut_rules.specs.Ranges.{from, to}
 use Rattle.cut_parts.proofs.Arranging.{kept-same, new-same}
-use Rattle.mark_rules.specs.Table.{Mark, inClasses, classesOf, markBytes, marksIn, markAt, marksOf, markAnchor, within, baseAnchor}
+use Rattle.mark_rules.specs.Table.{Mark, inClasses, classesOf, markBytes, marksIn, markAt, marksOf, markAnchor, marksWithin, baseAnchor}
 use Rattle.mark_rules.specs.Written.{noMark, perTable, markLinks, baseLinks, arrayLinks, tableLinks, freshLinks}
 use Rattle.mark_links.specs.declared.Arrays.{Arrays}
 use Rattle.mark_links.specs.Copies.{oldSlot, markCopies, baseCopies, arrayCopies, tableCopies}
@@ -42,8 +42,8 @@ module _ (s : Store) (t : ℕ) (a : Arrays) (ps ks cs : List ℕ) (g : Splitting
   abbrev places : ℕ → ℕ → List ℕ
   places lo hi = picked (inside lo hi) (λ i. i) (marksIn s t)
 
-  marks-placed : (lo hi : ℕ) → within lo hi (marksOf s t) ≡ map (markAt s t) (places lo hi)
-  unfolding within marksOf markAt
+  marks-placed : (lo hi : ℕ) → marksWithin lo hi (marksOf s t) ≡ map (markAt s t) (places lo hi)
+  unfolding marksWithin marksOf markAt
   marks-placed lo hi =
       sift-upto (λ m. inClasses lo hi (m .class)) (markAt s t) (marksIn s t) ∙ sym (map-picked (markAt s t) (inside lo hi) (λ i. i) (marksIn s t))
 

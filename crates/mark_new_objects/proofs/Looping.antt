@@ -13,7 +13,7 @@ use Rattle.store_object_rows.specs.Objects.{ObjectsRoom, Written}
 use Rattle.store_object_rows.proofs.Writing.{room-first, room-rest, written-more}
 use Rattle.store_object_rows.proofs.Rounds.{Rounds, rounds-start, rounds-stop, next-room, row-fits, rounds-turn}
 use Rattle.mark_rules.specs.Written.{newTable, newParts, newObjects}
-use Rattle.mark_new_objects.specs.Planned.{Marked, PlannedParts}
+use Rattle.mark_new_objects.specs.Planned.{RangeMarks, PlannedParts}
 use Rattle.mark_new_objects.specs.Objects.{partsOf, tableObjects, tablesOf, objectsOf}
 use Rattle.mark_new_objects.proofs.Planning.{cuts-few, kept-parts, kept-marked, table-parts, table-marked}
 
@@ -65,10 +65,10 @@ module _ (d o gs ks cs : List ℕ) (n bases bytes count : ℕ) where
             ap (λ (y : List (List ℕ)). newTable (from cs j) (getD cs (j + 1) n) ∷ y) (table-parts gs ks cs n (t .known) j start end h (t .halved) e′ bases)
             ∙ ap₂ (λ (k m : ℕ). newTable k m ∷ partsOf (part gs start end) (part ks start end) bases k m) (sym a) (sym b)
 
-        pub turn-marked : Marked (part gs start end) (part ks start end) lo hi
+        pub turn-marked : RangeMarks (part gs start end) (part ks start end) lo hi
         turn-marked =
-            subst (λ (m : ℕ). Marked (part gs start end) (part ks start end) m hi) (sym a)
-            (subst (λ (m : ℕ). Marked (part gs start end) (part ks start end) (from cs j) m) (sym b)
+            subst (λ (m : ℕ). RangeMarks (part gs start end) (part ks start end) m hi) (sym a)
+            (subst (λ (m : ℕ). RangeMarks (part gs start end) (part ks start end) (from cs j) m) (sym b)
             (table-marked gs ks cs n (t .known) j start end h (t .halved) e′))
 
         pub turn-room : ObjectsRoom d′ o′ at row these
@@ -112,7 +112,7 @@ module _ (d o gs ks cs : List ℕ) (n bases bytes count first : ℕ) (p : Planne
   pub tables-small : count + 4 * length cs ≤ length o
   tables-small = let m = tables-room .rows in omega (arith, tables-many)
 
-  pub first-marked : Marked (part gs 0 first) (part ks 0 first) 0 (from cs 0)
+  pub first-marked : RangeMarks (part gs 0 first) (part ks 0 first) 0 (from cs 0)
   first-marked = kept-marked gs ks cs n p first e
 
   module _ (d′ o′ : List ℕ) (at : ℕ) (w : Written d o bytes count tables d′ o′ at) where

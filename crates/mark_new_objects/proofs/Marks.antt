@@ -23,8 +23,8 @@ use Rattle.mark_new_objects.specs.Objects.{markOf, markArrayOf, partsOf}
 abbrev pub partsFrom : ℕ → ℕ → ℕ → List Entry → List (List ℕ)
 partsFrom bases lo hi es = partsOf (map (λ (e : Entry). e .glyph) es) (map (λ (e : Entry). e .class) es) bases lo hi
 
-within-from : (lo hi : ℕ) (ms : List Mark) → entriesFrom (table.within lo hi ms) ≡ within lo hi (entriesFrom ms)
-unfolding within table.within
+within-from : (lo hi : ℕ) (ms : List Mark) → entriesFrom (table.marksWithin lo hi ms) ≡ within lo hi (entriesFrom ms)
+unfolding within table.marksWithin
 within-from lo hi ms = sym (sift-map entryFrom (inRange lo hi) ms)
 
 array-from : (lo : ℕ) (ms : List Mark) → newMarkArray lo ms ≡ markArrayOf lo (map (λ (m : Mark). m .class) ms)
@@ -41,7 +41,7 @@ array-from lo ms =
 pub parts-from : (ms : List Mark) (bases lo hi : ℕ) → newParts ms bases lo hi ≡ partsFrom bases lo hi (within lo hi (entriesFrom ms))
 unfolding newParts newCoverage
 parts-from ms bases lo hi =
-    let w = table.within lo hi ms in
+    let w = table.marksWithin lo hi ms in
     let es = within lo hi (entriesFrom ms) in
     let gs : map (λ (m : Mark). m .glyph) w ≡ map (λ (e : Entry). e .glyph) es =
     sym (map-map (λ (e : Entry). e .glyph) entryFrom w) ∙ ap (map (λ (e : Entry). e .glyph)) (within-from lo hi ms) in

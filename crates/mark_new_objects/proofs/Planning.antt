@@ -17,7 +17,7 @@ use Rattle.cut_parts.proofs.Parting.{paired-glyphs, halved-none}
 use Rattle.cut_parts.proofs.TableParts.{same-part, first-high, kept-entries, new-rises, new-entries, new-same}
 use Rattle.mark_rules.specs.Written.{newParts}
 use Rattle.mark_new_objects.specs.Marks.{marksFrom}
-use Rattle.mark_new_objects.specs.Planned.{Classes, Marked, PlannedParts}
+use Rattle.mark_new_objects.specs.Planned.{Classes, RangeMarks, PlannedParts}
 use Rattle.mark_new_objects.specs.Objects.{partsOf}
 use Rattle.mark_new_objects.proofs.Marks.{parts-paired}
 
@@ -49,7 +49,7 @@ module _ (gs ks cs : List ℕ) (n : ℕ) (p : PlannedParts gs ks cs n) where
     pub kept-parts : (bases : ℕ) → newParts (marksFrom gs ks) bases 0 (from cs 0) ≡ partsOf (part gs 0 a) (part ks 0 a) bases 0 (from cs 0)
     kept-parts bases = parts-paired gs ks (part gs 0 a) (part ks 0 a) bases 0 (from cs 0) kept-same (kept-entries gs ks cs n (p .parts) a e)
 
-    pub kept-marked : Marked (part gs 0 a) (part ks 0 a) 0 (from cs 0)
+    pub kept-marked : RangeMarks (part gs 0 a) (part ks 0 a) 0 (from cs 0)
     kept-marked =
         record {
           ascending =
@@ -71,7 +71,7 @@ module _ (gs ks cs : List ℕ) (n : ℕ) (p : PlannedParts gs ks cs n) where
         → newParts (marksFrom gs ks) bases (from cs j) (getD cs (j + 1) n) ≡ partsOf (part gs a r) (part ks a r) bases (from cs j) (getD cs (j + 1) n)
     table-parts bases = parts-paired gs ks (part gs a r) (part ks a r) bases (from cs j) (getD cs (j + 1) n) same these
 
-    pub table-marked : Marked (part gs a r) (part ks a r) (from cs j) (getD cs (j + 1) n)
+    pub table-marked : RangeMarks (part gs a r) (part ks a r) (from cs j) (getD cs (j + 1) n)
     table-marked =
         record {
           ascending =

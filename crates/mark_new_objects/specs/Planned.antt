@@ -13,7 +13,7 @@ pub record Classes (ks : List ℕ) (lo hi : ℕ) : Type 0 where
   pub rises : lo ≤ hi
 
 -- its marks, in ascending order
-pub record Marked (gs ks : List ℕ) (lo hi : ℕ) : Type 0 where
+pub record RangeMarks (gs ks : List ℕ) (lo hi : ℕ) : Type 0 where
   pub ascending : Ascending gs
   pub classes : Classes ks lo hi
 

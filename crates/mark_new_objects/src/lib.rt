@@ -17,7 +17,7 @@ ghost use Rattle.ot_layouts.specs.Numbers.{words};
 ghost use Rattle.store_object_rows.specs.Objects.{Laid, ObjectsRoom, Written};
 ghost use Rattle.cut_parts.specs.Tables.{PartEnd};
 ghost use Rattle.mark_rules.specs.Written.{newTable, newBaseArray};
-ghost use Rattle.mark_new_objects.specs.Planned.{Classes, Marked, PlannedParts};
+ghost use Rattle.mark_new_objects.specs.Planned.{Classes, RangeMarks, PlannedParts};
 ghost use Rattle.mark_new_objects.specs.Objects.{markArrayOf, arraysOf, partsOf, partsLength, tablesOf, objectsOf};
 
 // The objects of a new table: itself, its coverage, its mark array and its base array.
@@ -142,7 +142,7 @@ fn write_parts(
     at: usize,
     row: usize,
 ) -> usize
-    requires { ⌜ Marked (now glyphs) (now classes) lo hi ⌝ }
+    requires { ⌜ RangeMarks (now glyphs) (now classes) lo hi ⌝ }
     requires { ⌜ ObjectsRoom (now «data») (now objects) at row (partsOf (now glyphs) (now classes) bases lo hi) ⌝ }
     ensures { λ r. ⌜
         Written (came «data») (came objects) at row (partsOf (came glyphs) (came classes) bases lo hi) (left «data») (left objects) r
@@ -165,7 +165,7 @@ fn write_table_objects(
     at: usize,
     row: usize,
 ) -> usize
-    requires { ⌜ Marked (now glyphs) (now classes) lo hi ⌝ }
+    requires { ⌜ RangeMarks (now glyphs) (now classes) lo hi ⌝ }
     requires { ⌜ ObjectsRoom (now «data») (now objects) at row (newTable lo hi ∷ partsOf (now glyphs) (now classes) bases lo hi) ⌝ }
     ensures { λ r. ⌜
         Written (came «data») (came objects) at row (newTable lo hi ∷ partsOf (came glyphs) (came classes) bases lo hi) (left «data»)

@@ -41,7 +41,7 @@ module _ (s : Store) (t i : ℕ) where
       ap length (sift-upto test entry (marksIn s t)) ∙ length-picked (λ j. test (entry j)) entry (marksIn s t)
 
   marks-counted : marksOfClass s t i ≡ counted
-  unfolding Table.within Table.marksOf Table.markAt
+  unfolding Table.marksWithin Table.marksOf Table.markAt
   marks-counted =
       let test : Mark → Bool = λ m. inClasses i (i + 1) (m .class) in
       ap length (sift-upto test (Table.markAt s t) (marksIn s t)) ∙ length-picked (λ j. test (Table.markAt s t j)) (Table.markAt s t) (marksIn s t)

@@ -16,10 +16,10 @@ use Rattle.store_walk.specs.Marks.{Marks, Grown}
 use Rattle.store_walk.proofs.Marks.{marks-same, marks-next}
 use Rattle.store_walk.proofs.Grown.{grown-item, grown-same, grown-most}
 use Rattle.glyph_class_parts.specs.ClassParts.{ClassEnd}
-use Rattle.cut_rules.specs.Cuts.{Rule, Cutting, second, costAtCut, seenFrom, looked, due, cutHere, goOn, after}
+use Rattle.cut_rules.specs.Cuts.{Rule, Cutting, second, costAtCut, seenFrom, looked, cutDue, cutHere, goOn, after}
 use Rattle.cut_rules.proofs.Turns.{looksAt}
 use Rattle.cut_filling.specs.declared.Filling.{Filling}
-use Rattle.cut_filling.specs.Filling.{Fills, Listed, IsDue, Added, Cut, Placed}
+use Rattle.cut_filling.specs.Filling.{Fills, Listed, IsDue, ItemAdded, Cut, Placed}
 use Rattle.cut_filling.proofs.Turns.{filled-start, goes-on, added, cuts-room, cuts-here, one-more, cut, all-placed}
 use Rattle.call_rules.specs.declared.Settings.{Settings}
 use Rattle.mark_rules.specs.Rules.{partialCover, markRule}
@@ -156,7 +156,7 @@ module _ {how : Settings} {s : Store} {t : ℕ} {x : TableInfo} {ps cs d : List 
         unfolding partialCover
         stands = omega (arith, beside-is how s t (cuttingAt how s t i .first) i, v .coverage, one-more-class)
 
-        is-due : due rule (cuttingAt how s t i) i (costing size) ≡ b
+        is-due : cutDue rule (cuttingAt how s t i) i (costing size) ≡ b
         is-due = sym (weighs rule (cuttingAt how s t i) (edition-is how s t) stands (v .filled .listed .fills))
 
         starts : rule .start ≡ x .start
@@ -167,7 +167,7 @@ module _ {how : Settings} {s : Store} {t : ℕ} {x : TableInfo} {ps cs d : List 
         small n h = omega (arith, starts, start-most (v .described), marks-few)
 
         -- no cut: the class counts as seen
-        pub class-added : b ≡ false → {f′ : Filling} → Added (p .filling) (costing size) f′
+        pub class-added : b ≡ false → {f′ : Filling} → ItemAdded (p .filling) (costing size) f′
             → Below how s t x ps cs d (i + 1) (record { filling = f′; from = to; partial = p .partial + 2 * (to - p .from) }) w′ l
         unfolding goOn
         class-added stays {f′} add =

@@ -16,7 +16,7 @@ use Rattle.store_rules.specs.Store.{Store, childAt}
 use Rattle.store_rules.specs.SlotLinks.{linksFrom}
 use Rattle.store_rules.proofs.Sound.{Fits}
 use Rattle.store_rules.proofs.SlotLinks.{there, slots-many, slots-all}
-use Rattle.mark_rules.specs.Table.{Mark, within, marksOf, markAt, marksIn, markArray, markAnchor, baseArray, basesIn, classesOf, baseAnchor}
+use Rattle.mark_rules.specs.Table.{Mark, marksWithin, marksOf, markAt, marksIn, markArray, markAnchor, baseArray, basesIn, classesOf, baseAnchor}
 use Rattle.mark_rules.specs.Written.{markChild, noMark, baseChild, markLinks, baseLinks, arrayLinks}
 use Rattle.mark_rules.specs.Reads.{Reads}
 use Rattle.mark_rules.proofs.Checks.{AtSlots, parts-read}
@@ -29,8 +29,8 @@ use Rattle.mark_rules.proofs.Anchors.{mark-place, base-place}
 abbrev anchored : List Mark → ℕ
 anchored ms = total (λ m. there (m .anchor)) ms
 
-anchored-meet : (a b c : ℕ) → a ≤ b → b ≤ c → (ms : List Mark) → anchored (within a b ms) + anchored (within b c ms) ≡ anchored (within a c ms)
-unfolding within
+anchored-meet : (a b c : ℕ) → a ≤ b → b ≤ c → (ms : List Mark) → anchored (marksWithin a b ms) + anchored (marksWithin b c ms) ≡ anchored (marksWithin a c ms)
+unfolding marksWithin
 anchored-meet a b c h k ms = ranged-meet (λ (m : Mark). m .class) (λ m. there (m .anchor)) a b c h k ms
 
 -- those that have one are as many as the slots of the mark array that have a link
@@ -98,7 +98,7 @@ module _ (s : Store) (t : ℕ) where
 
   -- how many links the classes lo up to hi have, in both arrays
   abbrev pub linksIn : ℕ → ℕ → ℕ
-  linksIn lo hi = anchored (within lo hi (marksOf s t)) + based lo hi
+  linksIn lo hi = anchored (marksWithin lo hi (marksOf s t)) + based lo hi
 
   pub links-meet : (a b c : ℕ) → a ≤ b → b ≤ c → linksIn a b + linksIn b c ≡ linksIn a c
   links-meet a b c h k = omega (arith, anchored-meet a b c h k (marksOf s t), based-meet a b c h k)
@@ -106,7 +106,7 @@ module _ (s : Store) (t : ℕ) where
   pub array-links : (p lo hi : ℕ) → length (arrayLinks s t p lo hi) ≡ linksIn lo hi
   unfolding arrayLinks markLinks baseLinks
   array-links p lo hi =
-      let ms = within lo hi (marksOf s t) in
+      let ms = marksWithin lo hi (marksOf s t) in
       length-append (markLinks s t p lo hi) (baseLinks s t (p + 1) lo hi)
       ∙ ap₂ (λ (x y : ℕ). x + y)
       (slots-many p (markSlot 0) 4 (markChild ms) (length ms) ∙ sym (total-sum (λ m. there (m .anchor)) noMark ms))

@@ -16,7 +16,7 @@ use Rattle.folds.proofs.Folds.{upto-cons}
 use Rattle.folds.proofs.Each.{Each}
 use Rattle.ot_layouts.specs.Coverage.{coverPlace}
 use Rattle.store_rules.specs.Store.{Store}
-use Rattle.mark_rules.specs.Table.{Mark, inClasses, within, marksIn, marksOf, markAt, glyphsOf, baseAnchor}
+use Rattle.mark_rules.specs.Table.{Mark, inClasses, marksWithin, marksIn, marksOf, markAt, glyphsOf, baseAnchor}
 use Rattle.mark_rules.specs.Attachments.{Anchors, anchors, markPlace, basePlace, attachOf}
 use Rattle.mark_rules.specs.Reads.{Reads}
 use Rattle.mark_rules.proofs.Marks.{Rises, reduce, reduced}
@@ -97,8 +97,8 @@ abbrev pub only : ℕ → ℕ → Mark → Option Mark
 only lo hi m = given (inClasses lo hi (m .class)) m
 
 -- the mark of a glyph in a range is the mark of the glyph, if it lies in the range
-pub mark-within : (lo hi : ℕ) (ms : List Mark) (n g : ℕ) → Rises n ms → markOf (within lo hi ms) g ≡ andThen (markOf ms g) (only lo hi)
-unfolding within sift andThen markOf
+pub mark-within : (lo hi : ℕ) (ms : List Mark) (n g : ℕ) → Rises n ms → markOf (marksWithin lo hi ms) g ≡ andThen (markOf ms g) (only lo hi)
+unfolding marksWithin sift andThen markOf
 mark-within lo hi [] n g a = refl
 mark-within lo hi (m ∷ ms) n g a = go (inClasses lo hi (m .class)) refl (eqb (m .glyph) g) refl (mark-within lo hi ms (m .glyph + 1) g (a .1))
   where

@@ -17,7 +17,7 @@ use Rattle.ot_layouts.specs.MarkBasePos.{coverAt}
 use Rattle.ot_layouts.proofs.Runs.{ascends-lower, plain-glyphs}
 use Rattle.ot_layouts.proofs.CoverageGlyphs.{Sorted, cover-sorted, sorted-ascends}
 use Rattle.store_rules.specs.Store.{Store, linkedBytes}
-use Rattle.mark_rules.specs.Table.{Mark, inClasses, within, marksOf, markAt, marksIn, glyphsOf, classesOf}
+use Rattle.mark_rules.specs.Table.{Mark, inClasses, marksWithin, marksOf, markAt, marksIn, glyphsOf, classesOf}
 use Rattle.mark_rules.specs.Written.{noMark}
 use Rattle.mark_rules.specs.Reads.{Reads}
 use Rattle.mark_rules.proofs.Checks.{parts-read}
@@ -65,8 +65,8 @@ rises-sift p (m ∷ ms) lo a = go (p m) (rises-sift p ms (m .glyph + 1) (a .1))
     go true i = (a .0, i)
     go false i = let l : lo ≤ m .glyph = a .0 in ascends-lower (plain (map (λ m. m .glyph) (sift p ms))) (m .glyph + 1) lo (omega arith) i
 
-pub within-rises : (lo hi : ℕ) (ms : List Mark) → Rises 0 ms → Rises 0 (within lo hi ms)
-unfolding within
+pub within-rises : (lo hi : ℕ) (ms : List Mark) → Rises 0 ms → Rises 0 (marksWithin lo hi ms)
+unfolding marksWithin
 within-rises lo hi ms a = rises-sift (λ m. inClasses lo hi (m .class)) ms 0 a
 
 -- ---- a range of classes
@@ -74,8 +74,8 @@ within-rises lo hi ms a = rises-sift (λ m. inClasses lo hi (m .class)) ms 0 a
 abbrev classed : Mark → ℕ
 classed m = m .class
 
-pub within-each : (lo hi : ℕ) (ms : List Mark) → Each (λ m. (lo ≤ m .class) × (m .class < hi)) (within lo hi ms)
-unfolding within
+pub within-each : (lo hi : ℕ) (ms : List Mark) → Each (λ m. (lo ≤ m .class) × (m .class < hi)) (marksWithin lo hi ms)
+unfolding marksWithin
 within-each lo hi ms = ranged-each classed lo hi ms
 
 -- each mark of a readable table has one of its classes
@@ -83,13 +83,13 @@ pub classes-low : (s : Store) (t : ℕ) → Reads s t → Each (λ m. m .class <
 unfolding marksOf markAt
 classes-low s t r = each-upto (λ m. m .class < classesOf s t) (markAt s t) (marksIn s t) (parts-read s t (r .parts) .classesLow)
 
-pub within-all : (n : ℕ) (ms : List Mark) → Each (λ m. m .class < n) ms → within 0 n ms ≡ ms
-unfolding within
+pub within-all : (n : ℕ) (ms : List Mark) → Each (λ m. m .class < n) ms → marksWithin 0 n ms ≡ ms
+unfolding marksWithin
 within-all n ms a = ranged-all classed n ms a
 
 -- a range inside one that starts at 0
-pub within-within : (a b n : ℕ) (ms : List Mark) → b ≤ n → within a b (within 0 n ms) ≡ within a b ms
-unfolding within
+pub within-within : (a b n : ℕ) (ms : List Mark) → b ≤ n → marksWithin a b (marksWithin 0 n ms) ≡ marksWithin a b ms
+unfolding marksWithin
 within-within a b n ms h = ranged-inside classed a b n ms h
 
 -- ---- classes reduced by the range's first
@@ -107,6 +107,6 @@ reduced-none (m ∷ ms) =
     ap₂ (λ (x : Mark) (y : List Mark). x ∷ y) (λ i. record { glyph = m .glyph; class = z i; anchor = m .anchor }) (reduced-none ms)
 
 -- some classes of a range, in either order
-pub within-reduced : (lo hi a b : ℕ) (ms : List Mark) → lo + b ≤ hi → within a b (reduced lo (within lo hi ms)) ≡ reduced lo (within (lo + a) (lo + b) ms)
-unfolding within
+pub within-reduced : (lo hi a b : ℕ) (ms : List Mark) → lo + b ≤ hi → marksWithin a b (reduced lo (marksWithin lo hi ms)) ≡ reduced lo (marksWithin (lo + a) (lo + b) ms)
+unfolding marksWithin
 within-reduced lo hi a b ms h = ranged-moved classed (reduce lo) lo hi a b (λ m. refl) h ms

@@ -24,13 +24,13 @@ use Rattle.cut_rules.proofs.FewestCuts.{LaterFits}
 use Rattle.cut_rules.proofs.Totals.{Totals, later-fits}
 use Rattle.call_rules.specs.declared.Settings.{Settings}
 use Rattle.mark_rules.specs.Rules.{partialCover, markRule}
-use Rattle.mark_rules.specs.Table.{Mark, classesOf, markArray, baseArray, markBytes, basesIn, marksOf, marksOfClass, within, inClasses, ofClasses, ruleOf}
+use Rattle.mark_rules.specs.Table.{Mark, classesOf, markArray, baseArray, markBytes, basesIn, marksOf, marksOfClass, marksWithin, inClasses, ofClasses, ruleOf}
 use Rattle.mark_rules.proofs.Marks.{within-each}
 use Rattle.mark_rules.proofs.ClassLinks.{classes-grow}
 
 -- how many marks the classes a up to b have, b left out
 abbrev pub marksWithin : Store → ℕ → ℕ → ℕ → ℕ
-marksWithin s t a b = length (within a b (marksOf s t))
+marksWithin s t a b = length (marksWithin a b (marksOf s t))
 
 -- what their links reach
 abbrev pub classesReach : Store → ℕ → ℕ → ℕ → ℕ
@@ -47,15 +47,15 @@ ones [] = refl
 ones (m ∷ ms) = omega (arith, ones ms)
 
 module _ (ms : List Mark) where
-  marks-meet : (a b c : ℕ) → a ≤ b → b ≤ c → length (within a b ms) + length (within b c ms) ≡ length (within a c ms)
-  unfolding within
+  marks-meet : (a b c : ℕ) → a ≤ b → b ≤ c → length (marksWithin a b ms) + length (marksWithin b c ms) ≡ length (marksWithin a c ms)
+  unfolding marksWithin
   marks-meet a b c x y =
       omega (
         arith,
         ranged-meet (λ (m : Mark). m .class) (λ m. 1) a b c x y ms,
-        ones (within a b ms),
-        ones (within b c ms),
-        ones (within a c ms),
+        ones (marksWithin a b ms),
+        ones (marksWithin b c ms),
+        ones (marksWithin a c ms),
       )
 
   none-of : (a n : ℕ) → n ≤ a → (xs : List Mark) → Each (λ m. (a ≤ m .class) × (m .class < n)) xs → length xs ≡ 0
@@ -63,14 +63,14 @@ module _ (ms : List Mark) where
   none-of a n l (x ∷ xs) e = let low : a ≤ x .class = e .0 .0 in let high : x .class < n = e .0 .1 in absurd (omega arith)
 
   -- counted class by class
-  counted : (a n : ℕ) → sum (λ k. cond (leb a k) (length (within k (k + 1) ms)) 0) n ≡ length (within a n ms)
+  counted : (a n : ℕ) → sum (λ k. cond (leb a k) (length (marksWithin k (k + 1) ms)) 0) n ≡ length (marksWithin a n ms)
   unfolding sum
-  counted a zero = omega (arith, none-of a 0 (omega arith) (within a 0 ms) (within-each a 0 ms))
+  counted a zero = omega (arith, none-of a 0 (omega arith) (marksWithin a 0 ms) (within-each a 0 ms))
   counted a (suc n) =
       ⊎-elim
       (λ lt. rw (lt-leb a n lt)
-      (omega (arith, counted a n, none-of a n (omega arith) (within a n ms) (within-each a n ms), none-of a (suc n) lt (within a (suc n) ms) (within-each a (suc n) ms))))
-      (λ le. rw (le-leb a n le) (omega (arith, counted a n, rw add-one at (marks-meet a n (n + 1) le (omega arith)), ap (λ (k : ℕ). length (within n k ms)) (add-one n))))
+      (omega (arith, counted a n, none-of a n (omega arith) (marksWithin a n ms) (within-each a n ms), none-of a (suc n) lt (marksWithin a (suc n) ms) (within-each a (suc n) ms))))
+      (λ le. rw (le-leb a n le) (omega (arith, counted a n, rw add-one at (marks-meet a n (n + 1) le (omega arith)), ap (λ (k : ℕ). length (marksWithin n k ms)) (add-one n))))
       (either n a)
 
 -- ---- what stands beside
@@ -121,7 +121,7 @@ module _ (s : Store) (t : ℕ) (f : Fits s) where
             ap (λ (n : ℕ). column * n) e,
             mul-add column (i - a) 1,
             rw add-one at (marks-meet (marksOf s t) a i (i + 1) l (omega arith)),
-            ap (λ (k : ℕ). length (within i k (marksOf s t))) (add-one i),
+            ap (λ (k : ℕ). length (marksWithin i k (marksOf s t))) (add-one i),
             rw add-one at (size-adds s (ofClasses s t) a i (reach-first a i (i + 1) l (omega arith))),
           )
 

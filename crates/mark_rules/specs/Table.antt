@@ -99,12 +99,12 @@ abbrev pub inClasses : ℕ → ℕ → ℕ → Bool
 inClasses lo hi c = leb lo c && ltb c hi
 
 -- the marks of the classes lo up to hi, in order
-unfoldable pub within : ℕ → ℕ → List Mark → List Mark
-within lo hi ms = sift (λ m. inClasses lo hi (m .class)) ms
+unfoldable pub marksWithin : ℕ → ℕ → List Mark → List Mark
+marksWithin lo hi ms = sift (λ m. inClasses lo hi (m .class)) ms
 
 -- how many marks class i has
 abbrev pub marksOfClass : Store → ℕ → ℕ → ℕ
-marksOfClass s t i = length (within i (i + 1) (marksOf s t))
+marksOfClass s t i = length (marksWithin i (i + 1) (marksOf s t))
 
 -- the anchor object of base j for class c, where that slot has a link
 unfoldable pub baseAnchor : Store → ℕ → ℕ → ℕ → Option ℕ
@@ -138,5 +138,5 @@ cutPlaces s t = cutsBy firstEdition s t
 
 -- all of this file's definitions, for checks that compute
 unfoldable pub computes : Unit {0}
-unfolding partsReadable markAnchor markAt marksOf within baseAnchor allAtSlots ofClasses ruleOf cutsBy
+unfolding partsReadable markAnchor markAt marksOf marksWithin baseAnchor allAtSlots ofClasses ruleOf cutsBy
 computes = tt

@@ -14,7 +14,7 @@ use Rattle.store_rules.specs.Header.{headerLinks, kept}
 use Rattle.store_rules.specs.SlotLinks.{linksFrom, slotLinks}
 use Rattle.cut_rules.specs.Ranges.{from, to}
 use Rattle.call_rules.specs.declared.Needs.{Needs}
-use Rattle.mark_rules.specs.Table.{Mark, classesOf, markArray, baseArray, basesIn, marksOf, within, baseAnchor}
+use Rattle.mark_rules.specs.Table.{Mark, classesOf, markArray, baseArray, basesIn, marksOf, marksWithin, baseAnchor}
 
 -- ---- bytes
 
@@ -40,7 +40,7 @@ newBaseArray bases classes = be16 bases ++ replicate (2 * (bases * classes)) 0
 
 -- the own parts of a table of the classes lo up to hi, of these marks and so many bases: "coverage, mark array, base array"
 unfoldable pub newParts : List Mark → ℕ → ℕ → ℕ → List (List ℕ)
-newParts ms bases lo hi = newCoverage (within lo hi ms) ∷ newMarkArray lo (within lo hi ms) ∷ newBaseArray bases (hi - lo) ∷ []
+newParts ms bases lo hi = newCoverage (marksWithin lo hi ms) ∷ newMarkArray lo (marksWithin lo hi ms) ∷ newBaseArray bases (hi - lo) ∷ []
 
 -- "order: table, coverage, mark array, base array; kept ones last": of a table of n classes, cut at cs
 unfoldable pub newObjects : List Mark → ℕ → ℕ → List ℕ → List (List ℕ)
@@ -66,7 +66,7 @@ baseChild s t lo n k = baseAnchor s t (k / n) (lo + k % n)
 
 -- of the mark array p of the classes lo up to hi: "same children"
 unfoldable pub markLinks : Store → ℕ → ℕ → ℕ → ℕ → List Link
-markLinks s t p lo hi = slotLinks p (markSlot 0) 4 (markChild (within lo hi (marksOf s t))) (length (within lo hi (marksOf s t)))
+markLinks s t p lo hi = slotLinks p (markSlot 0) 4 (markChild (marksWithin lo hi (marksOf s t))) (length (marksWithin lo hi (marksOf s t)))
 
 -- of the base array p of the classes lo up to hi
 unfoldable pub baseLinks : Store → ℕ → ℕ → ℕ → ℕ → List Link

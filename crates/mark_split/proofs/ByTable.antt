@@ -39,7 +39,7 @@ use Rattle.mark_order.proofs.Entries.{numbers-are}
 use Rattle.mark_new_objects.specs.Marks.{entriesFrom}
 use Rattle.mark_new_objects.proofs.Stored.{entries-are, stored-ascend}
 use Rattle.mark_order.specs.Marks.{markPlaces}
-use Rattle.mark_split.specs.Arranging.{Numbered, Arranging}
+use Rattle.mark_split.specs.Arranging.{MarksNumbered, Arranging}
 
 -- ---- ascending numbers of the marks of an array
 
@@ -48,7 +48,7 @@ plain-ascends : (es : List Entry) (lo : ℕ) → Ascends lo (plain (map (λ e. e
 plain-ascends [] lo a = tt
 plain-ascends (e ∷ es) lo a = (a .0, plain-ascends es (e .glyph + 1) (a .1))
 
-module _ {b xs ks set cs : List ℕ} {n : ℕ} (k : Numbered b xs ks set cs n) (octets : Bytes b) (bits : (i : ℕ) → getD xs i 0 < 65536) where
+module _ {b xs ks set cs : List ℕ} {n : ℕ} (k : MarksNumbered b xs ks set cs n) (octets : Bytes b) (bits : (i : ℕ) → getD xs i 0 < 65536) where
   abbrev es : List Entry
   es = entriesBy b xs
 
@@ -95,7 +95,7 @@ module _ {s : Store} {t : ℕ} {p : MarkTable} {many : ℕ} {xs ks set cs : List
   -- lists of numbers f, which ascend
   module _ {b : List ℕ} (e : b ≡ bytesOf s (p .marks .object)) (ns : List ℕ) (f : ℕ → ℕ) (long : length ns ≡ p .marks .count)
       (is : (i : ℕ) → i < marksIn s t → getD ns i 0 ≡ f i) where
-    numbered : ((i j : ℕ) → i < j → j < marksIn s t → f i < f j) → Numbered b ns ks set cs (p .classes)
+    numbered : ((i j : ℕ) → i < j → j < marksIn s t → f i < f j) → MarksNumbered b ns ks set cs (p .classes)
     numbered rise =
         record {
           same = k .classes ∙ sym long;
@@ -170,7 +170,7 @@ module _ {s : Store} {t : ℕ} {p : MarkTable} {gs ks set cs : List ℕ} (k : Ar
     front-many = front-long gs′ (p .marks .count) marks-few
 
     module _ {b : List ℕ} (e : b ≡ bytesOf s (p .marks .object)) where
-      pub glyphs-numbered : Numbered b (part gs′ 0 (p .marks .count)) ks set cs (p .classes)
+      pub glyphs-numbered : MarksNumbered b (part gs′ 0 (p .marks .count)) ks set cs (p .classes)
       glyphs-numbered =
           numbered k e (part gs′ 0 (p .marks .count)) (λ i. getD (glyphsOf s t) i 0) front-many front-at (glyphs-rise s t (k .opens .reads) octets)
 
@@ -196,7 +196,7 @@ module _ {s : Store} {t : ℕ} {p : MarkTable} {ps ks set cs : List ℕ} (k : Ar
     places-many = ap length f ∙ length-upto (λ i. i) (length ps) ∙ k .numbers
 
     module _ {b : List ℕ} (e : b ≡ bytesOf s (p .marks .object)) where
-      pub places-numbered : Numbered b ps′ ks set cs (p .classes)
+      pub places-numbered : MarksNumbered b ps′ ks set cs (p .classes)
       places-numbered = numbered k e ps′ (λ i. i) places-many place-at (λ i j h l. h)
 
       pub places-arranged : {ns ks′ : List ℕ} → Arranged ns ks′ cs (p .classes) (entriesBy b ps′) → Arranged ns ks′ cs (classesOf s t) (markPlaces s t)

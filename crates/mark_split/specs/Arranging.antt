@@ -14,7 +14,7 @@ use Rattle.mark_new_objects.specs.Marks.{entriesFrom}
 use Rattle.mark_order.specs.Marks.{markPlaces}
 
 -- ascending numbers for the marks of the array b, lists and scratch that are long enough, and places at which n classes can be cut
-pub record Numbered (b xs ks set cs : List ℕ) (n : ℕ) : Type 0 where
+pub record MarksNumbered (b xs ks set cs : List ℕ) (n : ℕ) : Type 0 where
   pub same : length ks ≡ length xs
   pub long : 2 + 4 * length xs ≤ length b
   pub rising : (i j : ℕ) → i < j → j < length xs → getD xs i 0 < getD xs j 0

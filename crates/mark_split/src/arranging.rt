@@ -11,7 +11,7 @@ ghost use Rattle.folds.specs.Moments.{came, left};
 ghost use Rattle.store_rules.specs.Store.{lent};
 ghost use Rattle.cut_parts.specs.Order.{Arranged};
 ghost use Rattle.mark_order.specs.Marks.{entriesBy};
-ghost use Rattle.mark_split.specs.Arranging.{Numbered, Arranging, ArrangesGlyphs, ArrangesPlaces};
+ghost use Rattle.mark_split.specs.Arranging.{MarksNumbered, Arranging, ArrangesGlyphs, ArrangesPlaces};
 
 // Puts marks, which come as ascending numbers, together by the tables that `cuts` make of their classes, and writes the classes beside them.
 // `glyph_set` is scratch, which may hold anything.
@@ -23,7 +23,7 @@ fn arrange(
     cuts: &[u16],
     class_count: u16,
 )
-    requires { ⌜ Numbered (now array) (now numbers) (now classes) (now «glyph_set») (now cuts) «class_count» ⌝ }
+    requires { ⌜ MarksNumbered (now array) (now numbers) (now classes) (now «glyph_set») (now cuts) «class_count» ⌝ }
     ensures { λ _. ⌜ Arranged (left numbers) (left classes) (came cuts) «class_count» (entriesBy (came array) (came numbers)) ⌝ }
 {
     order_marks(array, numbers, classes, glyph_set);

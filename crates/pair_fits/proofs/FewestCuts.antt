@@ -5,7 +5,7 @@ use mathlib.Core.Bool.{true}
 use lib.Dec.{eqb}
 use Rattle.store_rules.specs.Store.{Store}
 use Rattle.store_rules.proofs.Sound.{Fits}
-use Rattle.cut_rules.specs.Places.{ascending}
+use Rattle.cut_rules.specs.Places.{placesAscend}
 use Rattle.cut_rules.proofs.FewestCuts.{fewest}
 use Rattle.cut_rules.proofs.WithinLimit.{cuts-within}
 use Rattle.call_rules.specs.Settings.{secondEdition}
@@ -23,4 +23,4 @@ module _ (s : Store) (t : ℕ) where
   unfolding withinBy2 cutsBy
   fewest-cuts f one cs rises within =
       fewest (ruleOf secondEdition s t) (rule-edition secondEdition s t) (sets-later s t f one) cs
-      (subst (λ (n : ℕ). ascending 0 n cs ≡ true) (sym (rule-count secondEdition s t)) rises) within
+      (subst (λ (n : ℕ). placesAscend 0 n cs ≡ true) (sym (rule-count secondEdition s t)) rises) within

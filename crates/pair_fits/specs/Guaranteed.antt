@@ -7,7 +7,7 @@ use lib.ListN.{length}
 use Rattle.folds.specs.Lists.{among}
 use Rattle.store_rules.specs.Store.{Store}
 use Rattle.cut_rules.specs.Measure.{withinLimit}
-use Rattle.cut_rules.specs.Places.{ascending}
+use Rattle.cut_rules.specs.Places.{placesAscend}
 use Rattle.call_rules.specs.Settings.{secondEdition}
 use Rattle.pair_rules.specs.Table.{shape, ruleOf, cutsBy}
 use Rattle.pair_rules.specs.Written.{splitStore, newTables}
@@ -19,7 +19,7 @@ withinBy2 s t cs = withinLimit (ruleOf secondEdition s t) cs
 
 -- "No choice of fewer cuts has that property by edition 2's estimate.": of all lists of places, those that cut at 0 too
 abbrev pub FewestCuts : Store → ℕ → Type 0
-FewestCuts s t = (cs : List ℕ) → ascending 0 (shape s t .count) cs ≡ true → withinBy2 s t cs ≡ true → length (cutsBy secondEdition s t) ≤ length cs
+FewestCuts s t = (cs : List ℕ) → placesAscend 0 (shape s t .count) cs ≡ true → withinBy2 s t cs ≡ true → length (cutsBy secondEdition s t) ≤ length cs
 
 -- this holds of each of the resulting tables, the kept one and the new ones, in the store after the split
 abbrev pub OfResulting : Store → ℕ → List ℕ → (Store → ℕ → Type 0) → Type 0

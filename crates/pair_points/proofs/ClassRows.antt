@@ -13,7 +13,7 @@ use Rattle.ot_layouts.specs.PairPos.{itemAt}
 use Rattle.ot_layouts.proofs.Shapes.{format-two}
 use Rattle.store_rules.specs.Store.{Store, lent, bytesOf, sizeOf, linkedAt}
 use Rattle.store_rules.specs.Reach.{itemSize}
-use Rattle.cut_rules.specs.Cuts.{Rule, second, costAtCut, looked, due, after}
+use Rattle.cut_rules.specs.Cuts.{Rule, second, costAtCut, looked, cutDue, after}
 use Rattle.cut_rules.proofs.Turns.{looksAt, costNow}
 use Rattle.call_rules.specs.declared.Settings.{Settings}
 use Rattle.glyph_rules.specs.Entries.{within}
@@ -31,7 +31,7 @@ use Rattle.pair_points.specs.declared.measuring.Measured.{Measured}
 use Rattle.pair_points.specs.declared.«table_info».TableInfo.{TableInfo}
 use Rattle.pair_row_classes.specs.declared.Classes.{Classes}
 use Rattle.pair_points.specs.declared.format2.Rows.{Rows}
-use Rattle.cut_filling.specs.Filling.{Fills, IsDue, Added, Cut, Placed}
+use Rattle.cut_filling.specs.Filling.{Fills, IsDue, ItemAdded, Cut, Placed}
 use Rattle.pair_points.specs.Measuring.{Measures, Restarts}
 use Rattle.pair_points.specs.Filled.{Described, cuttingAt, TellsCycle}
 use Rattle.pair_row_classes.specs.Classes.{Holds, Begins}
@@ -134,14 +134,14 @@ module _ {how : Settings} {s : Store} {x : TableInfo} {gs cs d : List ℕ} {i : 
         ∙ ap (λ (n : ℕ). besideRows n (valuesOf (k .estimator))) (sym (v .table .class2))
         ∙ sym stands
 
-    is-due : due rule (cuttingAt how s x i) i (x .item + m .size) ≡ b
+    is-due : cutDue rule (cuttingAt how s x i) i (x .item + m .size) ≡ b
     is-due = sym (weighs rule (cuttingAt how s x i) (rule-edition how s (x .table)) beside-is (v .filled .listed .fills))
 
     starts : rule .start ≡ 16
     starts = start-two how s (x .table) (v .table .format)
 
     -- no cut
-    pub row-added : b ≡ false → {f′ : Filling} → Added (p .filling) (x .item + m .size) f′ → Below2 how s x gs cs d (i + 1) (record { filling = f′; row = m .next; classes = k }) w′ set′ l
+    pub row-added : b ≡ false → {f′ : Filling} → ItemAdded (p .filling) (x .item + m .size) f′ → Below2 how s x gs cs d (i + 1) (record { filling = f′; row = m .next; classes = k }) w′ set′ l
     row-added stays g =
         let (f, a, q) = added how s x (v .filled) y looks (x .item + m .size) costs (is-due ∙ stays) (omega (arith, row-most, y .most, starts)) (g (cuttingAt how s x i) d l (v .filled .listed)) in
         record { table = v .table; filled = f; at = a; held = subst (λ (n : ℕ). Holds (entriesOf s (x .table)) gs n (i + 1) k set′) (sym q) h }

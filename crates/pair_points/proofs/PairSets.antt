@@ -19,7 +19,7 @@ use Rattle.ot_layouts.proofs.Shapes.{format-one}
 use Rattle.ot_layouts.proofs.Slots.{slot-fits}
 use Rattle.store_rules.specs.Store.{Store, lent, bytesOf, sizeOf, parentOf, positionOf, childAt, linkedAt}
 use Rattle.store_rules.specs.Reach.{itemSize}
-use Rattle.cut_rules.specs.Cuts.{Rule, second, costAtCut, looked, due, after}
+use Rattle.cut_rules.specs.Cuts.{Rule, second, costAtCut, looked, cutDue, after}
 use Rattle.cut_rules.proofs.Turns.{looksAt, costNow}
 use Rattle.call_rules.specs.declared.Settings.{Settings}
 use Rattle.pair_rules.specs.Rules.{partialCover, rule1}
@@ -34,7 +34,7 @@ use Rattle.cut_filling.specs.declared.Filling.{Filling}
 use Rattle.pair_points.specs.declared.measuring.Measured.{Measured}
 use Rattle.pair_points.specs.declared.«table_info».TableInfo.{TableInfo}
 use Rattle.pair_points.specs.declared.format1.Sets.{Sets}
-use Rattle.cut_filling.specs.Filling.{Fills, IsDue, Added, Cut, Placed}
+use Rattle.cut_filling.specs.Filling.{Fills, IsDue, ItemAdded, Cut, Placed}
 use Rattle.pair_points.specs.Measuring.{At, Measures, Restarts}
 use Rattle.pair_points.specs.Filled.{cuttingAt, AtItem, TellsCycle}
 use Rattle.pair_points.specs.Format1.{Ready1, linked, Below1}
@@ -196,14 +196,14 @@ module _ {how : Settings} {s : Store} {x : TableInfo} {d : List ℕ} {i : ℕ} {
           let e : partialCover looksIn (cuttingAt how s x i .first) i ≡ p .partial + 2 = omega (arith, v .coverage, one-more) in
           beside-one how s (x .table) (v .table .format) (cuttingAt how s x i .first) i ∙ rw (e, ← v .table .coverage) (sym stands)
 
-      is-due : due rule (cuttingAt how s x i) i (m .size + 2) ≡ b′
+      is-due : cutDue rule (cuttingAt how s x i) i (m .size + 2) ≡ b′
       is-due = sym (weighs rule (cuttingAt how s x i) (rule-edition how s (x .table)) beside-is (v .filled .listed .fills))
 
       starts : rule .start ≡ 10
       starts = start-one how s (x .table) (v .table .format)
 
       -- no cut
-      pub set-added : b′ ≡ false → {f′ : Filling} → Added (p .filling) (m .size + 2) f′ → Below1 how s x d (i + 1) (record { filling = f′; row = m .next; partial = p .partial + 2 }) w′ l
+      pub set-added : b′ ≡ false → {f′ : Filling} → ItemAdded (p .filling) (m .size + 2) f′ → Below1 how s x d (i + 1) (record { filling = f′; row = m .next; partial = p .partial + 2 }) w′ l
       set-added stays g =
           let (f, a, q) = added how s x (v .filled) y (looks ∙ taken) (m .size + 2) costs (is-due ∙ stays) (omega (arith, y .most, starts)) (g (cuttingAt how s x i) d l (v .filled .listed)) in
           record { table = v .table; filled = f; at = a; coverage = rw q (omega (arith, v .coverage, one-more)) }

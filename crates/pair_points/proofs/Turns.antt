@@ -9,7 +9,7 @@ use borrow.Author.Tests.{eqb-true}
 use Rattle.ot_layouts.specs.PairPos.{itemAt}
 use Rattle.ot_layouts.proofs.Shapes.{items-rise}
 use Rattle.store_rules.specs.Store.{Store, linkAt, parentOf, bytesOf, sizeOf, ofParent}
-use Rattle.cut_rules.specs.Cuts.{Rule, Cutting, costAtCut, seenFrom, due, cutHere, goOn, after}
+use Rattle.cut_rules.specs.Cuts.{Rule, Cutting, costAtCut, seenFrom, cutDue, cutHere, goOn, after}
 use Rattle.cut_rules.proofs.Turns.{looksAt, costNow}
 use Rattle.call_rules.specs.declared.Settings.{Settings}
 use Rattle.pair_rules.specs.Table.{shape, ruleOf, cutsBy}
@@ -91,7 +91,7 @@ module _ (how : Settings) (s : Store) (x : TableInfo) {d : List ℕ} {i : ℕ} {
 
   module _ (looks : looksAt (ruleOf how s (x .table)) i ≡ true) (cost : ℕ) (costs : cost ≡ costNow (ruleOf how s (x .table)) (cuttingAt how s x i) i) {f′ : Filling} where
     -- no cut: the table that is being filled stays
-    pub added : due (ruleOf how s (x .table)) (cuttingAt how s x i) i cost ≡ false → ruleOf how s (x .table) .start + cost ≤ 67108864
+    pub added : cutDue (ruleOf how s (x .table)) (cuttingAt how s x i) i cost ≡ false → ruleOf how s (x .table) .start + cost ≤ 67108864
         → Listed f′ (goOn (cuttingAt how s x i) cost) d l
         → Filled (ruleOf how s (x .table)) d (i + 1) f′ l × AtItem how s x (i + 1) f′ (m .next) w′ × (cuttingAt how s x (i + 1) .first ≡ cuttingAt how s x i .first)
     unfolding goOn
@@ -104,7 +104,7 @@ module _ (how : Settings) (s : Store) (x : TableInfo) {d : List ℕ} {i : ℕ} {
         )
 
     -- a cut: the next table starts with the item
-    pub cut : due (ruleOf how s (x .table)) (cuttingAt how s x i) i cost ≡ true → ruleOf how s (x .table) .start + costAtCut (ruleOf how s (x .table)) i cost ≤ 67108864
+    pub cut : cutDue (ruleOf how s (x .table)) (cuttingAt how s x i) i cost ≡ true → ruleOf how s (x .table) .start + costAtCut (ruleOf how s (x .table)) i cost ≤ 67108864
         → {l′ : List ℕ} → Listed f′ (cutHere (ruleOf how s (x .table)) (cuttingAt how s x i) i cost) d l′
         → {before size : ℕ} {w″ : List ℕ} → Restarts s (x .table) (shape s (x .table)) i (m .next) (how .edition) (x .epoch + f .cuts + 1) before size w″
         → Filled (ruleOf how s (x .table)) d (i + 1) f′ l′ × AtItem how s x (i + 1) f′ (m .next) w″ × (cuttingAt how s x (i + 1) .first ≡ i)

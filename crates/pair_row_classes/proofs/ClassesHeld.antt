@@ -11,7 +11,7 @@ use Rattle.glyph_rules.specs.Estimates.{estimate}
 use Rattle.glyph_set.specs.GlyphSet.{markAll, blankAll, Empty}
 use Rattle.glyph_set.proofs.Emptied.{length-markAll}
 use Rattle.glyph_estimator.specs.declared.Estimator.{Estimator}
-use Rattle.glyph_estimator.specs.States.{valuesOf, EstimatorReady, Added, Small}
+use Rattle.glyph_estimator.specs.States.{valuesOf, EstimatorReady, ClassAdded, Small}
 use Rattle.glyph_estimator.proofs.Estimates.{estimates-none, ready, estimates-more, small}
 use Rattle.glyph_estimator.proofs.Forgetting.{marked-behind, forgotten}
 use Rattle.pair_row_classes.specs.declared.Classes.{Classes}
@@ -70,7 +70,7 @@ module _ {es : List Entry} {gs cs : List ℕ} (o : OrderedByClass es gs cs) wher
       pub held-ready : EstimatorReady (k .estimator) set (part gs from to)
       held-ready = ready es (o .up) (o .under) a i (k .estimator) set (v .estimates) order (v .long) (part gs from to) glyphs-are
 
-      pub held-more : {r : Estimator} {set′ : List ℕ} → Added (k .estimator) set i (part gs from to) r set′ → Holds es gs a (i + 1) (record { estimator = r; first = k .first; from = from; to = to }) set′
+      pub held-more : {r : Estimator} {set′ : List ℕ} → ClassAdded (k .estimator) set i (part gs from to) r set′ → Holds es gs a (i + 1) (record { estimator = r; first = k .first; from = from; to = to }) set′
       held-more {r} {set′} d =
           record {
             estimates = estimates-more es (o .up) (o .under) a i (k .estimator) set (v .estimates) order (v .long) (part gs from to) glyphs-are r set′ d;

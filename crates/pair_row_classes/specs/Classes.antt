@@ -31,6 +31,6 @@ AddsClass gs cs i k set k′ set′ =
     (es : List Entry) (a : ℕ) → a ≤ i → OrderedByClass es gs cs → Holds es gs a i k set → Holds es gs a (i + 1) k′ set′ × (k′ .from ≡ startOf es i)
 
 -- class i alone is held
-abbrev pub Restarts : List ℕ → ℕ → Classes → List ℕ → Classes → List ℕ → Type 0
-Restarts gs i k set k′ set′ =
+abbrev pub RestartsClasses : List ℕ → ℕ → Classes → List ℕ → Classes → List ℕ → Type 0
+RestartsClasses gs i k set k′ set′ =
     (es : List Entry) (cs : List ℕ) (a : ℕ) → a ≤ i → OrderedByClass es gs cs → Holds es gs a (i + 1) k set → k .from ≡ startOf es i → Holds es gs i (i + 1) k′ set′

@@ -9,7 +9,7 @@ ghost use Prim.Native.Nat.{ℕ, _+_, _≤_};
 ghost use Rattle.ot_layouts.specs.Coverage.{Entry};
 ghost use Rattle.folds.specs.Moments.{came, left};
 ghost use Rattle.glyph_class_parts.specs.ClassParts.{OrderedByClass, startOf};
-ghost use Rattle.pair_row_classes.specs.Classes.{Holds, Begins, AddsClass, Restarts};
+ghost use Rattle.pair_row_classes.specs.Classes.{Holds, Begins, AddsClass, RestartsClasses};
 
 // The glyphs from `first` up to `to` are in the estimator and in the set; those of the last class start at `from`.
 pub struct Classes {
@@ -62,7 +62,7 @@ impl Classes {
             × Holds es (now glyphs) a (class + 1) self (now set)
             × (self .from ≡ startOf es class))
             ⌝ }
-        ensures { λ r. ⌜ Restarts (came glyphs) class self (came set) r (left set) ⌝ }
+        ensures { λ r. ⌜ RestartsClasses (came glyphs) class self (came set) r (left set) ⌝ }
     {
         let first = self.first;
         let from = self.from;

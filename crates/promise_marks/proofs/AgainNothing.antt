@@ -17,7 +17,7 @@ use Rattle.call_rules.specs.Settings.{firstEdition}
 use Rattle.call_rules.specs.Scratch.{Scratch, cleared}
 use Rattle.call_rules.specs.Outcomes.{outcome, settle}
 use Rattle.mark_rules.specs.Rules.{markRule, partialCover}
-use Rattle.mark_rules.specs.Table.{Mark, marksOf, marksOfClass, within, ruleOf, cutsBy, cutPlaces}
+use Rattle.mark_rules.specs.Table.{Mark, marksOf, marksOfClass, marksWithin, ruleOf, cutsBy, cutPlaces}
 use Rattle.mark_rules.specs.Written.{needed, splitStore}
 use Rattle.mark_rules.specs.Calls.{cutCases, lastCases, splitCases, markSplitCall}
 use Rattle.mark_rules.proofs.Checks.{slots-at}
@@ -56,11 +56,11 @@ module _ (s : Store) (t : ℕ) (cs : List ℕ) (g : Ready s t cs) where
   view = view-kept s t cs g
 
   -- its marks are the first classes'
-  marks-then : marksOf s′ t ≡ within 0 p0 (marksOf s t)
-  marks-then = view-marks view (g .reads) ∙ reduced-none (within 0 p0 (marksOf s t))
+  marks-then : marksOf s′ t ≡ marksWithin 0 p0 (marksOf s t)
+  marks-then = view-marks view (g .reads) ∙ reduced-none (marksWithin 0 p0 (marksOf s t))
 
   few-same : (i : ℕ) → i < p0 → marksOfClass s′ t i ≡ marksOfClass s t i
-  few-same i h = ap (λ (ms : List Mark). length (within i (i + 1) ms)) marks-then ∙ ap length (within-within i (i + 1) p0 (marksOf s t) (omega arith))
+  few-same i h = ap (λ (ms : List Mark). length (marksWithin i (i + 1) ms)) marks-then ∙ ap length (within-within i (i + 1) p0 (marksOf s t) (omega arith))
 
   partial-same : (i : ℕ) → i < p0 → partialCover (marksOfClass s′ t) 0 i ≡ partialCover (marksOfClass s t) 0 i
   unfolding partialCover

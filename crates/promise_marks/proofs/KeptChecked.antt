@@ -23,7 +23,7 @@ use Rattle.store_rules.proofs.Lookups.{child-row, child-used, linked-is}
 use Rattle.store_rules.proofs.Header.{header-each, kept-any}
 use Rattle.store_rules.proofs.SlotLinks.{slots-each}
 use Rattle.cut_rules.specs.Ranges.{from, to}
-use Rattle.mark_rules.specs.Table.{Mark, classesOf, marksIn, basesIn, markArray, markAnchor, baseArray, marksOf, markAt, within, inClasses, baseAnchor}
+use Rattle.mark_rules.specs.Table.{Mark, classesOf, marksIn, basesIn, markArray, markAnchor, baseArray, marksOf, markAt, marksWithin, inClasses, baseAnchor}
 use Rattle.mark_rules.specs.Written.{perTable, noMark, markChild, baseChild, markLinks, baseLinks, arrayLinks, tableLinks, freshLinks, splitStore}
 use Rattle.mark_rules.proofs.Checks.{AtSlots}
 use Rattle.promise_marks.proofs.Ready.{Ready, objects-then}
@@ -59,7 +59,7 @@ module _ (s : Store) (t : ℕ) (cs : List ℕ) (g : Ready s t cs) where
   kept-slots : Each AtSlot (keptPiece s t cs)
   unfolding markLinks baseLinks
   kept-slots =
-      let ms = within 0 (from cs 0) (marksOf s t) in
+      let ms = marksWithin 0 (from cs 0) (marksOf s t) in
       let w = from cs 0 - 0 in
       array-each s t AtSlot (v + 1) 0 (from cs 0)
       (slots-each (v + 1) (markSlot 0) 4 (markChild ms) AtSlot (length ms) (λ k c l e. (λ p. is-mark-slot k, λ p. absurd (omega arith))))
@@ -122,8 +122,8 @@ module _ (s : Store) (t : ℕ) (cs : List ℕ) (g : Ready s t cs) where
   abbrev KnownAnchor : Mark → Type 0
   KnownAnchor m = (c : ℕ) → m .anchor ≡ some c → Known c
 
-  marks-known : (lo hi : ℕ) → Each KnownAnchor (within lo hi (marksOf s t))
-  unfolding within marksOf markAt markAnchor
+  marks-known : (lo hi : ℕ) → Each KnownAnchor (marksWithin lo hi (marksOf s t))
+  unfolding marksWithin marksOf markAt markAnchor
   marks-known lo hi =
       each-sift KnownAnchor KnownAnchor (λ m. inClasses lo hi (m .class)) (λ m h e. h) (marksOf s t)
       (each-upto KnownAnchor (markAt s t) (marksIn s t)
@@ -132,7 +132,7 @@ module _ (s : Store) (t : ℕ) (cs : List ℕ) (g : Ready s t cs) where
   array-known : (p lo hi : ℕ) → Each Leads (arrayLinks s t p lo hi)
   unfolding markLinks baseLinks baseAnchor
   array-known p lo hi =
-      let ms = within lo hi (marksOf s t) in
+      let ms = marksWithin lo hi (marksOf s t) in
       array-each s t Leads p lo hi
       (slots-each p (markSlot 0) 4 (markChild ms) Leads (length ms) (λ k c l e. each-at KnownAnchor ms (marks-known lo hi) k l noMark c e))
       (slots-each (p + 1) (baseSlot 0) 2 (baseChild s t lo (hi - lo)) Leads (basesIn s t * (hi - lo))

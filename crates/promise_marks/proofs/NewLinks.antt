@@ -21,7 +21,7 @@ use Rattle.store_rules.proofs.Header.{header-each, header-other, kept-parent, k
 use Rattle.store_rules.proofs.SlotLinks.{slot-at, slot-none, slots-each}
 use Rattle.store_rules.proofs.Appended as behind
 use Rattle.cut_rules.specs.Ranges.{from, to}
-use Rattle.mark_rules.specs.Table.{classesOf, marksOf, within, basesIn}
+use Rattle.mark_rules.specs.Table.{classesOf, marksOf, marksWithin, basesIn}
 use Rattle.mark_rules.specs.Written.{
   perTable,
   markChild,
@@ -45,7 +45,7 @@ Of lo hi l = (lo ≤ l .parent) × (l .parent < hi)
 module _ (s : Store) (t : ℕ) where
   -- the marks of a range of classes
   abbrev marks : ℕ → ℕ → ℕ
-  marks lo hi = length (within lo hi (marksOf s t))
+  marks lo hi = length (marksWithin lo hi (marksOf s t))
 
   -- ---- of a mark array and the base array behind it
 
@@ -58,14 +58,14 @@ module _ (s : Store) (t : ℕ) where
   unfolding markLinks baseLinks
   array-of p lo hi =
       array-each (Of p (p + 2)) p lo hi
-      (slots-each p (markSlot 0) 4 (markChild (within lo hi (marksOf s t))) (Of p (p + 2)) (marks lo hi) (λ k c l e. (omega arith, omega arith)))
+      (slots-each p (markSlot 0) 4 (markChild (marksWithin lo hi (marksOf s t))) (Of p (p + 2)) (marks lo hi) (λ k c l e. (omega arith, omega arith)))
       (slots-each (p + 1) (baseSlot 0) 2 (baseChild s t lo (hi - lo)) (Of p (p + 2)) (basesIn s t * (hi - lo)) (λ k c l e. (omega arith, omega arith)))
 
   -- they have the children of their slots
-  array-mark : (p lo hi k : ℕ) → k < marks lo hi → lookup (arrayLinks s t p lo hi) p (markSlot k) ≡ markChild (within lo hi (marksOf s t)) k
+  array-mark : (p lo hi k : ℕ) → k < marks lo hi → lookup (arrayLinks s t p lo hi) p (markSlot k) ≡ markChild (marksWithin lo hi (marksOf s t)) k
   unfolding arrayLinks markLinks baseLinks
   array-mark p lo hi k l =
-      let ms = within lo hi (marksOf s t) in
+      let ms = marksWithin lo hi (marksOf s t) in
       lookup-append (markLinks s t p lo hi) (baseLinks s t (p + 1) lo hi) p (markSlot k)
       ∙ rw (
         slot-at p (markSlot 0) 4 (markChild ms) (omega arith) (length ms) k l,
@@ -77,7 +77,7 @@ module _ (s : Store) (t : ℕ) where
   array-base p lo hi k l =
       lookup-append (markLinks s t p lo hi) (baseLinks s t (p + 1) lo hi) (p + 1) (baseSlot k)
       ∙ rw (
-        slot-none p (markSlot 0) 4 (markChild (within lo hi (marksOf s t))) (marks lo hi) (p + 1) (baseSlot k) (λ e. omega arith),
+        slot-none p (markSlot 0) 4 (markChild (marksWithin lo hi (marksOf s t))) (marks lo hi) (p + 1) (baseSlot k) (λ e. omega arith),
         slot-at (p + 1) (baseSlot 0) 2 (baseChild s t lo (hi - lo)) (omega arith) (basesIn s t * (hi - lo)) k l,
       )
 
@@ -266,7 +266,7 @@ module _ (s : Store) (t : ℕ) (cs : List ℕ) (g : Ready s t cs) where
         let z : u ≡ u + 0 = omega arith in
         ap (λ (p : ℕ). childAt s′ p q) z ∙ child-table j 0 q l (omega arith) ∙ ap (λ (p : ℕ). lookup (piece s t cs j) p q) (sym z) ∙ e
 
-    pub new-mark : (k : ℕ) → k < marks s t lo hi → childAt s′ (u + 2) (markSlot k) ≡ markChild (within lo hi (marksOf s t)) k
+    pub new-mark : (k : ℕ) → k < marks s t lo hi → childAt s′ (u + 2) (markSlot k) ≡ markChild (marksWithin lo hi (marksOf s t)) k
     new-mark k h =
         child-table j 2 (markSlot k) l (omega arith)
         ∙ head-past s t u lo hi (u + 2) (markSlot k) (omega arith)
@@ -280,7 +280,7 @@ module _ (s : Store) (t : ℕ) (cs : List ℕ) (g : Ready s t cs) where
         ∙ ap (λ (p : ℕ). lookup (arrayLinks s t (u + 2) lo hi) p (baseSlot k)) z
         ∙ array-base s t (u + 2) lo hi k h
 
-  pub kept-mark : (k : ℕ) → k < marks s t 0 (from cs 0) → childAt s′ (v + 1) (markSlot k) ≡ markChild (within 0 (from cs 0) (marksOf s t)) k
+  pub kept-mark : (k : ℕ) → k < marks s t 0 (from cs 0) → childAt s′ (v + 1) (markSlot k) ≡ markChild (marksWithin 0 (from cs 0) (marksOf s t)) k
   kept-mark k h = child-part 1 (markSlot k) ∙ array-mark s t (v + 1) 0 (from cs 0) k h
 
   pub kept-base : (k : ℕ) → k < basesIn s t * (from cs 0 - 0) → childAt s′ (v + 2) (baseSlot k) ≡ baseChild s t 0 (from cs 0 - 0) k

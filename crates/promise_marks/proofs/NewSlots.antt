@@ -17,7 +17,7 @@ use Rattle.store_rules.proofs.Lookups.{linked-is}
 use Rattle.store_rules.proofs.Header.{header-each}
 use Rattle.store_rules.proofs.SlotLinks.{slots-each}
 use Rattle.cut_rules.specs.Ranges.{from, to}
-use Rattle.mark_rules.specs.Table.{classesOf, basesIn, markArray, baseArray, marksOf, within}
+use Rattle.mark_rules.specs.Table.{classesOf, basesIn, markArray, baseArray, marksOf, marksWithin}
 use Rattle.mark_rules.specs.Written.{perTable, markChild, baseChild, markLinks, baseLinks, arrayLinks, tableLinks, freshLinks, splitStore}
 use Rattle.mark_rules.proofs.Checks.{AtSlots}
 use Rattle.promise_marks.proofs.Ready.{Ready}
@@ -55,7 +55,7 @@ module _ (s : Store) (t : ℕ) (cs : List ℕ) (g : Ready s t cs) (j : ℕ) (l :
   unfolding tableLinks markLinks baseLinks isTableSlot
   own-slots =
       let u = table j in
-      let ms = within lo hi (marksOf s t) in
+      let ms = marksWithin lo hi (marksOf s t) in
       each-append AtSlot (headerLinks own heads u (linkedAt s t)) (arrayLinks s t (u + 2) lo hi)
       (header-each own u (linkedAt s t) AtSlot heads (λ q a. record { table = λ p. a; marks = λ p. absurd (omega arith); bases = λ p. absurd (omega arith) }))
       (array-each s t AtSlot (u + 2) lo hi

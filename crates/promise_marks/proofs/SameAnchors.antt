@@ -11,7 +11,7 @@ use Rattle.folds.proofs.Moved.{has-moved}
 use Rattle.folds.proofs.InRange.{between-is, is-between}
 use Rattle.ot_layouts.specs.MarkBasePos.{markClass}
 use Rattle.store_rules.specs.Store.{Store}
-use Rattle.mark_rules.specs.Table.{Mark, marksIn, basesIn, markBytes, markAnchor, marksOf, markAt, within, inClasses, baseAnchor}
+use Rattle.mark_rules.specs.Table.{Mark, marksIn, basesIn, markBytes, markAnchor, marksOf, markAt, marksWithin, inClasses, baseAnchor}
 use Rattle.mark_rules.specs.Written.{noMark}
 use Rattle.mark_rules.specs.Reads.{Reads}
 use Rattle.mark_rules.proofs.Marks.{marks-many, mark-is, reduce}
@@ -33,7 +33,7 @@ module _ {s : Store} {t : ℕ} {s′ : Store} {u lo hi : ℕ} (v : View s t s′
       (i, l, subst (λ (x : Mark). lo ≤ x .class) e a, ap (reduce lo) e)
 
   marks-were : Each Was (marksOf s′ u)
-  unfolding within marksOf
+  unfolding marksWithin marksOf
   marks-were =
       subst (Each Was) (sym (view-marks v old))
       (each-moved Is Was (reduce lo) (λ m. inClasses lo hi (m .class)) was-in (marksOf s t)
@@ -53,7 +53,7 @@ module _ {s : Store} {t : ℕ} {s′ : Store} {u lo hi : ℕ} (v : View s t s′
       inr (i, lo + k, base, omega arith, omega arith, omega arith, sym (view-anchor v old i k base (omega arith)) ∙ e)
 
   pub anchor-new : (c : ℕ) → Anchor s t lo (lo + j) c → Anchor s′ u 0 j c
-  unfolding markAt within
+  unfolding markAt marksWithin
   anchor-new c (inl (i, l, a, b, e)) =
       let at : getD (marksOf s t) i noMark ≡ markAt s t i = mark-is s t i l in
       let inside : inClasses lo hi (getD (marksOf s t) i noMark .class) ≡ true

@@ -23,7 +23,7 @@ use Rattle.store_rules.proofs.Changed.{other-octets}
 use Rattle.store_rules.proofs.AppendedFits.{appended-bytes}
 use Rattle.cut_rules.specs.Ranges.{from, to}
 use Rattle.cut_rules.proofs.CutPlaces.{range-high}
-use Rattle.mark_rules.specs.Table.{Mark, classesOf, marksIn, basesIn, glyphsOf, markArray, baseArray, marksOf, markAt, within, inClasses, cutPlaces}
+use Rattle.mark_rules.specs.Table.{Mark, classesOf, marksIn, basesIn, glyphsOf, markArray, baseArray, marksOf, markAt, marksWithin, inClasses, cutPlaces}
 use Rattle.mark_rules.specs.Written.{noMark, newTable, newCoverage, newMarkArray, newBaseArray, newParts, newObjects, newOf, newLinks, keptTable, splitStore}
 use Rattle.mark_rules.proofs.Marks.{marks-rise, within-rises, marks-many}
 use Rattle.mark_rules.proofs.NewArrays.{record-of}
@@ -88,14 +88,14 @@ module _ (s : Store) (t : ℕ) (cs : List ℕ) (g : Ready s t cs) (octets : Octe
 
   module _ (lo hi : ℕ) where
     abbrev ms : List Mark
-    ms = within lo hi (marksOf s t)
+    ms = marksWithin lo hi (marksOf s t)
 
     small : Each Small ms
-    unfolding within
+    unfolding marksWithin
     small = each-sift Small Small (λ m. inClasses lo hi (m .class)) (λ m a e. a) (marksOf s t) marks-small
 
     few : length ms < 65536
-    unfolding within
+    unfolding marksWithin
     few = omega (arith, sift-both (λ (m : Mark). inClasses lo hi (m .class)) (marksOf s t), marks-many s t, two-small (markArray s t) 0)
 
     cover-fits : Bytes (newCoverage ms)

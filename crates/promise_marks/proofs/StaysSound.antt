@@ -23,7 +23,7 @@ use Rattle.store_rules.proofs.Header.{Rising, header-climb, header-each, kept-a
 use Rattle.store_rules.proofs.SlotLinks.{slots-each, slots-climb}
 use Rattle.store_rules.proofs.AppendedFits.{appended-fits}
 use Rattle.cut_rules.specs.Ranges.{from, to}
-use Rattle.mark_rules.specs.Table.{Mark, classesOf, basesIn, marksIn, markArray, markAnchor, baseArray, marksOf, markAt, within, inClasses, baseAnchor, cutPlaces}
+use Rattle.mark_rules.specs.Table.{Mark, classesOf, basesIn, marksIn, markArray, markAnchor, baseArray, marksOf, markAt, marksWithin, inClasses, baseAnchor, cutPlaces}
 use Rattle.mark_rules.specs.Written.{
   newTable,
   newParts,
@@ -54,7 +54,7 @@ module _ (s : Store) (t : ℕ) where
   array-climb : (p lo hi : ℕ) → Climb p 0 (p + 2) (arrayLinks s t p lo hi)
   unfolding arrayLinks markLinks baseLinks
   array-climb p lo hi =
-      let ms = within lo hi (marksOf s t) in
+      let ms = marksWithin lo hi (marksOf s t) in
       let z : suc p ≡ p + 1 = omega arith in
       let y : suc (p + 1) ≡ p + 2 = omega arith in
       climb-append (markLinks s t p lo hi) (baseLinks s t (p + 1) lo hi) p 0 (p + 1) (p + 2)
@@ -121,19 +121,19 @@ module _ (s : Store) (t : ℕ) (cs : List ℕ) (g : Ready s t cs) where
   abbrev OldAnchor : Mark → Type 0
   OldAnchor m = (c : ℕ) → m .anchor ≡ some c → c < s .objectCount
 
-  anchors-used : (lo hi : ℕ) → Each OldAnchor (within lo hi (marksOf s t))
-  unfolding within marksOf markAt markAnchor
+  anchors-used : (lo hi : ℕ) → Each OldAnchor (marksWithin lo hi (marksOf s t))
+  unfolding marksWithin marksOf markAt markAnchor
   anchors-used lo hi =
       each-sift OldAnchor OldAnchor (λ m. inClasses lo hi (m .class)) (λ m h e. h) (marksOf s t)
       (each-upto OldAnchor (markAt s t) (marksIn s t) (λ k l c e. child-used s (markArray s t) (g .fit) (markSlot k) c e))
 
   -- the links of two arrays that are long enough
-  array-fit : (p lo hi : ℕ) → p + 1 < s′ .objectCount → sizeOf s′ p ≡ 2 + 4 * length (within lo hi (marksOf s t))
+  array-fit : (p lo hi : ℕ) → p + 1 < s′ .objectCount → sizeOf s′ p ≡ 2 + 4 * length (marksWithin lo hi (marksOf s t))
       → sizeOf s′ (p + 1) ≡ 2 + 2 * (basesIn s t * (hi - lo))
       → Each (Fitting s′) (arrayLinks s t p lo hi)
   unfolding markLinks baseLinks baseAnchor
   array-fit p lo hi h a b =
-      let ms = within lo hi (marksOf s t) in
+      let ms = marksWithin lo hi (marksOf s t) in
       let n = basesIn s t * (hi - lo) in
       let o = objects-then s t cs g in
       let old = each-at OldAnchor ms (anchors-used lo hi) in
@@ -157,9 +157,9 @@ module _ (s : Store) (t : ℕ) (cs : List ℕ) (g : Ready s t cs) where
     unfolding newTable words be16
     size-table = let z : u ≡ u + 0 = omega arith in ap (sizeOf s′) z ∙ table-size s t cs g j 0 l (omega arith)
 
-    size-marks : sizeOf s′ (u + 2) ≡ 2 + 4 * length (within lo hi (marksOf s t))
+    size-marks : sizeOf s′ (u + 2) ≡ 2 + 4 * length (marksWithin lo hi (marksOf s t))
     unfolding newParts
-    size-marks = table-size s t cs g j 2 l (omega arith) ∙ array-long lo (within lo hi (marksOf s t))
+    size-marks = table-size s t cs g j 2 l (omega arith) ∙ array-long lo (marksWithin lo hi (marksOf s t))
 
     size-bases : sizeOf s′ (u + 2 + 1) ≡ 2 + 2 * (basesIn s t * (hi - lo))
     unfolding newParts
@@ -202,7 +202,7 @@ module _ (s : Store) (t : ℕ) (cs : List ℕ) (g : Ready s t cs) where
   kept-fit =
       let z : v + 1 + 1 ≡ v + 2 = omega arith in
       array-fit (v + 1) 0 (from cs 0) (omega (arith, objects-then s t cs g))
-      (kept-size s t cs g 1 (omega arith) ∙ array-long 0 (within 0 (from cs 0) (marksOf s t)))
+      (kept-size s t cs g 1 (omega arith) ∙ array-long 0 (marksWithin 0 (from cs 0) (marksOf s t)))
       (ap (sizeOf s′) z ∙ kept-size s t cs g 2 (omega arith) ∙ base-long (basesIn s t) (from cs 0 - 0))
 
   new-fit : Each (Fitting s′) (newLinks s t cs)

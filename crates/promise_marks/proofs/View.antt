@@ -26,7 +26,7 @@ use Rattle.mark_rules.specs.Table.{
   baseArray,
   baseBytes,
   marksOf,
-  within,
+  marksWithin,
   inClasses,
   baseAnchor,
 }
@@ -47,9 +47,9 @@ pub record View (s : Store) (t : ℕ) (s′ : Store) (u lo hi : ℕ) : Type 0 wh
   pub exactly : length (bytesOf s′ u) ≡ tableSize
   pub classes : classesOf s′ u ≡ hi - lo
   -- a new coverage and new arrays, with the old children
-  pub cover : (c : ℕ) × (s .objectCount ≤ c) × (childAt s′ u coverAt ≡ some c) × (bytesOf s′ c ≡ newCoverage (within lo hi (marksOf s t)))
-  pub marks : (c : ℕ) × (s .objectCount ≤ c) × (childAt s′ u markArrayAt ≡ some c) × (bytesOf s′ c ≡ newMarkArray lo (within lo hi (marksOf s t)))
-      × ((k : ℕ) → k < length (within lo hi (marksOf s t)) → childAt s′ c (markSlot k) ≡ markChild (within lo hi (marksOf s t)) k)
+  pub cover : (c : ℕ) × (s .objectCount ≤ c) × (childAt s′ u coverAt ≡ some c) × (bytesOf s′ c ≡ newCoverage (marksWithin lo hi (marksOf s t)))
+  pub marks : (c : ℕ) × (s .objectCount ≤ c) × (childAt s′ u markArrayAt ≡ some c) × (bytesOf s′ c ≡ newMarkArray lo (marksWithin lo hi (marksOf s t)))
+      × ((k : ℕ) → k < length (marksWithin lo hi (marksOf s t)) → childAt s′ c (markSlot k) ≡ markChild (marksWithin lo hi (marksOf s t)) k)
   pub bases : (c : ℕ) × (s .objectCount ≤ c) × (childAt s′ u baseArrayAt ≡ some c) × (bytesOf s′ c ≡ newBaseArray (basesIn s t) (hi - lo))
       × ((k : ℕ) → k < basesIn s t * (hi - lo) → childAt s′ c (baseSlot k) ≡ baseChild s t lo (hi - lo) k)
   -- the old base coverage
@@ -58,7 +58,7 @@ pub record View (s : Store) (t : ℕ) (s′ : Store) (u lo hi : ℕ) : Type 0 wh
 module _ {s : Store} {t : ℕ} {s′ : Store} {u lo hi : ℕ} (v : View s t s′ u lo hi) (old : Reads s t) where
   -- the marks of the range
   abbrev ms : List Mark
-  ms = within lo hi (marksOf s t)
+  ms = marksWithin lo hi (marksOf s t)
 
   rise : Rises 0 ms
   rise = within-rises lo hi (marksOf s t) (marks-rise s t old)

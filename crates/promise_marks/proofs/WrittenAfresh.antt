@@ -14,7 +14,7 @@ use Rattle.ot_layouts.proofs.CoverageRoundTrip.{cover-readable}
 use Rattle.store_rules.specs.Store.{Store, sound}
 use Rattle.store_rules.specs.Appended.{newNumber}
 use Rattle.store_rules.proofs.Lookups.{linked-is}
-use Rattle.mark_rules.specs.Table.{Mark, classesOf, marksIn, basesIn, markBytes, marksOf, within, cutPlaces}
+use Rattle.mark_rules.specs.Table.{Mark, classesOf, marksIn, basesIn, markBytes, marksOf, marksWithin, cutPlaces}
 use Rattle.mark_rules.specs.Written.{newCoverage, perTable, newTables, noMark, splitStore}
 use Rattle.mark_rules.specs.Reads.{Reads}
 use Rattle.mark_rules.proofs.Checks.{parts-read, read-parts, reads-no-case}
@@ -42,7 +42,7 @@ use Rattle.promise_marks.proofs.StaysSound.{sound-then}
 module _ {s : Store} {t : ℕ} {s′ : Store} {u lo hi : ℕ} (v : View s t s′ u lo hi) (old : Reads s t)
     (sounds : sound s′ ≡ true) (used : u < s′ .objectCount) where
   abbrev ms : List Mark
-  ms = within lo hi (marksOf s t)
+  ms = marksWithin lo hi (marksOf s t)
 
   count-is : marksIn s′ u ≡ length ms
   count-is = ap markCount (view-mark-bytes v old) ∙ array-count lo ms

@@ -15,7 +15,7 @@ use Rattle.store_rules.specs.Reach.{itemSize, SentenceOfS}
 use Rattle.cut_rules.specs.Ranges.{from, to}
 use Rattle.call_rules.specs.Answers.{firstCase}
 use Rattle.call_rules.specs.Scratch.{Scratch, cleared}
-use Rattle.mark_rules.specs.Table.{classesOf, basesIn, glyphsOf, markArray, baseArray, markBytes, baseBytes, marksOf, within, baseAnchor, ofClasses, cutPlaces}
+use Rattle.mark_rules.specs.Table.{classesOf, basesIn, glyphsOf, markArray, baseArray, markBytes, baseBytes, marksOf, marksWithin, baseAnchor, ofClasses, cutPlaces}
 use Rattle.mark_rules.specs.Written.{newTable, newCoverage, newMarkArray, newBaseArray, newOf, newTables, perTable, needObjects, needLinks}
 use Rattle.mark_rules.specs.Attachments.{attachOf, attachAmong}
 use Rattle.mark_rules.specs.Calls.{markSplitCall, markPlanCall, markCall, readCases, reported, scratchShort}
@@ -124,13 +124,13 @@ pub record Afresh (s : Store) (t : ℕ) (s′ : Store) (u lo hi : ℕ) : Type 0 
   pub readable : firstCase (readCases s′ u) ≡ none
   pub classes : classesOf s′ u ≡ hi - lo
   -- its coverage, of the marks of its classes; "always as new objects"
-  pub covers : glyphsOf s′ u ≡ map (λ m. m .glyph) (within lo hi (marksOf s t))
-  pub coverBytes : linkedBytes s′ u coverAt ≡ newCoverage (within lo hi (marksOf s t))
+  pub covers : glyphsOf s′ u ≡ map (λ m. m .glyph) (marksWithin lo hi (marksOf s t))
+  pub coverBytes : linkedBytes s′ u coverAt ≡ newCoverage (marksWithin lo hi (marksOf s t))
   pub coverNew : s .objectCount ≤ linkedAt s′ u coverAt
   -- its mark array: "classes reduced by its first", each mark with its anchor
-  pub marksBytes : markBytes s′ u ≡ newMarkArray lo (within lo hi (marksOf s t))
+  pub marksBytes : markBytes s′ u ≡ newMarkArray lo (marksWithin lo hi (marksOf s t))
   pub marksNew : s .objectCount ≤ markArray s′ u
-  pub marks : marksOf s′ u ≡ map (λ m. record { glyph = m .glyph; class = m .class - lo; anchor = m .anchor }) (within lo hi (marksOf s t))
+  pub marks : marksOf s′ u ≡ map (λ m. record { glyph = m .glyph; class = m .class - lo; anchor = m .anchor }) (marksWithin lo hi (marksOf s t))
   -- its base array, each slot with its anchor
   pub basesBytes : baseBytes s′ u ≡ newBaseArray (basesIn s t) (hi - lo)
   pub basesNew : s .objectCount ≤ baseArray s′ u

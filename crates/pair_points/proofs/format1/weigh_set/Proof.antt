@@ -95,8 +95,8 @@ returns-2 c =
     let after-cut = c .before .before in
     let again = after-cut .before .before .before .before in
     let test = again .before .before in
-    let due = test .before in
-    let cover = due .before .before in
+    let cutDue = test .before in
+    let cover = cutDue .before .before in
     let full = cover .before .before .before in
     let look = full .before in
     let m = look .before .before .before in
@@ -104,7 +104,7 @@ returns-2 c =
     λ b d v.
     let y = m .measure .ensures b _ _ (s .args .i) (m .before .before .item-end .ensures ∙ set-ends v (s .pre .0) .0) (v .at) in
     set-cut v (s .pre .0) y (look .is-looked-at .ensures) (not-false (look .is-looked-at .result) (full .if1 .left)) (cover .lesser .ensures)
-    (due .is-due .ensures) (test .if2 .taken) (again .measure-at-cut .ensures b _ _ _ (at-cut (short v (s .pre .0)) (v .at) y)) (after-cut .cut .ensures)
+    (cutDue .is-due .ensures) (test .if2 .taken) (again .measure-at-cut .ensures b _ _ _ (at-cut (short v (s .pre .0)) (v .at) y)) (after-cut .cut .ensures)
 
 add-add : tie.Need-add-add
 add-add c = omega (arith, most (c .before .before .before .before .before .before .before .before .before .before .before))
@@ -115,8 +115,8 @@ add-requires c κs = let m = c .before .before .before .before .before .before .
 returns-3 : tie.Need-returns-3
 returns-3 c =
     let test = c .before .before in
-    let due = test .before in
-    let cover = due .before .before in
+    let cutDue = test .before in
+    let cover = cutDue .before .before in
     let full = cover .before .before .before in
     let look = full .before in
     let m = look .before .before .before in
@@ -124,7 +124,7 @@ returns-3 c =
     λ b d v.
     let y = m .measure .ensures b _ _ (s .args .i) (m .before .before .item-end .ensures ∙ set-ends v (s .pre .0) .0) (v .at) in
     set-added v (s .pre .0) y (look .is-looked-at .ensures) (not-false (look .is-looked-at .result) (full .if1 .left)) (cover .lesser .ensures)
-    (due .is-due .ensures) (test .if2 .left) (c .add .ensures)
+    (cutDue .is-due .ensures) (test .if2 .left) (c .add .ensures)
 
 pub weigh-set-spec : {M : Type 1} → statement M
 weigh-set-spec =

@@ -108,15 +108,15 @@ returns c =
     let after-cut = anew .before .before .before .before in
     let again = after-cut .before .before .before .before in
     let test = again .before .before in
-    let due = test .before in
-    let held = due .before .before in
+    let cutDue = test .before in
+    let held = cutDue .before .before in
     let added = held .before .before .before .before in
     let m = added .before .before .before .before in
     let s = begin m in
     λ b d v.
     let y = m .measure .ensures b _ _ (s .args .i) (m .before .before .item-end .ensures ∙ row-ends v (s .pre .0) .0) (v .at) in
     let (h, e) = added .add .ensures _ _ (v .filled .first) (v .table .ordered) (v .held) in
-    row-cut v (s .pre .0) y h (held .beside .ensures) (due .is-due .ensures) (test .if1 .taken)
+    row-cut v (s .pre .0) y h (held .beside .ensures) (cutDue .is-due .ensures) (test .if1 .taken)
     (again .measure-at-cut .ensures b _ _ _ (at-cut (row-short v (s .pre .0)) (v .at) y)) (after-cut .cut .ensures)
     (anew .restart .ensures _ _ _ (v .filled .first) (v .table .ordered) h e)
 
