@@ -1,4 +1,5 @@
 pub mod Cases
+pub mod KnownSettings
 pub mod Pinned
 pub mod Room
 pub mod Scratch

@@ -2,7 +2,7 @@
 use Prim.Native.Nat.{ℕ}
 use mathlib.Core.Path.{_≡_, refl}
 use mathlib.Core.Bool.{Bool, true, false, not}
-use mathlib.Core.List.{List, [], _∷_}
+use mathlib.Core.List.{List, [], _∷_, map}
 use mathlib.Core.Option.{Option, some, none}
 use lib.ListN.{replicate}
 use lib.Dec.{eqb}
@@ -15,6 +15,7 @@ use Rattle.store_rules.specs.Store as Store
 use Rattle.store_rules.specs.Store.{Store}
 use Rattle.call_rules.specs.declared.Answer.the-variants.{
   Done,
+  BadEdition,
   Unsound,
   NoTable,
   BadList,
@@ -29,6 +30,8 @@ use Rattle.call_rules.specs.declared.Answer.the-variants.{
 }
 use Rattle.call_rules.specs.Answers as Answers
 use Rattle.call_rules.specs.Answers.{number, case, firstCase}
+use Rattle.call_rules.specs.Settings as Settings
+use Rattle.call_rules.specs.Settings.{settingsOf, settingsCases}
 use Rattle.call_rules.specs.Scratch as Scratch
 use Rattle.call_rules.specs.Scratch.{scratchOf, lengthsOf, lengthsShort, cleared}
 use Rattle.call_rules.specs.Needs as Needs
@@ -90,12 +93,14 @@ unfoldable pub pins : List Bool
 pins =
     -- `number`: the table of answers
     same
-    (number Done ∷ number Unsound ∷ number NoTable ∷ number BadList ∷ number BadTable ∷ number BadParts ∷ number FewGlyphs ∷ number ShortScratch
+    (number Done ∷ number BadEdition ∷ number Unsound ∷ number NoTable ∷ number BadList ∷ number BadTable ∷ number BadParts ∷ number FewGlyphs ∷ number ShortScratch
     ∷ number BadLinks ∷ number UnsortedSets ∷ number ManySubtables ∷ number NoRoom ∷ [])
-    (0 ∷ 1 ∷ 2 ∷ 9 ∷ 3 ∷ 4 ∷ 5 ∷ 6 ∷ 7 ∷ 11 ∷ 10 ∷ 8 ∷ [])
+    (0 ∷ 12 ∷ 1 ∷ 2 ∷ 9 ∷ 3 ∷ 4 ∷ 5 ∷ 6 ∷ 7 ∷ 11 ∷ 10 ∷ 8 ∷ [])
     -- `firstCase`: the first that applies
     ∷ eqb (answered (firstCase (case NoTable false ∷ case BadLinks true ∷ case NoRoom true ∷ []))) 7
     ∷ eqb (answered (firstCase (case NoTable false ∷ []))) 99
+    -- `settingsCases`: 1 and 2 are editions, and what stands beside them is none
+    ∷ same (map (λ e. answered (firstCase (settingsCases (settingsOf e)))) (0 ∷ 1 ∷ 2 ∷ 3 ∷ 65537 ∷ [])) (12 ∷ 99 ∷ 99 ∷ 12 ∷ 12 ∷ [])
     -- `scratchOf`, `lengthsOf`: each part in its place
     ∷ holds scratch (5 ∷ 6 ∷ []) (7 ∷ 7 ∷ 7 ∷ []) (8 ∷ []) (9 ∷ 9 ∷ 9 ∷ 9 ∷ []) (4 ∷ 3 ∷ 2 ∷ 1 ∷ 1 ∷ [])
     ∷ same (lengthsOf scratch .walk ∷ lengthsOf scratch .«glyph_set» ∷ lengthsOf scratch .glyphs ∷ lengthsOf scratch .classes ∷ lengthsOf scratch .cuts ∷ [])
@@ -136,5 +141,5 @@ pins =
     ∷ []
 
 pub pinned : every pins ≡ true
-unfolding Lists.computes compared.computes Store.computes Answers.computes Scratch.computes Needs.computes Outcomes.computes answered store holds zeroed leaves tooShort tooLittle pins
+unfolding Lists.computes compared.computes Store.computes Answers.computes Settings.computes Scratch.computes Needs.computes Outcomes.computes answered store holds zeroed leaves tooShort tooLittle pins
 pinned = refl

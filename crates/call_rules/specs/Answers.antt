@@ -6,6 +6,7 @@ use mathlib.Core.Option.{Option, some, none}
 use Rattle.call_rules.specs.declared.Answer.{Answer}
 use Rattle.call_rules.specs.declared.Answer.the-variants.{
   Done,
+  BadEdition,
   Unsound,
   NoTable,
   BadList,
@@ -19,9 +20,10 @@ use Rattle.call_rules.specs.declared.Answer.the-variants.{
   NoRoom,
 }
 
--- the number of each answer: document 01's, and 9 to 11 of document 02; the order in which they are asked is that of the names
+-- the number of each answer: document 01's, and 9 to 12 of document 02; the order in which they are asked is that of the names
 abbrev pub number : Answer → ℕ
 number Done = 0
+number BadEdition = 12
 number Unsound = 1
 number NoTable = 2
 number BadList = 9

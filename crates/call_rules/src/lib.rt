@@ -1,11 +1,13 @@
-// Answers, scratch, room and outcomes of calls: in specs/ as definitions, and here what these share with code.
+// Answers, settings, scratch, room and outcomes of calls: in specs/ as definitions, and here what these share with code.
 ghost use mathlib.Core.Path.{_≡_};
 ghost use Rattle.call_rules.specs.Answers.{number};
+ghost use Rattle.call_rules.specs.Settings.{known};
 
 // Every answer, those of refusals in the one order in which they are asked: a call skips what it does not have. `Done` is also asked: for another format between
 // the two clauses of `BadTable`, and where there is no cut behind `UnsortedSets`. specs/Answers.antt gives each its number.
 pub enum Answer {
     Done,
+    BadEdition,
     Unsound,
     NoTable,
     BadList,
@@ -55,6 +57,7 @@ pub fn number_of(answer: Answer) -> u32
 {
     match answer {
         Answer::Done => 0,
+        Answer::BadEdition => 12,
         Answer::Unsound => 1,
         Answer::NoTable => 2,
         Answer::BadList => 9,
@@ -67,4 +70,11 @@ pub fn number_of(answer: Answer) -> u32
         Answer::ManySubtables => 10,
         Answer::NoRoom => 8,
     }
+}
+
+// The edition is one of those that there are.
+pub fn is_known(settings: Settings) -> bool
+    ensures { λ r. ⌜ r ≡ known settings ⌝ }
+{
+    settings.edition == 1 || settings.edition == 2
 }

@@ -14,6 +14,7 @@ use Rattle.store_rules.specs.Store.{Store, perLink, sound, bytesOf}
 use Rattle.store_rules.proofs.Pinned.{linkRow, packed, storeOf, roomy}
 use Rattle.call_rules.specs.declared.Needs.{Needs}
 use Rattle.call_rules.specs.Answers.{Case}
+use Rattle.call_rules.specs.Settings.{settingsOf, firstEdition}
 use Rattle.call_rules.specs.Scratch.{Scratch}
 use Rattle.call_rules.specs.Outcomes.{Outcome}
 use Rattle.call_rules.proofs.Pinned.{fives}
@@ -155,7 +156,7 @@ scratch = fives 20 8192 2 2 2
 
 -- the answer, with no new table
 unfoldable pub answers : Store → ℕ → ℕ → ℕ → Bool
-answers s l t n = let o = lookupCall s l t scratch (0 ∷ []) in eqb (o .answer) n && eqb (o .count) 0
+answers s l t n = let o = lookupCall firstEdition s l t scratch (0 ∷ []) in eqb (o .answer) n && eqb (o .count) 0
 
 -- the list [1] with a link to a lookup of these words and links
 unfoldable pub looked : List ℕ → List ℕ → Store
@@ -191,12 +192,13 @@ answering =
     ∷ answers plain 5 5 9 ∷ answers plain 6 6 9
     ∷ answers (oneIn (4 ∷ 0 ∷ 2 ∷ 0 ∷ 0 ∷ []) (2 ∷ 0 ∷ 1 ∷ 0 ∷ []) (linkRow 5 6 5 ++ linkRow 5 8 6 ++ linkRow 6 6 0)) 5 0 0
     -- 6; 7: a set of the table leads to the lookup
-    ∷ eqb (lookupCall plain 5 0 (fives 14 8192 2 2 2) [] .answer) 0 ∷ eqb (lookupCall plain 5 0 (fives 13 8192 2 2 2) [] .answer) 6
+    ∷ eqb (lookupCall firstEdition plain 5 0 (fives 14 8192 2 2 2) [] .answer) 0 ∷ eqb (lookupCall firstEdition plain 5 0 (fives 13 8192 2 2 2) [] .answer) 6
     ∷ answers (oneIn (1 ∷ 0 ∷ []) (2 ∷ 0 ∷ 1 ∷ 0 ∷ []) (linkRow 2 4 6 ++ linkRow 5 2 6 ++ linkRow 6 6 0)) 5 0 7
     -- no cut before 8: there is no room at all
-    ∷ eqb (lookupCall (bareLookups ((1 ∷ 0 ∷ []) ∷ (2 ∷ 0 ∷ 1 ∷ 0 ∷ []) ∷ []) (linkRow 5 2 6 ++ linkRow 6 6 0)) 5 0 scratch [] .answer) 0
+    ∷ eqb (lookupCall firstEdition (bareLookups ((1 ∷ 0 ∷ []) ∷ (2 ∷ 0 ∷ 1 ∷ 0 ∷ []) ∷ []) (linkRow 5 2 6 ++ linkRow 6 6 0)) 5 0 scratch [] .answer) 0
     -- all of them, in their order
-    ∷ same (numbers (lookupCases plain 5 0 scratch [])) (1 ∷ 2 ∷ 2 ∷ 9 ∷ 1 ∷ 2 ∷ 3 ∷ 0 ∷ 3 ∷ 4 ∷ 5 ∷ 6 ∷ 7 ∷ 11 ∷ 0 ∷ 10 ∷ 8 ∷ [])
+    ∷ eqb (lookupCall (settingsOf 3) (bareLookups [] (linkRow 0 9 9)) 5 0 scratch [] .answer) 12
+    ∷ same (numbers (lookupCases firstEdition plain 5 0 scratch [])) (12 ∷ 1 ∷ 2 ∷ 2 ∷ 9 ∷ 12 ∷ 1 ∷ 2 ∷ 3 ∷ 0 ∷ 3 ∷ 4 ∷ 5 ∷ 6 ∷ 7 ∷ 11 ∷ 0 ∷ 10 ∷ 8 ∷ [])
     ∷ []
 
 -- ---- 10
@@ -231,7 +233,7 @@ unfoldable pub ends : ℕ → ℕ → List ℕ → List ℕ → Outcome → Bool
 ends n k entries slots o = eqb (o .answer) n && eqb (o .count) k && same (o .list) entries && same (shown (listSlots (o .store) 2)) slots
 
 unfoldable pub called : ℕ → ℕ → ℕ → List ℕ → Outcome
-called bytes objects links list = lookupCall (tight bytes objects links) 2 0 (fives 12 8192 1 1 1) list
+called bytes objects links list = lookupCall firstEdition (tight bytes objects links) 2 0 (fives 12 8192 1 1 1) list
 
 -- `lookupCall`, `enterCases`: the new table, two coverages and the lookup are 12 + 6 + 4 and 10 bytes; each of 8 one short
 unfoldable pub calling : List Bool

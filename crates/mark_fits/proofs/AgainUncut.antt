@@ -10,9 +10,9 @@ use Rattle.cut_rules.proofs.CutPlaces.{loAt}
 use Rattle.cut_rules.proofs.TablesUncut.{Restricts, ranges-uncut}
 use Rattle.call_rules.specs.Settings.{secondEdition}
 use Rattle.mark_rules.specs.Rules.{markRule}
-use Rattle.mark_rules.specs.Table.{classesOf, marksOfClass, ruleOf, cutsBy}
+use Rattle.mark_rules.specs.Table.{classesOf, marksOfClass, ruleOf, cutPlaces}
 use Rattle.mark_rules.specs.Written.{splitStore}
-use Rattle.mark_rules.proofs.Measured.{marksWithin, beside-marks}
+use Rattle.mark_rules.proofs.Measured.{classMarks, beside-marks}
 use Rattle.promise_marks.proofs.Ready.{Ready}
 use Rattle.promise_marks.proofs.View.{view-bases}
 use Rattle.promise_marks.proofs.SameReach.{class-same}
@@ -32,7 +32,7 @@ module _ (s : Store) (t : ℕ) (cs : List ℕ) (g : Ready s t cs) {u : ℕ} (w :
   class-marks : (i : ℕ) → lo + i < hi → marksOfClass s′ u i ≡ marksOfClass s t (lo + i)
   class-marks i l =
       let z : lo + (i + 1) ≡ lo + i + 1 = omega arith in
-      marks-same s t cs g (w .view) i (i + 1) (omega arith) ∙ ap (marksWithin s t (lo + i)) z
+      marks-same s t cs g (w .view) i (i + 1) (omega arith) ∙ ap (classMarks s t (lo + i)) z
 
   -- the table's own rule is the old table's for its range alone
   restricts : Restricts (ruleOf secondEdition s t) lo hi (ruleOf secondEdition s′ u)
@@ -56,11 +56,11 @@ module _ (s : Store) (t : ℕ) (cs : List ℕ) (g : Ready s t cs) {u : ℕ} (w :
             beside-marks secondEdition s′ u 0 i,
             beside-marks secondEdition s t lo (lo + i),
             marks-same s t cs g (w .view) 0 (i + 1) (omega arith),
-            ap₂ (marksWithin s t) y z,
+            ap₂ (classMarks s t) y z,
           )
 
 pub again-uncut : (s : Store) (t : ℕ) (cs : List ℕ) → Ready s t cs → withinBy2 s t cs ≡ true → AgainUncut s t cs
-unfolding cutsBy withinBy2 ruleOf markRule
+unfolding cutPlaces withinBy2 ruleOf markRule
 again-uncut s t cs g within u h =
     let w = resulting-table s t cs g u h in
     ranges-uncut (ruleOf secondEdition s t) (ruleOf secondEdition (splitStore s t cs) u) cs within (w .j) (w .some) (restricts s t cs g w)

@@ -8,15 +8,15 @@ use Rattle.cut_rules.proofs.FewestCuts.{fewest}
 use Rattle.cut_rules.proofs.WithinLimit.{cuts-within}
 use Rattle.call_rules.specs.Settings.{secondEdition}
 use Rattle.mark_rules.specs.Rules.{markRule}
-use Rattle.mark_rules.specs.Table.{ruleOf, cutsBy}
+use Rattle.mark_rules.specs.Table.{ruleOf, cutPlaces}
 use Rattle.mark_rules.proofs.Measured.{classes-later}
 use Rattle.mark_fits.specs.Guaranteed.{withinBy2, FewestCuts}
 
 module _ (s : Store) (t : ℕ) where
-  pub own-within : withinBy2 s t (cutsBy secondEdition s t) ≡ true
-  unfolding withinBy2 cutsBy ruleOf markRule
+  pub own-within : withinBy2 s t (cutPlaces secondEdition s t) ≡ true
+  unfolding withinBy2 cutPlaces ruleOf markRule
   own-within = cuts-within (ruleOf secondEdition s t) refl
 
   pub fewest-cuts : Fits s → FewestCuts s t
-  unfolding withinBy2 cutsBy ruleOf markRule
+  unfolding withinBy2 cutPlaces ruleOf markRule
   fewest-cuts f cs rises within = fewest (ruleOf secondEdition s t) refl (classes-later s t f secondEdition) cs rises within

@@ -22,7 +22,7 @@ use Rattle.mark_rules.specs.Rules.{markRule}
 use Rattle.mark_rules.specs.Table.{Mark, classesOf, basesIn, markArray, baseArray, marksOf, marksWithin, ruleOf}
 use Rattle.mark_rules.specs.Written.{newCoverage, splitStore}
 use Rattle.mark_rules.proofs.NewArrays.{array-long, base-long}
-use Rattle.mark_rules.proofs.Measured.{marksWithin, classesReach, classesTake, totals, beside-marks}
+use Rattle.mark_rules.proofs.Measured.{classMarks, classesReach, classesTake, totals, beside-marks}
 use Rattle.promise_marks.proofs.Ready.{Ready}
 use Rattle.promise_marks.proofs.StaysSound.{fits-then}
 use Rattle.promise_marks.proofs.SameReach.{reach-same}
@@ -52,13 +52,13 @@ module _ (s : Store) (t : ℕ) (cs : List ℕ) (g : Ready s t cs) {u : ℕ} (w :
   table-size : sizeOf s′ u ≡ tableSize
   table-size = sym (size-bytes s′ (fits-then s t cs g) u (w .reads .used)) ∙ w .view .exactly
 
-  cover-most : sizeOf s′ (linkedAt s′ u coverAt) ≤ 4 + 2 * marksWithin s t lo hi
+  cover-most : sizeOf s′ (linkedAt s′ u coverAt) ≤ 4 + 2 * classMarks s t lo hi
   unfolding newCoverage
   cover-most =
       let (c, n, e, f) = w .view .cover in
       omega (arith, linked-size coverAt c e, ap length f, cover-length (map (λ (m : Mark). m .glyph) ms) .1, length-map (λ (m : Mark). m .glyph) ms)
 
-  marks-size : sizeOf s′ (markArray s′ u) ≡ 2 + 4 * marksWithin s t lo hi
+  marks-size : sizeOf s′ (markArray s′ u) ≡ 2 + 4 * classMarks s t lo hi
   marks-size = let (c, n, e, f, h) = w .view .marks in linked-size 8 c e ∙ ap length f ∙ array-long lo ms
 
   bases-size : sizeOf s′ (baseArray s′ u) ≡ 2 + 2 * (basesIn s t * (hi - lo))
@@ -80,11 +80,11 @@ module _ (s : Store) (t : ℕ) (cs : List ℕ) (g : Ready s t cs) {u : ℕ} (w :
     unfolding withinBy2 ruleOf markRule
     range-within = range-fits (ruleOf secondEdition s t) cs limit (w .j) (w .some)
 
-    whole : 16 + sizeOf s (linkedAt s t baseCoverAt) + classesTake s t lo hi + (4 + 2 * marksWithin s t lo hi) ≤ 65535
+    whole : 16 + sizeOf s (linkedAt s t baseCoverAt) + classesTake s t lo hi + (4 + 2 * classMarks s t lo hi) ≤ 65535
     unfolding ruleOf markRule
     whole =
         let last : hi - 1 + 1 ≡ hi = omega (arith, w .view .classes) in
-        let beside = beside-marks secondEdition s t lo (hi - 1) ∙ ap (λ (n : ℕ). 4 + 2 * marksWithin s t lo n) last in
+        let beside = beside-marks secondEdition s t lo (hi - 1) ∙ ap (λ (n : ℕ). 4 + 2 * classMarks s t lo n) last in
         omega (
           arith,
           beside,

@@ -9,7 +9,7 @@ use Rattle.store_rules.specs.Store.{Store}
 use Rattle.store_rules.proofs.Pinned.{linkRow, packed, storeOf}
 use Rattle.cut_rules.specs.Measure as Measure
 use Rattle.call_rules.specs.Settings.{secondEdition}
-use Rattle.mark_rules.specs.Table.{cutsBy}
+use Rattle.mark_rules.specs.Table.{cutPlaces}
 use Rattle.mark_rules.specs.Written.{splitStore}
 use Rattle.mark_rules.specs.Computing as definitions
 use Rattle.mark_rules.proofs.Pinned.{tableOf, heads, header}
@@ -27,9 +27,9 @@ threeMarks n =
 unfoldable pub pins : List Bool
 pins =
     -- `marksTogether`: up to the limit
-    same (cutsBy secondEdition (threeMarks 45493) 0) (1 ∷ []) ∷ same (map (marksTogether (splitStore (threeMarks 45493) 0 (1 ∷ []))) (0 ∷ 8 ∷ [])) (50034 ∷ 65535 ∷ [])
+    same (cutPlaces secondEdition (threeMarks 45493) 0) (1 ∷ []) ∷ same (map (marksTogether (splitStore (threeMarks 45493) 0 (1 ∷ []))) (0 ∷ 8 ∷ [])) (50034 ∷ 65535 ∷ [])
     -- `withinBy2`: past it one cut is too few
-    ∷ same (cutsBy secondEdition (threeMarks 45494) 0) (1 ∷ 2 ∷ []) ∷ not (withinBy2 (threeMarks 45494) 0 (1 ∷ [])) ∷ withinBy2 (threeMarks 45494) 0 (1 ∷ 2 ∷ [])
+    ∷ same (cutPlaces secondEdition (threeMarks 45494) 0) (1 ∷ 2 ∷ []) ∷ not (withinBy2 (threeMarks 45494) 0 (1 ∷ [])) ∷ withinBy2 (threeMarks 45494) 0 (1 ∷ 2 ∷ [])
     ∷ []
 
 pub pinned : every pins ≡ true

@@ -20,7 +20,7 @@ use Rattle.mark_rules.specs.Written.{splitStore, newTables, perTable}
 use Rattle.mark_rules.specs.Reads.{Reads}
 use Rattle.mark_rules.proofs.Checks.{AtSlots}
 use Rattle.mark_rules.proofs.Marks.{reduce, within-reduced}
-use Rattle.mark_rules.proofs.Measured.{marksWithin}
+use Rattle.mark_rules.proofs.Measured.{classMarks}
 use Rattle.promise_marks.proofs.Ready.{Ready, new-used}
 use Rattle.promise_marks.proofs.NewBytes.{old-size}
 use Rattle.promise_marks.proofs.View.{View, view-marks}
@@ -71,7 +71,7 @@ module _ (s : Store) (t : ℕ) (cs : List ℕ) (g : Ready s t cs) where
 
   module _ {u lo hi : ℕ} (v : View s t (splitStore s t cs) u lo hi) where
     -- the marks of some of its classes are as many as they were
-    pub marks-same : (a b : ℕ) → lo + b ≤ hi → marksWithin s′ u a b ≡ marksWithin s t (lo + a) (lo + b)
+    pub marks-same : (a b : ℕ) → lo + b ≤ hi → classMarks s′ u a b ≡ classMarks s t (lo + a) (lo + b)
     marks-same a b h =
         ap (λ (ms : List Mark). length (marksWithin a b ms)) (view-marks v (g .reads))
         ∙ ap length (within-reduced lo hi a b (marksOf s t) h)

@@ -10,7 +10,7 @@ use Rattle.store_rules.specs.Store.{Store}
 use Rattle.cut_rules.specs.Measure.{withinLimit}
 use Rattle.cut_rules.specs.Places.{placesAscend}
 use Rattle.call_rules.specs.Settings.{secondEdition}
-use Rattle.mark_rules.specs.Table.{classesOf, ruleOf, cutsBy}
+use Rattle.mark_rules.specs.Table.{classesOf, ruleOf, cutPlaces}
 use Rattle.mark_rules.specs.Written.{splitStore, newTables}
 use Rattle.mark_fits.specs.Together.{marksTogether}
 
@@ -20,7 +20,7 @@ withinBy2 s t cs = withinLimit (ruleOf secondEdition s t) cs
 
 -- no list of places with fewer cuts is, of those that cut at 0 too
 abbrev pub FewestCuts : Store → ℕ → Type 0
-FewestCuts s t = (cs : List ℕ) → placesAscend 0 (classesOf s t) cs ≡ true → withinBy2 s t cs ≡ true → length (cutsBy secondEdition s t) ≤ length cs
+FewestCuts s t = (cs : List ℕ) → placesAscend 0 (classesOf s t) cs ≡ true → withinBy2 s t cs ≡ true → length (cutPlaces secondEdition s t) ≤ length cs
 
 -- this holds of each of the resulting tables, the kept one and the new ones, in the store after the split
 abbrev pub OfResulting : Store → ℕ → List ℕ → (Store → ℕ → Type 0) → Type 0
@@ -32,7 +32,7 @@ MarksFit s t cs = OfResulting s t cs (λ s′ u. 2 ≤ classesOf s′ u → mark
 
 -- splitting any of the resulting tables again adds nothing: there is no class to cut it at
 abbrev pub AgainUncut : Store → ℕ → List ℕ → Type 0
-AgainUncut s t cs = OfResulting s t cs (λ s′ u. cutsBy secondEdition s′ u ≡ [])
+AgainUncut s t cs = OfResulting s t cs (λ s′ u. cutPlaces secondEdition s′ u ≡ [])
 
 -- all of this file's definitions, for checks that compute
 unfoldable pub computes : Unit {0}

@@ -23,7 +23,7 @@ use Rattle.cut_filling.specs.Filling.{Fills, Listed, IsDue, ItemAdded, Cut, Pla
 use Rattle.cut_filling.proofs.Turns.{filled-start, goes-on, added, cuts-room, cuts-here, one-more, cut, all-placed}
 use Rattle.call_rules.specs.declared.Settings.{Settings}
 use Rattle.mark_rules.specs.Rules.{partialCover, markRule}
-use Rattle.mark_rules.specs.Table.{classesOf, basesIn, marksOfClass, ofClasses, ruleOf, cutsBy}
+use Rattle.mark_rules.specs.Table.{classesOf, basesIn, marksOfClass, ofClasses, ruleOf, cutPlaces}
 use Rattle.mark_points.specs.declared.«table_info».TableInfo.{TableInfo}
 use Rattle.mark_points.specs.declared.Columns.{Columns}
 use Rattle.mark_points.specs.Anchors.{alsoClass}
@@ -225,8 +225,8 @@ module _ {how : Settings} {s : Store} {t : ℕ} {x : TableInfo} {ps cs d : List 
 -- ---- after the last class
 
 pub columns-stop : {how : Settings} {s : Store} {t : ℕ} {x : TableInfo} {ps cs d : List ℕ} {i : ℕ} {p : Columns} {w l : List ℕ}
-    → Below how s t x ps cs d i p w l → i ≡ x .classes → Placed (cutsBy how s t) d l (p .filling .cuts)
-unfolding cutsBy
+    → Below how s t x ps cs d i p w l → i ≡ x .classes → Placed (cutPlaces how s t) d l (p .filling .cuts)
+unfolding cutPlaces
 columns-stop {how} {s} {t} v e = all-placed (ruleOf how s t) (v .filled) (e ∙ v .described .classes ∙ sym (count-is how s t))
 
 -- ---- the loop, whatever the bytes of the store and the table

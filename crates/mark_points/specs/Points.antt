@@ -14,7 +14,7 @@ use Rattle.glyph_class_parts.specs.ClassParts.{startOf, OrderedByClass}
 use Rattle.cut_rules.specs.Cuts.{Cutting, after}
 use Rattle.cut_filling.specs.Filling.{Placed, Filled}
 use Rattle.call_rules.specs.declared.Settings.{Settings}
-use Rattle.mark_rules.specs.Table.{classesOf, markArray, baseArray, basesIn, marksOfClass, allAtSlots, ofClasses, ruleOf, cutsBy}
+use Rattle.mark_rules.specs.Table.{classesOf, markArray, baseArray, basesIn, marksOfClass, allAtSlots, ofClasses, ruleOf, cutPlaces}
 use Rattle.mark_rules.specs.Reads.{Reads}
 use Rattle.mark_order.specs.Marks.{markPlaces}
 use Rattle.mark_points.specs.declared.«table_info».TableInfo.{TableInfo}
@@ -61,4 +61,4 @@ Weighs how o l c x ps cs i p w cuts p′ w′ cuts′ =
 -- all classes were weighed
 abbrev pub FindsPlaces : Settings → List ℕ → List ℕ → List ℕ → TableInfo → List ℕ → List ℕ → List ℕ → List ℕ → List ℕ → ℕ → Type 0
 FindsPlaces how o l c x ps cs w cuts cuts′ r =
-    (b : List ℕ) (t : ℕ) → PointsReady (lent b o l c) t x ps cs w cuts → Placed (cutsBy how (lent b o l c) t) cuts cuts′ r
+    (b : List ℕ) (t : ℕ) → PointsReady (lent b o l c) t x ps cs w cuts → Placed (cutPlaces how (lent b o l c) t) cuts cuts′ r

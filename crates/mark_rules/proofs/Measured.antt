@@ -29,8 +29,8 @@ use Rattle.mark_rules.proofs.Marks.{within-each}
 use Rattle.mark_rules.proofs.ClassLinks.{classes-grow}
 
 -- how many marks the classes a up to b have, b left out
-abbrev pub marksWithin : Store → ℕ → ℕ → ℕ → ℕ
-marksWithin s t a b = length (marksWithin a b (marksOf s t))
+abbrev pub classMarks : Store → ℕ → ℕ → ℕ → ℕ
+classMarks s t a b = length (marksWithin a b (marksOf s t))
 
 -- what their links reach
 abbrev pub classesReach : Store → ℕ → ℕ → ℕ → ℕ
@@ -38,7 +38,7 @@ classesReach s t a b = reachOf s (ofClasses s t a b)
 
 -- what they take in all
 abbrev pub classesTake : Store → ℕ → ℕ → ℕ → ℕ
-classesTake s t a b = 2 * basesIn s t * (b - a) + 4 * marksWithin s t a b + classesReach s t a b
+classesTake s t a b = 2 * basesIn s t * (b - a) + 4 * classMarks s t a b + classesReach s t a b
 
 -- ---- marks of classes in a row
 
@@ -75,7 +75,7 @@ module _ (ms : List Mark) where
 
 -- ---- what stands beside
 
-pub beside-marks : (how : Settings) (s : Store) (t a i : ℕ) → ruleOf how s t .beside a i ≡ 4 + 2 * marksWithin s t a (i + 1)
+pub beside-marks : (how : Settings) (s : Store) (t a i : ℕ) → ruleOf how s t .beside a i ≡ 4 + 2 * classMarks s t a (i + 1)
 unfolding ruleOf markRule partialCover
 beside-marks how s t a i = ap (λ (n : ℕ). 4 + 2 * n) (counted (marksOf s t) a (i + 1))
 

@@ -14,18 +14,14 @@ use Rattle.cut_rules.specs.Places.{Places}
 use Rattle.cut_rules.specs.Ranges.{from, to}
 use Rattle.cut_rules.proofs.CutPlaces.{places}
 use Rattle.call_rules.specs.declared.Settings.{Settings}
-use Rattle.call_rules.specs.Settings.{firstEdition}
 use Rattle.mark_rules.specs.Rules.{markRule}
-use Rattle.mark_rules.specs.Table.{Mark, classesOf, ruleOf, cutsBy, cutPlaces}
+use Rattle.mark_rules.specs.Table.{Mark, classesOf, ruleOf, cutPlaces}
 use Rattle.mark_rules.specs.Written.{newTable, newParts, newObjects, perTable, needObjects, newTables}
 
 -- the cuts ascend, each below the number of classes
-pub cuts-by : (how : Settings) (s : Store) (t : ℕ) → Places (classesOf s t) (cutsBy how s t)
-unfolding cutsBy cutsOf ruleOf markRule
-cuts-by how s t = places (ruleOf how s t) (classesOf s t)
-
-pub table-cuts : (s : Store) (t : ℕ) → Places (classesOf s t) (cutPlaces s t)
-table-cuts s t = cuts-by firstEdition s t
+pub table-cuts : (how : Settings) (s : Store) (t : ℕ) → Places (classesOf s t) (cutPlaces how s t)
+unfolding cutPlaces cutsOf ruleOf markRule
+table-cuts how s t = places (ruleOf how s t) (classesOf s t)
 
 -- the objects of new table j: itself and its own parts
 abbrev pub objectsOf : List Mark → ℕ → ℕ → List ℕ → ℕ → List (List ℕ)

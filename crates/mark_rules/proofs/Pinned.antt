@@ -16,7 +16,7 @@ use Rattle.store_rules.specs.Appended.{rowNumbers}
 use Rattle.store_rules.proofs.Pinned.{linkRow, packed, storeOf, roomy}
 use Rattle.cut_rules.specs.Cuts.{cutsOf}
 use Rattle.call_rules.specs.declared.Settings.{Settings}
-use Rattle.call_rules.specs.Settings.{firstEdition, secondEdition}
+use Rattle.call_rules.specs.Settings.{settingsOf, firstEdition, secondEdition}
 use Rattle.call_rules.specs.Scratch.{Scratch}
 use Rattle.call_rules.proofs.Pinned.{fives}
 use Rattle.mark_rules.specs.Rules.{markRule}
@@ -127,7 +127,7 @@ cuttings =
     same (cutClasses firstEdition (5 ∷ []) (65469 ∷ [])) [] ∷ same (cutClasses firstEdition (5 ∷ []) (65470 ∷ [])) (0 ∷ [])
     ∷ same (cutClasses firstEdition (5 ∷ 7 ∷ []) (40000 ∷ 25421 ∷ [])) [] ∷ same (cutClasses firstEdition (5 ∷ 7 ∷ []) (40000 ∷ 25422 ∷ [])) (1 ∷ [])
     ∷ same (cutClasses firstEdition (5 ∷ 7 ∷ 9 ∷ []) (40000 ∷ 25422 ∷ 39975 ∷ [])) (1 ∷ []) ∷ same (cutClasses firstEdition (5 ∷ 7 ∷ 9 ∷ []) (40000 ∷ 25422 ∷ 39976 ∷ [])) (1 ∷ 2 ∷ [])
-    ∷ same (cutClasses firstEdition (5 ∷ 0 ∷ 0 ∷ []) (65470 ∷ 0 ∷ 0 ∷ [])) (0 ∷ 1 ∷ []) ∷ same (cutPlaces small 0) []
+    ∷ same (cutClasses firstEdition (5 ∷ 0 ∷ 0 ∷ []) (65470 ∷ 0 ∷ 0 ∷ [])) (0 ∷ 1 ∷ []) ∷ same (cutPlaces firstEdition small 0) []
     ∷ same (cutClasses secondEdition (5 ∷ []) (65470 ∷ [])) [] ∷ same (cutClasses secondEdition (5 ∷ 0 ∷ 0 ∷ []) (65470 ∷ 0 ∷ 0 ∷ [])) (1 ∷ [])
     ∷ same (cutShared firstEdition) (1 ∷ 2 ∷ []) ∷ same (cutShared secondEdition) (1 ∷ [])
     ∷ same (ruled small) (24 ∷ 24 ∷ 20 ∷ 4 ∷ 14 ∷ 26 ∷ 8 ∷ 12 ∷ 8 ∷ []) ∷ same (ruled oneRange) (ruled small)
@@ -138,17 +138,21 @@ cuttings =
 -- split, plan and reading answer alike
 unfoldable pub refuses : Store → ℕ → ℕ → Bool
 refuses s t n =
-    eqb (markSplitCall s t enough [] .answer) n && eqb (markPlanCall s t enough [] .answer) n
+    eqb (markSplitCall firstEdition s t enough [] .answer) n && eqb (markPlanCall firstEdition s t enough [] .answer) n
     && eqb (markCall s t 10 100 .answer) n && eqb (markCall s t 10 100 .found) 0 && same (markCall s t 10 100 .anchors) (0 ∷ 0 ∷ [])
 
 -- split and plan of table 0 answer alike
 unfoldable pub splits : Store → ℕ → Scratch → Bool
-splits s n w = eqb (markSplitCall s 0 w [] .answer) n && eqb (markPlanCall s 0 w [] .answer) n
+splits s n w = eqb (markSplitCall firstEdition s 0 w [] .answer) n && eqb (markPlanCall firstEdition s 0 w [] .answer) n
 
 -- `readCases`, `cutCases`, `partsReadable`, `allAtSlots`: each refusal at its edge
 unfoldable pub refusals : List Bool
 refusals =
     refuses (linked (linkRow 0 4 2 ++ linkRow 0 2 1)) 0 1
+    -- 12 is asked before 1, and both editions ask on
+    ∷ eqb (markSplitCall (settingsOf 3) (linked (linkRow 0 4 2 ++ linkRow 0 2 1)) 0 enough [] .answer) 12
+    ∷ eqb (markPlanCall (settingsOf 0) (linked (linkRow 0 4 2 ++ linkRow 0 2 1)) 0 enough [] .answer) 12
+    ∷ eqb (markSplitCall secondEdition small 10 enough [] .answer) 2
     ∷ refuses small 10 2
     ∷ refuses (tableOf ((1 ∷ 0 ∷ 0 ∷ 4 ∷ 0 ∷ []) ∷ []) [] []) 0 3 ∷ refuses (tableOf ((1 ∷ 0 ∷ 0 ∷ 4 ∷ 0 ∷ 0 ∷ 0 ∷ []) ∷ []) [] []) 0 3
     ∷ refuses (withParts (2 ∷ 0 ∷ 0 ∷ 4 ∷ 0 ∷ 0 ∷ []) tens hundreds fourMarks twoBases (heads ++ arrayRows)) 0 0
@@ -214,7 +218,7 @@ sameAttachments s s′ us ms bs =
 -- a sound store with so many more objects and links, the attachments that were, and nothing more to cut
 unfoldable pub keepsIn : Store → Store → ℕ → ℕ → List ℕ → Bool
 keepsIn s s′ objects links us =
-    sound s′ && isEmpty (cutPlaces s′ 0) && eqb (s′ .objectCount) (s .objectCount + objects) && eqb (s′ .linkCount) (s .linkCount + links)
+    sound s′ && isEmpty (cutPlaces firstEdition s′ 0) && eqb (s′ .objectCount) (s .objectCount + objects) && eqb (s′ .linkCount) (s .linkCount + links)
     && sameAttachments s s′ us (10 ∷ 20 ∷ 30 ∷ 40 ∷ 50 ∷ 60 ∷ []) (100 ∷ 101 ∷ 102 ∷ [])
 
 unfoldable pub keeps : Store → List ℕ → ℕ → ℕ → Bool

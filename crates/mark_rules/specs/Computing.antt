@@ -11,6 +11,7 @@ use Rattle.store_rules.specs.Header as Header
 use Rattle.store_rules.specs.SlotLinks as SlotLinks
 use Rattle.cut_rules.specs.Cuts as Cuts
 use Rattle.call_rules.specs.Answers as Answers
+use Rattle.call_rules.specs.Settings as Settings
 use Rattle.call_rules.specs.Scratch as Scratch
 use Rattle.call_rules.specs.Needs as Needs
 use Rattle.call_rules.specs.Outcomes as Outcomes
@@ -21,5 +22,5 @@ use Rattle.mark_rules.specs.Attachments as Attachments
 use Rattle.mark_rules.specs.Calls as Calls
 
 unfoldable pub computes : Unit {0}
-unfolding Folds.computes Lists.computes Numbers.computes Coverage.computes MarkBasePos.computes Store.computes Reach.computes Appended.computes Header.computes SlotLinks.computes Cuts.computes Answers.computes Scratch.computes Needs.computes Outcomes.computes Rules.computes Table.computes Written.computes Attachments.computes Calls.computes
+unfolding Folds.computes Lists.computes Numbers.computes Coverage.computes MarkBasePos.computes Store.computes Reach.computes Appended.computes Header.computes SlotLinks.computes Cuts.computes Answers.computes Settings.computes Scratch.computes Needs.computes Outcomes.computes Rules.computes Table.computes Written.computes Attachments.computes Calls.computes
 computes = tt

@@ -31,7 +31,6 @@ use Rattle.store_rules.specs.Store.{Store, Link, bytesOf, sizeOf, childAt, link
 use Rattle.store_rules.specs.Reach.{itemSize}
 use Rattle.cut_rules.specs.Cuts.{Rule, cutsOf}
 use Rattle.call_rules.specs.declared.Settings.{Settings}
-use Rattle.call_rules.specs.Settings.{firstEdition}
 use Rattle.mark_rules.specs.Rules.{markRule}
 
 -- ---- its parts; only asked where check 4 has seen the links
@@ -128,15 +127,11 @@ ofClasses s t lo hi l =
 unfoldable pub ruleOf : Settings → Store → ℕ → Rule
 ruleOf how s t = markRule how (classesOf s t) (sizeOf s (linkedAt s t baseCoverAt)) (basesIn s t) (marksOfClass s t) (itemSize s (ofClasses s t))
 
--- the classes at which table t is cut
-unfoldable pub cutsBy : Settings → Store → ℕ → List ℕ
-cutsBy how s t = cutsOf (ruleOf how s t)
-
--- by the first edition, which every call has yet
-abbrev pub cutPlaces : Store → ℕ → List ℕ
-cutPlaces s t = cutsBy firstEdition s t
+-- the classes at which table t is cut by these settings
+unfoldable pub cutPlaces : Settings → Store → ℕ → List ℕ
+cutPlaces how s t = cutsOf (ruleOf how s t)
 
 -- all of this file's definitions, for checks that compute
 unfoldable pub computes : Unit {0}
-unfolding partsReadable markAnchor markAt marksOf marksWithin baseAnchor allAtSlots ofClasses ruleOf cutsBy
+unfolding partsReadable markAnchor markAt marksOf marksWithin baseAnchor allAtSlots ofClasses ruleOf cutPlaces
 computes = tt

@@ -21,7 +21,7 @@ use Rattle.cut_rules.specs.Ranges.{from}
 use Rattle.cut_rules.proofs.FirstCut.{none-before, cuts-none}
 use Rattle.call_rules.specs.declared.Settings.{Settings}
 use Rattle.pair_rules.specs.Rules.{partialCover, rule1, rule2}
-use Rattle.pair_rules.specs.Table.{shape, entriesOf, ofItems, ruleOf, cutsBy}
+use Rattle.pair_rules.specs.Table.{shape, entriesOf, ofItems, ruleOf, cutPlaces}
 use Rattle.pair_rules.specs.Written.{splitStore}
 use Rattle.pair_rules.proofs.Checks.{entries-ascend}
 use Rattle.pair_rules.proofs.TableCuts.{rule-count}
@@ -36,7 +36,7 @@ unfolding partialCover
 partial-same f g i h =
     ap (λ (n : ℕ). 4 + 2 * n) (sum-same (λ k. cond (leb 0 k && f k) 1 0) (λ k. cond (leb 0 k && g k) 1 0) (i + 1) (λ k l. ap (λ (b : Bool). cond (leb 0 k && b) 1 0) (h k (omega arith))))
 
-module _ (how : Settings) (s : Store) (t : ℕ) (cs : List ℕ) (g : Ready s t cs) (is-cut : cs ≡ cutsBy how s t) where
+module _ (how : Settings) (s : Store) (t : ℕ) (cs : List ℕ) (g : Ready s t cs) (is-cut : cs ≡ cutPlaces how s t) where
   abbrev s′ : Store
   s′ = splitStore s t cs
 
@@ -53,7 +53,7 @@ module _ (how : Settings) (s : Store) (t : ℕ) (cs : List ℕ) (g : Ready s t c
   count-then = ap (λ (sh : Shape). sh .count) (view-shape view) ∙ omega arith
 
   uncut-old : (k : ℕ) → k ≤ p0 → after (ruleOf how s t) k .cuts ≡ []
-  unfolding cutsBy
+  unfolding cutPlaces
   uncut-old k h = none-before (ruleOf how s t) k (omega (arith, first-cut s t cs g, rule-count how s t)) (subst (λ (x : List ℕ). k ≤ from x 0) is-cut h)
 
   -- ---- format 1
@@ -115,6 +115,6 @@ module _ (how : Settings) (s : Store) (t : ℕ) (cs : List ℕ) (g : Ready s t c
       omega arith)
       count-then
 
-  pub kept-uncut : cutsBy how s′ t ≡ []
-  unfolding cutsBy
+  pub kept-uncut : cutPlaces how s′ t ≡ []
+  unfolding cutPlaces
   kept-uncut = by-test (eqb (shape s t .format) 1) uncut-one uncut-two

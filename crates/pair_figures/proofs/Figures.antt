@@ -21,7 +21,7 @@ use Rattle.call_rules.specs.Settings.{firstEdition, secondEdition}
 use Rattle.call_rules.specs.Scratch.{Scratch}
 use Rattle.call_rules.specs.Outcomes.{Outcome}
 use Rattle.pair_rules.specs.Rules.{bareRule}
-use Rattle.pair_rules.specs.Table.{cutsBy}
+use Rattle.pair_rules.specs.Table.{cutPlaces}
 use Rattle.pair_rules.specs.Calls.{splitCall, planCall}
 use Rattle.pair_rules.specs.Computing as definitions
 
@@ -111,13 +111,13 @@ whole s o = eqb (o .answer) 0 && eqb (o .count) 0 && same (o .list) (9 ∷ 9 ∷
 
 -- plan and split of table 0
 unfoldable pub planned : List ℕ → Store → Bool
-planned cs s = plans cs (planCall s 0 scratch (9 ∷ 9 ∷ []))
+planned cs s = plans cs (planCall firstEdition s 0 scratch (9 ∷ 9 ∷ []))
 
 unfoldable pub splitInto : ℕ → ℕ → ℕ → Store → Bool
-splitInto bytes kept new s = splits bytes kept new s (splitCall s 0 scratch (9 ∷ 9 ∷ []))
+splitInto bytes kept new s = splits bytes kept new s (splitCall firstEdition s 0 scratch (9 ∷ 9 ∷ []))
 
 unfoldable pub keptWhole : Store → Bool
-keptWhole s = whole s (splitCall s 0 scratch (9 ∷ 9 ∷ []))
+keptWhole s = whole s (splitCall firstEdition s 0 scratch (9 ∷ 9 ∷ []))
 
 -- W1 to W12, and in edition 2 "W10 then gives cuts 1 and 2, and W9 none"; W8's set has an odd length, as no pair set has, and is one of the rule over sizes
 unfoldable pub figures : List Bool
@@ -134,8 +134,8 @@ figures =
     ∷ (planned (1 ∷ []) store10 && splitInto 28 12 14 store10)
     ∷ (planned [] store11 && keptWhole store11)
     ∷ (planned (162 ∷ []) store12 && splitInto 3584 64816 3216 store12)
-    ∷ same (cutsBy secondEdition store10 0) (1 ∷ 2 ∷ [])
-    ∷ same (cutsBy secondEdition store9 0) []
+    ∷ same (cutPlaces secondEdition store10 0) (1 ∷ 2 ∷ [])
+    ∷ same (cutPlaces secondEdition store9 0) []
     ∷ []
 
 pub figures-hold : every figures ≡ true

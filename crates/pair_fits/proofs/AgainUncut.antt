@@ -8,7 +8,7 @@ use Rattle.store_rules.specs.Store.{Store}
 use Rattle.cut_rules.proofs.CutPlaces.{loAt}
 use Rattle.cut_rules.proofs.TablesUncut.{Restricts, ranges-uncut}
 use Rattle.call_rules.specs.Settings.{secondEdition}
-use Rattle.pair_rules.specs.Table.{ruleOf, cutsBy}
+use Rattle.pair_rules.specs.Table.{ruleOf, cutPlaces}
 use Rattle.pair_rules.specs.Written.{splitStore}
 use Rattle.pair_rules.proofs.TableCuts.{rule-count}
 use Rattle.pair_after.proofs.Ready.{Ready}
@@ -17,7 +17,7 @@ use Rattle.pair_fits.specs.Guaranteed.{withinBy2, AgainUncut}
 use Rattle.pair_fits.proofs.PartRule.{restricts}
 
 pub again-uncut : (s : Store) (t : ℕ) (cs : List ℕ) → Ready s t cs → withinBy2 s t cs ≡ true → AgainUncut s t cs
-unfolding cutsBy withinBy2
+unfolding cutPlaces withinBy2
 again-uncut s t cs g within u h =
     let w = resulting-table s t cs g u h in
     let old = ruleOf secondEdition s t in

@@ -11,7 +11,7 @@ use Rattle.store_rules.specs.Store.{Store}
 use Rattle.store_rules.proofs.Pinned.{linkRow, packed}
 use Rattle.cut_rules.specs.Measure as Measure
 use Rattle.call_rules.specs.Settings.{secondEdition}
-use Rattle.pair_rules.specs.Table.{cutsBy}
+use Rattle.pair_rules.specs.Table.{cutPlaces}
 use Rattle.pair_rules.specs.Written.{splitStore}
 use Rattle.pair_rules.specs.Computing as definitions
 use Rattle.pair_fits.specs.Together as Together
@@ -59,14 +59,14 @@ takes together s cs us = map (together (splitStore s 0 cs)) us
 unfoldable pub pins : List Bool
 pins =
     -- W10 is cut at 1 and 2; at 1 alone the new table "really reaches 90,000 bytes and more"
-    same (cutsBy secondEdition store10 0) (1 ∷ 2 ∷ []) ∷ same (takes setsTogether store10 (1 ∷ 2 ∷ []) (0 ∷ 6 ∷ 8 ∷ [])) (40118 ∷ 70018 ∷ 20018 ∷ [])
+    same (cutPlaces secondEdition store10 0) (1 ∷ 2 ∷ []) ∷ same (takes setsTogether store10 (1 ∷ 2 ∷ []) (0 ∷ 6 ∷ 8 ∷ [])) (40118 ∷ 70018 ∷ 20018 ∷ [])
     ∷ same (takes setsTogether store10 (1 ∷ []) (0 ∷ 6 ∷ [])) (40118 ∷ 90022 ∷ [])
     -- `withinBy2`: no fewer cuts would do
     ∷ withinBy2 store10 0 (1 ∷ 2 ∷ []) ∷ not (withinBy2 store10 0 (1 ∷ [])) ∷ not (withinBy2 store10 0 (2 ∷ [])) ∷ not (withinBy2 store10 0 [])
     -- `setsTogether`: up to the limit, what two sets reach once
-    ∷ same (cutsBy secondEdition atLimit 0) (1 ∷ []) ∷ same (takes setsTogether atLimit (1 ∷ []) (0 ∷ 6 ∷ [])) (40018 ∷ 65535 ∷ [])
+    ∷ same (cutPlaces secondEdition atLimit 0) (1 ∷ []) ∷ same (takes setsTogether atLimit (1 ∷ []) (0 ∷ 6 ∷ [])) (40018 ∷ 65535 ∷ [])
     -- `rowsTogether`: coverage and class definitions of 10, 10 and 4 bytes, of 6, 4 and 4
-    ∷ same (cutsBy secondEdition threeRows 0) (2 ∷ []) ∷ same (takes rowsTogether threeRows (2 ∷ []) (0 ∷ 6 ∷ [])) (65528 ∷ 32 ∷ [])
+    ∷ same (cutPlaces secondEdition threeRows 0) (2 ∷ []) ∷ same (takes rowsTogether threeRows (2 ∷ []) (0 ∷ 6 ∷ [])) (65528 ∷ 32 ∷ [])
     ∷ []
 
 pub pinned : every pins ≡ true

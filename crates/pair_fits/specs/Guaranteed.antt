@@ -9,7 +9,7 @@ use Rattle.store_rules.specs.Store.{Store}
 use Rattle.cut_rules.specs.Measure.{withinLimit}
 use Rattle.cut_rules.specs.Places.{placesAscend}
 use Rattle.call_rules.specs.Settings.{secondEdition}
-use Rattle.pair_rules.specs.Table.{shape, ruleOf, cutsBy}
+use Rattle.pair_rules.specs.Table.{shape, ruleOf, cutPlaces}
 use Rattle.pair_rules.specs.Written.{splitStore, newTables}
 use Rattle.pair_fits.specs.Together.{setsTogether, rowsTogether}
 
@@ -19,7 +19,7 @@ withinBy2 s t cs = withinLimit (ruleOf secondEdition s t) cs
 
 -- "No choice of fewer cuts has that property by edition 2's estimate.": of all lists of places, those that cut at 0 too
 abbrev pub FewestCuts : Store → ℕ → Type 0
-FewestCuts s t = (cs : List ℕ) → placesAscend 0 (shape s t .count) cs ≡ true → withinBy2 s t cs ≡ true → length (cutsBy secondEdition s t) ≤ length cs
+FewestCuts s t = (cs : List ℕ) → placesAscend 0 (shape s t .count) cs ≡ true → withinBy2 s t cs ≡ true → length (cutPlaces secondEdition s t) ≤ length cs
 
 -- this holds of each of the resulting tables, the kept one and the new ones, in the store after the split
 abbrev pub OfResulting : Store → ℕ → List ℕ → (Store → ℕ → Type 0) → Type 0
@@ -35,7 +35,7 @@ RowsFit s t cs = OfResulting s t cs (λ s′ u. 2 ≤ shape s′ u .count → ro
 
 -- "in both PairPos formats, splitting any of the resulting tables again, scratch being enough, adds nothing": there is no place to cut it at
 abbrev pub AgainUncut : Store → ℕ → List ℕ → Type 0
-AgainUncut s t cs = OfResulting s t cs (λ s′ u. cutsBy secondEdition s′ u ≡ [])
+AgainUncut s t cs = OfResulting s t cs (λ s′ u. cutPlaces secondEdition s′ u ≡ [])
 
 -- all of this file's definitions, for checks that compute
 unfoldable pub computes : Unit {0}

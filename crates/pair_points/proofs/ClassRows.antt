@@ -19,7 +19,7 @@ use Rattle.call_rules.specs.declared.Settings.{Settings}
 use Rattle.glyph_rules.specs.Entries.{within}
 use Rattle.glyph_rules.specs.Estimates.{estimate, coverSize, classSize, besideRows}
 use Rattle.pair_rules.specs.Rules.{rule2}
-use Rattle.pair_rules.specs.Table.{shape, entriesOf, ruleOf, ofItems, cutsBy}
+use Rattle.pair_rules.specs.Table.{shape, entriesOf, ruleOf, ofItems, cutPlaces}
 use Rattle.pair_rules.proofs.TableCuts.{rule-edition}
 use Rattle.store_rules.proofs.Sound.{Fits, sound-fits, size-most}
 use Rattle.store_rules.proofs.Lookups.{linked-used}
@@ -159,7 +159,7 @@ module _ {how : Settings} {s : Store} {x : TableInfo} {gs cs d : List ℕ} {i : 
         record { table = v .table; filled = f; at = a; held = subst (λ (n : ℕ). Holds (entriesOf s (x .table)) gs n (i + 1) k′ set″) (sym q) h′ }
 
 module _ {how : Settings} {s : Store} {x : TableInfo} {gs cs d : List ℕ} {i : ℕ} {p : Rows} {w set l : List ℕ} (v : Below2 how s x gs cs d i p w set l) (e : i ≡ x .count) where
-  pub rows-stop : Placed (cutsBy how s (x .table)) d l (p .filling .cuts)
+  pub rows-stop : Placed (cutPlaces how s (x .table)) d l (p .filling .cuts)
   rows-stop = filled-stop (v .table .described) e (p .filling) how (v .filled)
 
   pub rows-back : TellsCycle s (x .table) w

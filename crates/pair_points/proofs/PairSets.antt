@@ -23,7 +23,7 @@ use Rattle.cut_rules.specs.Cuts.{Rule, second, costAtCut, looked, cutDue, after
 use Rattle.cut_rules.proofs.Turns.{looksAt, costNow}
 use Rattle.call_rules.specs.declared.Settings.{Settings}
 use Rattle.pair_rules.specs.Rules.{partialCover, rule1}
-use Rattle.pair_rules.specs.Table.{shape, allAtSlots, ruleOf, ofItems, cutsBy}
+use Rattle.pair_rules.specs.Table.{shape, allAtSlots, ruleOf, ofItems, cutPlaces}
 use Rattle.pair_rules.proofs.Checks.{at-slot}
 use Rattle.pair_rules.proofs.TableCuts.{rule-edition}
 use Rattle.store_rules.proofs.Lookups.{child-row}
@@ -217,7 +217,7 @@ module _ {how : Settings} {s : Store} {x : TableInfo} {d : List ℕ} {i : ℕ} {
           record { table = v .table; filled = f; at = a; coverage = rw q (omega (arith, covered-none looksIn i, covered-more looksIn i i (omega arith) (looks-in ∙ taken))) }
 
 module _ {how : Settings} {s : Store} {x : TableInfo} {d : List ℕ} {i : ℕ} {p : Sets} {w l : List ℕ} (v : Below1 how s x d i p w l) (e : i ≡ x .count) where
-  pub sets-stop : Placed (cutsBy how s (x .table)) d l (p .filling .cuts)
+  pub sets-stop : Placed (cutPlaces how s (x .table)) d l (p .filling .cuts)
   sets-stop = filled-stop (v .table .described) e (p .filling) how (v .filled)
 
   pub sets-back : TellsCycle s (x .table) w

@@ -12,7 +12,7 @@ use Rattle.store_rules.specs.Store.{Store, linkAt, parentOf, bytesOf, sizeOf, o
 use Rattle.cut_rules.specs.Cuts.{Rule, Cutting, costAtCut, seenFrom, cutDue, cutHere, goOn, after}
 use Rattle.cut_rules.proofs.Turns.{looksAt, costNow}
 use Rattle.call_rules.specs.declared.Settings.{Settings}
-use Rattle.pair_rules.specs.Table.{shape, ruleOf, cutsBy}
+use Rattle.pair_rules.specs.Table.{shape, ruleOf, cutPlaces}
 use Rattle.store_rules.proofs.Sound.{Fits, sound-fits, size-bytes}
 use Rattle.pair_rules.proofs.TableCuts.{rule-count, rule-edition}
 use Rattle.store_reader.specs.Rows.{keyOf, FirstRow}
@@ -122,8 +122,8 @@ module _ (how : Settings) (s : Store) (x : TableInfo) {d : List ℕ} {i : ℕ} {
 -- ---- after the last item
 
 module _ {s : Store} {x : TableInfo} {i : ℕ} (u : Described s x) (e : i ≡ x .count) (f : Filling) where
-  pub filled-stop : (how : Settings) {d l : List ℕ} → Filled (ruleOf how s (x .table)) d i f l → Placed (cutsBy how s (x .table)) d l (f .cuts)
-  unfolding cutsBy
+  pub filled-stop : (how : Settings) {d l : List ℕ} → Filled (ruleOf how s (x .table)) d i f l → Placed (cutPlaces how s (x .table)) d l (f .cuts)
+  unfolding cutPlaces
   filled-stop how v = Filling.all-placed (ruleOf how s (x .table)) v (e ∙ all-items u how)
 
   -- all of the table's rows have been walked

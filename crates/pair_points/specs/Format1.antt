@@ -10,7 +10,7 @@ use Rattle.ot_layouts.specs.PairPos.{itemAt}
 use Rattle.store_rules.specs.Store.{Store, lent, sizeOf, childAt, linkedAt}
 use Rattle.cut_rules.specs.Cuts.{looked}
 use Rattle.call_rules.specs.declared.Settings.{Settings}
-use Rattle.pair_rules.specs.Table.{shape, allAtSlots, ruleOf, cutsBy}
+use Rattle.pair_rules.specs.Table.{shape, allAtSlots, ruleOf, cutPlaces}
 use Rattle.pair_points.specs.declared.«table_info».TableInfo.{TableInfo}
 use Rattle.pair_points.specs.declared.format1.Sets.{Sets}
 use Rattle.cut_filling.specs.Filling.{Filled, Placed}
@@ -46,7 +46,7 @@ Weighs1 how o l c x i p w cuts p′ w′ cuts′ =
 
 -- all were
 abbrev pub Places1 : Settings → List ℕ → List ℕ → List ℕ → TableInfo → List ℕ → List ℕ → List ℕ → ℕ → Type 0
-Places1 how o l c x w cuts cuts′ r = (b : List ℕ) → Ready1 (lent b o l c) x w cuts → Placed (cutsBy how (lent b o l c) (x .table)) cuts cuts′ r
+Places1 how o l c x w cuts cuts′ r = (b : List ℕ) → Ready1 (lent b o l c) x w cuts → Placed (cutPlaces how (lent b o l c) (x .table)) cuts cuts′ r
 
 -- and then the walk tells of a cycle
 abbrev pub Tells1 : List ℕ → List ℕ → List ℕ → TableInfo → List ℕ → List ℕ → List ℕ → Type 0

@@ -7,7 +7,7 @@ use lib.Dec.{eqb}
 use lib.ListN.{length}
 use Rattle.store_rules.specs.Store.{Store, lent, sizeOf, linkedAt}
 use Rattle.call_rules.specs.declared.Settings.{Settings}
-use Rattle.pair_rules.specs.Table.{shape, entriesOf, ruleOf, cutsBy}
+use Rattle.pair_rules.specs.Table.{shape, entriesOf, ruleOf, cutPlaces}
 use Rattle.glyph_set.specs.GlyphSet.{Empty}
 use Rattle.pair_points.specs.declared.«table_info».TableInfo.{TableInfo}
 use Rattle.pair_points.specs.declared.format2.Rows.{Rows}
@@ -44,7 +44,7 @@ Weighs2 how o l c x gs cs i p w set cuts p′ w′ set′ cuts′ =
 
 -- all were
 abbrev pub Places2 : Settings → List ℕ → List ℕ → List ℕ → TableInfo → List ℕ → List ℕ → List ℕ → List ℕ → List ℕ → List ℕ → ℕ → Type 0
-Places2 how o l c x gs cs w set cuts cuts′ r = (b : List ℕ) → Ready2 (lent b o l c) x gs cs w set cuts → Placed (cutsBy how (lent b o l c) (x .table)) cuts cuts′ r
+Places2 how o l c x gs cs w set cuts cuts′ r = (b : List ℕ) → Ready2 (lent b o l c) x gs cs w set cuts → Placed (cutPlaces how (lent b o l c) (x .table)) cuts cuts′ r
 
 -- and then the walk tells of a cycle
 abbrev pub Tells2 : List ℕ → List ℕ → List ℕ → TableInfo → List ℕ → List ℕ → List ℕ → List ℕ → List ℕ → List ℕ → Type 0

@@ -18,7 +18,7 @@ use Rattle.store_rules.specs.Appended.{rowNumbers}
 use Rattle.store_rules.proofs.Pinned.{linkRow, packed, storeOf, roomy}
 use Rattle.cut_rules.specs.Cuts.{cutsOf}
 use Rattle.call_rules.specs.declared.Settings.{Settings}
-use Rattle.call_rules.specs.Settings.{firstEdition}
+use Rattle.call_rules.specs.Settings.{settingsOf, firstEdition, secondEdition}
 use Rattle.call_rules.specs.Scratch.{Scratch}
 use Rattle.call_rules.specs.Outcomes.{Outcome}
 use Rattle.call_rules.proofs.Pinned.{fives}
@@ -219,26 +219,30 @@ cuttings =
     ∷ same (cutRows firstEdition (40000 ∷ 30000 ∷ 35499 ∷ [])) (1 ∷ []) ∷ same (cutRows firstEdition (40000 ∷ 30000 ∷ 35500 ∷ [])) (1 ∷ 2 ∷ [])
     -- nor are the glyphs of a later row estimated
     ∷ same (cutRows firstEdition (65501 ∷ 1 ∷ [])) (1 ∷ [])
-    ∷ same (cutPlaces (sharing []) 0) (1 ∷ []) ∷ same (cutPlaces (sharing (linkRow 4 4 5)) 0) (1 ∷ 2 ∷ [])
-    ∷ same (cutPlaces (fiveSets 25505) 0) [] ∷ same (cutPlaces (fiveSets 25506) 0) (4 ∷ [])
-    ∷ same (cutPlaces (twoSets 25513) 0) [] ∷ same (cutPlaces (twoSets 25514) 0) (2 ∷ [])
-    ∷ same (cutPlaces (threeRows 35481 []) 0) [] ∷ same (cutPlaces (threeRows 35482 []) 0) (2 ∷ []) ∷ same (cutPlaces (threeRows 35481 (linkRow 0 30 4)) 0) []
+    ∷ same (cutPlaces firstEdition (sharing []) 0) (1 ∷ []) ∷ same (cutPlaces firstEdition (sharing (linkRow 4 4 5)) 0) (1 ∷ 2 ∷ [])
+    ∷ same (cutPlaces firstEdition (fiveSets 25505) 0) [] ∷ same (cutPlaces firstEdition (fiveSets 25506) 0) (4 ∷ [])
+    ∷ same (cutPlaces firstEdition (twoSets 25513) 0) [] ∷ same (cutPlaces firstEdition (twoSets 25514) 0) (2 ∷ [])
+    ∷ same (cutPlaces firstEdition (threeRows 35481 []) 0) [] ∷ same (cutPlaces firstEdition (threeRows 35482 []) 0) (2 ∷ []) ∷ same (cutPlaces firstEdition (threeRows 35481 (linkRow 0 30 4)) 0) []
     ∷ []
 
 -- ---- answers
 
 -- split, plan and reading answer alike
 unfoldable pub refuses : Store → ℕ → ℕ → Bool
-refuses s t n = eqb (splitCall s t enough [] .answer) n && eqb (planCall s t enough [] .answer) n && reads s t 10 5 n nothing
+refuses s t n = eqb (splitCall firstEdition s t enough [] .answer) n && eqb (planCall firstEdition s t enough [] .answer) n && reads s t 10 5 n nothing
 
 -- split and plan of table 0 answer alike
 unfoldable pub splits : Store → ℕ → Scratch → Bool
-splits s n w = eqb (splitCall s 0 w [] .answer) n && eqb (planCall s 0 w [] .answer) n
+splits s n w = eqb (splitCall firstEdition s 0 w [] .answer) n && eqb (planCall firstEdition s 0 w [] .answer) n
 
 -- `readCases`, `cutCases`, `partsReadable`, `allAtSlots`: each refusal at its edge
 unfoldable pub refusals : List Bool
 refusals =
     refuses (under1 tens (linkRow 0 10 2 ++ linkRow 0 2 1)) 0 1
+    -- 12 is asked before 1, and both editions ask on
+    ∷ eqb (splitCall (settingsOf 3) (under1 tens (linkRow 0 10 2 ++ linkRow 0 2 1)) 0 enough [] .answer) 12
+    ∷ eqb (planCall (settingsOf 0) (under1 tens (linkRow 0 10 2 ++ linkRow 0 2 1)) 0 enough [] .answer) 12
+    ∷ eqb (splitCall secondEdition store1 5 enough [] .answer) 2
     ∷ refuses store1 5 2
     ∷ refuses store1 1 3 ∷ refuses (rows2 2 fifties heads2) 0 3 ∷ refuses (rows2 4 fifties heads2) 0 3
     ∷ refuses store1 4 0 ∷ refuses (storeOf (words (0 ∷ [])) (2 ∷ []) []) 0 0
@@ -318,7 +322,7 @@ having s (u ∷ us) a b = cond (pairOf s u a b .found) 1 0 + having s us a b
 -- table 0 of s, split at cs into the tables us of s′: a sound store with so many more objects and links, and each pair in as many tables as before, read as before
 unfoldable pub keepsIn : Store → Store → ℕ → ℕ → List ℕ → List ℕ → List ℕ → Bool
 keepsIn s s′ objects links us gs hs =
-    sound s′ && isEmpty (cutPlaces s′ 0) && eqb (s′ .objectCount) (s .objectCount + objects) && eqb (s′ .linkCount) (s .linkCount + links)
+    sound s′ && isEmpty (cutPlaces firstEdition s′ 0) && eqb (s′ .objectCount) (s .objectCount + objects) && eqb (s′ .linkCount) (s .linkCount + links)
     && all (λ i. all (λ j. samePair (pairOf s 0 (getD gs i 0) (getD hs j 0)) (pairAmong s′ us (getD gs i 0) (getD hs j 0))
     && eqb (having s (0 ∷ []) (getD gs i 0) (getD hs j 0)) (having s′ us (getD gs i 0) (getD hs j 0))) (length hs)) (length gs)
 
@@ -372,10 +376,10 @@ splittings =
     ∷ same (newTables store2 0 (1 ∷ 2 ∷ [])) (5 ∷ 8 ∷ [])
     ∷ same (rowNumbers (newLinks store2 0 (shapeOf (bytesOf store2 0)) (1 ∷ [])))
     (linkRow 0 2 8 ++ linkRow 0 8 9 ++ linkRow 0 10 3 ++ linkRow 5 2 6 ++ linkRow 5 8 7 ++ linkRow 5 10 3 ++ linkRow 5 22 4 ++ linkRow 5 30 4)
-    ∷ splitsAt0 (splitCall (store9 22 3 1) 0 enough (8 ∷ 9 ∷ []))
-    ∷ eqb (splitCall (store9 21 3 1) 0 enough (9 ∷ []) .answer) 8 ∷ eqb (splitCall (store9 22 2 1) 0 enough (9 ∷ []) .answer) 8
-    ∷ eqb (splitCall (store9 22 3 0) 0 enough (9 ∷ []) .answer) 8 ∷ eqb (splitCall (store9 22 3 1) 0 enough [] .answer) 8
-    ∷ same (planCall (store9 0 0 0) 0 enough (8 ∷ 9 ∷ []) .list) (0 ∷ 9 ∷ []) ∷ eqb (planCall (store9 22 3 1) 0 enough [] .answer) 8
+    ∷ splitsAt0 (splitCall firstEdition (store9 22 3 1) 0 enough (8 ∷ 9 ∷ []))
+    ∷ eqb (splitCall firstEdition (store9 21 3 1) 0 enough (9 ∷ []) .answer) 8 ∷ eqb (splitCall firstEdition (store9 22 2 1) 0 enough (9 ∷ []) .answer) 8
+    ∷ eqb (splitCall firstEdition (store9 22 3 0) 0 enough (9 ∷ []) .answer) 8 ∷ eqb (splitCall firstEdition (store9 22 3 1) 0 enough [] .answer) 8
+    ∷ same (planCall firstEdition (store9 0 0 0) 0 enough (8 ∷ 9 ∷ []) .list) (0 ∷ 9 ∷ []) ∷ eqb (planCall firstEdition (store9 22 3 1) 0 enough [] .answer) 8
     ∷ []
 
 pub pinned : every (readings ++ cuttings ++ refusals ++ orders ++ tables ++ splittings ++ inOrder) ≡ true

@@ -24,9 +24,8 @@ use Rattle.store_rules.proofs.Ways.{Way}
 use Rattle.store_rules.proofs.SameReach.{Seed, SameWays, RowsBehind, behind-goes, behind-went, marks-same, reach-size-same}
 use Rattle.cut_rules.specs.Cuts.{Rule, cutsOf}
 use Rattle.call_rules.specs.declared.Settings.{Settings}
-use Rattle.call_rules.specs.Settings.{firstEdition}
 use Rattle.pair_rules.specs.Rules.{rule1, rule2}
-use Rattle.pair_rules.specs.Table.{shape, entriesOf, allAtSlots, ofItems, ruleOf, cutsBy, cutPlaces}
+use Rattle.pair_rules.specs.Table.{shape, entriesOf, allAtSlots, ofItems, ruleOf, cutPlaces}
 use Rattle.pair_rules.proofs.Checks.{all-at-slots, at-slot}
 
 -- y has the objects and rows of x, and leads from t, and from what t reaches, as x does
@@ -150,9 +149,6 @@ module _ {x y : Store} {t : ℕ} (e : Extends x y t) where
   rule-same how =
       λ d. ruleBy how (e .bytes t (e .used) d) (λ i. full-same i d) (λ a i. cost-same a i d) (entries-same d) (linked-size coverAt d) (linked-size class2At d)
 
-  pub cuts-by-same : (how : Settings) → cutsBy how y t ≡ cutsBy how x t
-  unfolding cutsBy
-  cuts-by-same how = ap cutsOf (rule-same how)
-
-  pub cuts-same : cutPlaces y t ≡ cutPlaces x t
-  cuts-same = cuts-by-same firstEdition
+  pub cuts-same : (how : Settings) → cutPlaces how y t ≡ cutPlaces how x t
+  unfolding cutPlaces
+  cuts-same how = ap cutsOf (rule-same how)

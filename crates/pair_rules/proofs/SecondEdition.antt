@@ -15,7 +15,7 @@ use Rattle.cut_rules.specs.Measure as Measure
 use Rattle.cut_rules.specs.Measure.{withinLimit}
 use Rattle.call_rules.specs.Settings.{firstEdition, secondEdition}
 use Rattle.pair_rules.specs.Rules.{rule2}
-use Rattle.pair_rules.specs.Table.{cutsBy}
+use Rattle.pair_rules.specs.Table.{cutPlaces}
 use Rattle.pair_rules.specs.Computing as definitions
 use Rattle.pair_rules.proofs.Pinned.{entry, cutSets, cutRows, bare2, heads2, sharing, threeRows}
 
@@ -36,9 +36,9 @@ ofSets =
     ∷ same (cutSets secondEdition (65515 ∷ 0 ∷ []) 6) [] ∷ same (cutSets secondEdition (65516 ∷ 0 ∷ []) 6) (1 ∷ [])
     ∷ same (cutSets secondEdition (65518 ∷ []) 6) [] ∷ same (cutSets secondEdition (65518 ∷ 0 ∷ 0 ∷ 65509 ∷ []) 204) (1 ∷ [])
     ∷ same (cutSets secondEdition (65518 ∷ 0 ∷ 0 ∷ 65510 ∷ []) 204) (1 ∷ 3 ∷ [])
-    ∷ same (cutsBy secondEdition (sharing []) 0) (1 ∷ 2 ∷ [])
-    ∷ same (cutsBy secondEdition (sharedAfter 25513) 0) (1 ∷ []) ∷ same (cutsBy secondEdition (sharedAfter 25514) 0) (1 ∷ 2 ∷ [])
-    ∷ same (cutsBy firstEdition (sharedAfter 25513) 0) (1 ∷ 2 ∷ [])
+    ∷ same (cutPlaces secondEdition (sharing []) 0) (1 ∷ 2 ∷ [])
+    ∷ same (cutPlaces secondEdition (sharedAfter 25513) 0) (1 ∷ []) ∷ same (cutPlaces secondEdition (sharedAfter 25514) 0) (1 ∷ 2 ∷ [])
+    ∷ same (cutPlaces firstEdition (sharedAfter 25513) 0) (1 ∷ 2 ∷ [])
     ∷ []
 
 -- ---- format 2
@@ -51,8 +51,8 @@ sharedRows = bare2 3 (2 ∷ 0 ∷ []) (40000 ∷ 40000 ∷ []) (heads2 ++ linkRo
 unfoldable pub ofRows : List Bool
 ofRows =
     same (cutRows secondEdition (66000 ∷ 1 ∷ [])) (1 ∷ []) ∷ same (cutRows firstEdition (66000 ∷ 1 ∷ [])) (0 ∷ 1 ∷ [])
-    ∷ same (cutsBy secondEdition (threeRows 35481 []) 0) [] ∷ same (cutsBy secondEdition (threeRows 35482 []) 0) (2 ∷ [])
-    ∷ same (cutsBy secondEdition sharedRows 0) (1 ∷ []) ∷ same (cutsBy firstEdition sharedRows 0) (1 ∷ 2 ∷ [])
+    ∷ same (cutPlaces secondEdition (threeRows 35481 []) 0) [] ∷ same (cutPlaces secondEdition (threeRows 35482 []) 0) (2 ∷ [])
+    ∷ same (cutPlaces secondEdition sharedRows 0) (1 ∷ []) ∷ same (cutPlaces firstEdition sharedRows 0) (1 ∷ 2 ∷ [])
     ∷ []
 
 -- four rows: even glyphs below 200 in class 1, and odd ones in class 2, which fill each other's gaps

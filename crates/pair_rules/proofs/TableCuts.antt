@@ -8,9 +8,8 @@ use Rattle.cut_rules.specs.Cuts.{cutsOf}
 use Rattle.cut_rules.proofs.CutPlaces.{places}
 use Rattle.cut_rules.specs.Places.{Places}
 use Rattle.call_rules.specs.declared.Settings.{Settings}
-use Rattle.call_rules.specs.Settings.{firstEdition}
 use Rattle.pair_rules.specs.Rules.{rule1, rule2}
-use Rattle.pair_rules.specs.Table.{ruleOf, shape, cutsBy, cutPlaces}
+use Rattle.pair_rules.specs.Table.{ruleOf, shape, cutPlaces}
 
 module _ (how : Settings) (s : Store) (t : ℕ) where
   -- the rule has the table's items
@@ -23,9 +22,6 @@ module _ (how : Settings) (s : Store) (t : ℕ) where
   unfolding ruleOf rule1 rule2
   rule-edition = by-test (eqb (shape s t .format) 1) (λ e. rw e) (λ e. rw e)
 
-  pub cuts-by : Places (shape s t .count) (cutsBy how s t)
-  unfolding cutsBy cutsOf
-  cuts-by = subst (λ (n : ℕ). Places n (cutsBy how s t)) rule-count (places (ruleOf how s t) (ruleOf how s t .count))
-
-pub table-cuts : (s : Store) (t : ℕ) → Places (shape s t .count) (cutPlaces s t)
-table-cuts s t = cuts-by firstEdition s t
+  pub table-cuts : Places (shape s t .count) (cutPlaces how s t)
+  unfolding cutPlaces cutsOf
+  table-cuts = subst (λ (n : ℕ). Places n (cutPlaces how s t)) rule-count (places (ruleOf how s t) (ruleOf how s t .count))

@@ -14,6 +14,7 @@ use Rattle.store_rules.specs.Appended as Appended
 use Rattle.store_rules.specs.Header as Header
 use Rattle.cut_rules.specs.Cuts as Cuts
 use Rattle.call_rules.specs.Answers as Answers
+use Rattle.call_rules.specs.Settings as Settings
 use Rattle.call_rules.specs.Scratch as Scratch
 use Rattle.call_rules.specs.Needs as Needs
 use Rattle.call_rules.specs.Outcomes as Outcomes
@@ -24,5 +25,5 @@ use Rattle.pair_rules.specs.Pairs as Pairs
 use Rattle.pair_rules.specs.Calls as Calls
 
 unfoldable pub computes : Unit {0}
-unfolding Folds.computes Lists.computes Numbers.computes Values.computes Coverage.computes ClassDef.computes PairPos.computes Entries.computes Estimates.computes Store.computes Reach.computes Appended.computes Header.computes Cuts.computes Answers.computes Scratch.computes Needs.computes Outcomes.computes Rules.computes Table.computes Written.computes Pairs.computes Calls.computes
+unfolding Folds.computes Lists.computes Numbers.computes Values.computes Coverage.computes ClassDef.computes PairPos.computes Entries.computes Estimates.computes Store.computes Reach.computes Appended.computes Header.computes Cuts.computes Answers.computes Settings.computes Scratch.computes Needs.computes Outcomes.computes Rules.computes Table.computes Written.computes Pairs.computes Calls.computes
 computes = tt

@@ -14,7 +14,6 @@ use Rattle.store_rules.specs.Store.{Store, Link, bytesOf, sizeOf, childAt, link
 use Rattle.store_rules.specs.Reach.{itemSize}
 use Rattle.cut_rules.specs.Cuts.{Rule, cutsOf}
 use Rattle.call_rules.specs.declared.Settings.{Settings}
-use Rattle.call_rules.specs.Settings.{firstEdition}
 use Rattle.pair_rules.specs.Rules.{rule1, rule2}
 
 -- the shape of table t
@@ -66,15 +65,11 @@ ruleOf how s t =
     (rule1 how (shape s t .count) (λ i. isSome (childAt s t (itemAt (shape s t) i))) (itemSize s (ofItems t (shape s t))) (sizeOf s (linkedAt s t coverAt)))
     (rule2 how (shape s t .count) (shape s t .item) (itemSize s (ofItems t (shape s t))) (entriesOf s t) (sizeOf s (linkedAt s t class2At)))
 
--- the places at which table t is cut
-unfoldable pub cutsBy : Settings → Store → ℕ → List ℕ
-cutsBy how s t = cutsOf (ruleOf how s t)
-
--- by the first edition, which every call has yet
-abbrev pub cutPlaces : Store → ℕ → List ℕ
-cutPlaces s t = cutsBy firstEdition s t
+-- the places at which table t is cut by these settings
+unfoldable pub cutPlaces : Settings → Store → ℕ → List ℕ
+cutPlaces how s t = cutsOf (ruleOf how s t)
 
 -- all of this file's definitions, for checks that compute
 unfoldable pub computes : Unit {0}
-unfolding partsReadable entriesOf allAtSlots setsSorted ruleOf cutsBy
+unfolding partsReadable entriesOf allAtSlots setsSorted ruleOf cutPlaces
 computes = tt
