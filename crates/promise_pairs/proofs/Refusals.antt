@@ -72,13 +72,8 @@ other-formats how s t w list k a b c d e =
     let asked : firstCase (settingsCases how ++ readCases s t) ≡ some 0 = first-skip (settingsCases how) (readCases s t) (known-pass how k) ∙ f in
     let cut : firstCase (cutCases how s t w) ≡ some 0 = first-stands (settingsCases how ++ readCases s t) _ 0 asked in
     let (zero-split, no-split) = stopped s w list (splitAhead how s t w list) (firstCase (splitCases how s t w list)) (first-stands (cutCases how s t w) _ 0 cut) in
-    let (zero-plan, no-plan) = stopped s w list (planAhead how s t w list) (firstCase (planCases how s t w list)) (first-stands (cutCases how s t w) _ 0 cut) in (
-      zero-split,
-      no-split,
-      zero-plan,
-      no-plan,
-      λ x y. ap (λ (c : Option ℕ). settlePair c (pairOf s t x y)) (first-stands (readCases s t) _ 0 f),
-    )
+    let (zero-plan, no-plan) = stopped s w list (planAhead how s t w list) (firstCase (planCases how s t w list)) (first-stands (cutCases how s t w) _ 0 cut) in
+    (zero-split, no-split, zero-plan, no-plan, λ x y. ap (λ (c : Option ℕ). settlePair c (pairOf s t x y)) (first-stands (readCases s t) _ 0 f))
 
 -- ---- in every case
 
