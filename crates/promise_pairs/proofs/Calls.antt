@@ -68,7 +68,7 @@ module _ (how : Settings) (s : Store) (t : ℕ) (w : Scratch) (list : List ℕ) 
   o = splitCall how s t w list
 
   -- the list has the new tables in front
-  in-order : Splits how s t w list → keptThenNew t o ≡ resulting how s t
+  pub in-order : Splits how s t w list → keptThenNew t o ≡ resulting how s t
   unfolding newTables
   in-order p =
       let (many, listed) = as-many-as-cuts how s t w list p in
