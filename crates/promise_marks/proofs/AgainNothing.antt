@@ -37,7 +37,7 @@ use Rattle.promise_marks.proofs.SameReach.{size-same}
 
 -- ---- a call that finds nothing to split
 
-nothing-to-split : (how : Settings) (s : Store) (t : ℕ) (w : Scratch) (list : List ℕ) → Checked how s t w → cutPlaces how s t ≡ []
+pub nothing-to-split : (how : Settings) (s : Store) (t : ℕ) (w : Scratch) (list : List ℕ) → Checked how s t w → cutPlaces how s t ≡ []
     → (markSplitCall how s t w list .answer ≡ 0) × Unchanged s w list (markSplitCall how s t w list)
 unfolding markSplitCall splitCases lastCases
 nothing-to-split how s t w list checked none-cut =

@@ -60,7 +60,7 @@ module _ (how : Settings) (s : Store) (t : ℕ) (w : Scratch) (list : List ℕ) 
   o = markSplitCall how s t w list
 
   -- the list has the new tables in front
-  in-order : Splits how s t w list → keptThenNew t o ≡ resulting how s t
+  pub in-order : Splits how s t w list → keptThenNew t o ≡ resulting how s t
   in-order p =
       let (many, listed) = as-many-as-cuts how s t w list p in
       let new = newTables s t (cutPlaces how s t) in
