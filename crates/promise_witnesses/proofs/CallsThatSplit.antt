@@ -16,6 +16,8 @@ use Rattle.folds.proofs.Bytes.{bytes-append, bytes-zeros}
 use Rattle.folds.specs.Lists.{Bytes}
 use Rattle.store_rules.specs.Store.{Store}
 use Rattle.pair_rules.specs.Table.{cutPlaces}
+use Rattle.call_rules.specs.declared.Settings.{Settings}
+use Rattle.call_rules.specs.Settings.{firstEdition}
 use Rattle.call_rules.specs.Scratch.{Scratch, scratchOf}
 use Rattle.call_rules.specs.Outcomes.{Outcome}
 use Rattle.pair_rules.specs.Calls.{splitCall, pairCases}
@@ -60,19 +62,19 @@ unfoldable pub seen : ℕ → Outcome → List (Option ℕ)
 seen t o = some (o .answer) ∷ some (o .count) ∷ firstCase (pairCases (o .store) t) ∷ []
 
 splits-once :
-    (s : Store) (t : ℕ) (w : Scratch) (list : List ℕ) (refusal : Option ℕ)
-    → seen t (splitCall s t w list) ≡ some 0 ∷ some 1 ∷ refusal ∷ [] → Splits s t w list
+    (how : Settings) (s : Store) (t : ℕ) (w : Scratch) (list : List ℕ) (refusal : Option ℕ)
+    → seen t (splitCall how s t w list) ≡ some 0 ∷ some 1 ∷ refusal ∷ [] → Splits how s t w list
 unfolding seen
-splits-once s t w list refusal e =
-    let answer : splitCall s t w list .answer ≡ 0 = cc in
-    let count : splitCall s t w list .count ≡ 1 = cc in record { answers = answer; cuts = omega arith }
+splits-once how s t w list refusal e =
+    let answer : splitCall how s t w list .answer ≡ 0 = cc in
+    let count : splitCall how s t w list .count ≡ 1 = cc in record { answers = answer; cuts = omega arith }
 
-large-seen : seen 0 (splitCall largeSet 0 scratch (0 ∷ [])) ≡ some 0 ∷ some 1 ∷ none ∷ []
+large-seen : seen 0 (splitCall firstEdition largeSet 0 scratch (0 ∷ [])) ≡ some 0 ∷ some 1 ∷ none ∷ []
 unfolding largeSet front scratch computes seen
 large-seen = refl
 
-pub large-splits : Splits largeSet 0 scratch (0 ∷ [])
-large-splits = splits-once largeSet 0 scratch (0 ∷ []) none large-seen
+pub large-splits : Splits firstEdition largeSet 0 scratch (0 ∷ [])
+large-splits = splits-once firstEdition largeSet 0 scratch (0 ∷ []) none large-seen
 
 -- ---- no bytes, no promise: a table whose coverage has the one glyph 65,536, of class 1
 
@@ -95,13 +97,15 @@ unfoldable pub wildScratch : Scratch
 wildScratch = scratchOf (replicate 8 0) (replicate 8192 0) (0 ∷ []) (0 ∷ []) (replicate 170 0)
 
 -- the kept table's class definition 1 is unreadable
-wild-seen : seen 3 (splitCall wild 3 wildScratch (0 ∷ [])) ≡ some 0 ∷ some 1 ∷ some 4 ∷ []
+wild-seen : seen 3 (splitCall firstEdition wild 3 wildScratch (0 ∷ [])) ≡ some 0 ∷ some 1 ∷ some 4 ∷ []
 unfolding wild wildFront wildScratch computes seen
 wild-seen = refl
 
-pub not-without-bytes : ((s : Store) (t : ℕ) (w : Scratch) (list : List ℕ) → Splits s t w list → AllAfresh s t (storeThen s t w list) (cutPlaces s t)) → ⊥
+pub not-without-bytes :
+    ((how : Settings) (s : Store) (t : ℕ) (w : Scratch) (list : List ℕ) → Splits how s t w list → AllAfresh s t (storeThen how s t w list) (cutPlaces how s t))
+    → ⊥
 unfolding seen
 not-without-bytes h =
-    let splits : Splits wild 3 wildScratch (0 ∷ []) = splits-once wild 3 wildScratch (0 ∷ []) (some 4) wild-seen in
-    let r : firstCase (pairCases (storeThen wild 3 wildScratch (0 ∷ [])) 3) ≡ none = h wild 3 wildScratch (0 ∷ []) splits .kept .readable in
+    let splits : Splits firstEdition wild 3 wildScratch (0 ∷ []) = splits-once firstEdition wild 3 wildScratch (0 ∷ []) (some 4) wild-seen in
+    let r : firstCase (pairCases (storeThen firstEdition wild 3 wildScratch (0 ∷ [])) 3) ≡ none = h firstEdition wild 3 wildScratch (0 ∷ []) splits .kept .readable in
     let y : _≡_ {A = ℕ} 0 1 = cc wild-seen in omega arith

@@ -7,6 +7,7 @@ use lib.ListN.{replicate}
 use Rattle.folds.proofs.Bytes.{bytes-append, bytes-zeros}
 use Rattle.ot_layouts.specs.Numbers.{words, be16}
 use Rattle.store_rules.specs.Store.{Store}
+use Rattle.call_rules.specs.Settings.{firstEdition}
 use Rattle.call_rules.specs.Scratch.{Scratch, scratchOf}
 use Rattle.call_rules.specs.Outcomes.{Outcome}
 use Rattle.pair_rules.specs.Calls.{splitCall}
@@ -47,7 +48,7 @@ twoList = 0 ∷ 0 ∷ []
 
 -- the call
 abbrev left : Outcome
-left = splitCall twoSlots 0 twoScratch twoList
+left = splitCall firstEdition twoSlots 0 twoScratch twoList
 
 two-seen : seenOf twoSlots left ≡ 0 ∷ 2 ∷ 9 ∷ 1 ∷ 0 ∷ []
 unfolding twoSlots twoFront twoScratch computes seenOf
@@ -55,10 +56,10 @@ two-seen = refl
 
 -- ---- so none of the four does it
 
-module _ (build : Build) (keeps : Keeps build) where
+module _ (build : Build) (keeps : Keeps firstEdition build) where
   -- the build leaves what `splitCall` leaves
   built : build twoSlots 0 twoScratch twoList ≡ left
-  built = split-only twoSlots 0 twoScratch twoList _ two-octets (keeps twoSlots 0 twoScratch twoList two-octets)
+  built = split-only firstEdition twoSlots 0 twoScratch twoList _ two-octets (keeps twoSlots 0 twoScratch twoList two-octets)
 
   pub no-build-refuses-everything : RefusesEverything build → ⊥
   no-build-refuses-everything = refuses-not twoSlots 0 twoScratch twoList left 9 two-seen build built

@@ -6,6 +6,7 @@ use native.Mathlib.Omega.{arith}
 use lib.ListN.{replicate}
 use Rattle.ot_layouts.specs.Numbers.{words}
 use Rattle.store_rules.specs.Store.{Store}
+use Rattle.call_rules.specs.Settings.{firstEdition}
 use Rattle.call_rules.specs.Scratch.{Scratch, scratchOf}
 use Rattle.call_rules.specs.Outcomes.{Outcome}
 use Rattle.mark_rules.specs.Calls.{markSplitCall}
@@ -40,24 +41,24 @@ twoEntries = 0 ∷ 0 ∷ []
 
 -- the call
 abbrev left : Outcome
-left = markSplitCall threeClasses 0 threeScratch twoEntries
+left = markSplitCall firstEdition threeClasses 0 threeScratch twoEntries
 
 three-seen : seenOf threeClasses left ≡ 0 ∷ 2 ∷ 17 ∷ 1 ∷ 0 ∷ []
 unfolding threeClasses threeFront threeScratch computes seenOf
 three-seen = refl
 
 -- the demands speak of something
-pub three-split : Splits threeClasses 0 threeScratch twoEntries
+pub three-split : Splits firstEdition threeClasses 0 threeScratch twoEntries
 three-split =
     let count = counts threeClasses 0 threeScratch twoEntries left 17 three-seen in
     record { answers = answers threeClasses 0 threeScratch twoEntries left 17 three-seen; cuts = omega arith }
 
 -- ---- so none of the four does it
 
-module _ (build : Build) (keeps : KeepsMarks build) where
+module _ (build : Build) (keeps : KeepsMarks firstEdition build) where
   -- the build leaves what `markSplitCall` leaves
   built : build threeClasses 0 threeScratch twoEntries ≡ left
-  built = split-only threeClasses 0 threeScratch twoEntries _ (keeps threeClasses 0 threeScratch twoEntries)
+  built = split-only firstEdition threeClasses 0 threeScratch twoEntries _ (keeps threeClasses 0 threeScratch twoEntries)
 
   pub no-mark-build-refuses-everything : RefusesEverything build → ⊥
   no-mark-build-refuses-everything = refuses-not threeClasses 0 threeScratch twoEntries left 17 three-seen build built
