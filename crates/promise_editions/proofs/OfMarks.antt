@@ -20,22 +20,21 @@ use Rattle.mark_fits.proofs.FewestCuts.{own-within, fewest-cuts}
 use Rattle.mark_fits.proofs.AgainUncut.{again-uncut}
 use Rattle.promise_marks.specs.Demands.{Splits}
 use Rattle.promise_marks.specs.Exactly.{MaySplit}
-use Rattle.promise_marks.proofs.Answered.{may-splits}
 use Rattle.promise_marks.proofs.Refusals.{as-many-as-cuts}
-use Rattle.promise_marks.proofs.Ready.{Ready, splits-ready, store-written}
+use Rattle.promise_marks.proofs.Ready.{Ready, splits-may, splits-ready, store-written}
 use Rattle.promise_marks.proofs.AgainNothing.{nothing-to-split}
 use Rattle.promise_marks.proofs.Calls.{in-order}
-use Rattle.promise_editions.specs.OfMarks.{OfMarkTables, MarkUncut, MarksGuaranteed}
+use Rattle.promise_editions.specs.OfMarks.{OfMarkTables, MarkUncut, MarksGuaranteed, MarksGuaranteedThen}
 
-module _ (s : Store) (t : ℕ) (w : Scratch) (list : List ℕ) (m : MaySplit secondEdition s t w list) where
+module _ (s : Store) (t : ℕ) (w : Scratch) (list : List ℕ) (splits : Splits secondEdition s t w list) where
   abbrev o : Outcome
   o = markSplitCall secondEdition s t w list
 
   abbrev cs : List ℕ
   cs = cutPlaces secondEdition s t
 
-  splits : Splits secondEdition s t w list
-  splits = may-splits secondEdition s t w list m
+  may : MaySplit secondEdition s t w list
+  may = splits-may secondEdition s t w list splits
 
   ready : Ready s t cs
   ready = splits-ready secondEdition s t w list splits .0
@@ -50,7 +49,7 @@ module _ (s : Store) (t : ℕ) (w : Scratch) (list : List ℕ) (m : MaySplit sec
   uncut u h v list′ enough =
       let table = resulting-table s t cs ready u h in
       nothing-to-split secondEdition (splitStore s t cs) u v list′
-      (record { known = m .checked .known; reads = table .reads; scratch = enough; atSlots = slots-at (splitStore s t cs) u (table .slots); acyclic = table .acyclic })
+      (record { known = may .checked .known; reads = table .reads; scratch = enough; atSlots = slots-at (splitStore s t cs) u (table .slots); acyclic = table .acyclic })
       (again-uncut s t cs ready (own-within s t) u h)
 
   guaranteed : MarksGuaranteed s t o
@@ -61,7 +60,8 @@ module _ (s : Store) (t : ℕ) (w : Scratch) (list : List ℕ) (m : MaySplit sec
         again = of-left MarkUncut uncut;
       }
 
--- a split under edition 2 whose outcome is that of `mark_rules`
+-- a split under edition 2 whose outcome is that of `mark_rules`, where there is a cut
 pub marks-guaranteed : (s : Store) (t : ℕ) (w : Scratch) (list : List ℕ) (o : Outcome) → o ≡ markSplitCall secondEdition s t w list
-    → MaySplit secondEdition s t w list → MarksGuaranteed s t o
-marks-guaranteed s t w list o e m = subst (MarksGuaranteed s t) (sym e) (guaranteed s t w list m)
+    → MarksGuaranteedThen s t o
+marks-guaranteed s t w list o e =
+    subst (MarksGuaranteedThen s t) (sym e) (λ zero some. guaranteed s t w list (record { answers = zero; cuts = some }))

@@ -25,22 +25,21 @@ use Rattle.promise_calls.specs.Unchanged.{Octets}
 use Rattle.promise_pairs.specs.Demands.{Splits}
 use Rattle.promise_pairs.specs.Exactly.{MaySplit}
 use Rattle.promise_pairs.specs.Calls.{keptThenNew}
-use Rattle.promise_pairs.proofs.Answered.{may-splits}
 use Rattle.promise_pairs.proofs.Refusals.{as-many-as-cuts}
-use Rattle.promise_pairs.proofs.GoesAhead.{splits-ready, store-written}
+use Rattle.promise_pairs.proofs.GoesAhead.{splits-may, splits-ready, store-written}
 use Rattle.promise_pairs.proofs.AgainNothing.{nothing-to-split}
 use Rattle.promise_pairs.proofs.Calls.{in-order}
-use Rattle.promise_editions.specs.OfPairs.{OfPairTables, PairUncut, PairsGuaranteed}
+use Rattle.promise_editions.specs.OfPairs.{OfPairTables, PairUncut, PairsGuaranteed, PairsGuaranteedThen}
 
-module _ (s : Store) (t : ℕ) (w : Scratch) (list : List ℕ) (octets : Octets s) (m : MaySplit secondEdition s t w list) where
+module _ (s : Store) (t : ℕ) (w : Scratch) (list : List ℕ) (octets : Octets s) (splits : Splits secondEdition s t w list) where
   abbrev o : Outcome
   o = splitCall secondEdition s t w list
 
   abbrev cs : List ℕ
   cs = cutPlaces secondEdition s t
 
-  splits : Splits secondEdition s t w list
-  splits = may-splits secondEdition s t w list m
+  may : MaySplit secondEdition s t w list
+  may = splits-may secondEdition s t w list splits
 
   ready : Ready s t cs
   ready = splits-ready secondEdition s t w list splits .0
@@ -56,12 +55,12 @@ module _ (s : Store) (t : ℕ) (w : Scratch) (list : List ℕ) (octets : Octets 
       let table = resulting-table s t cs ready u h in
       nothing-to-split secondEdition (splitStore s t cs) u v list′
       (record {
-        known = m .checked .known;
+        known = may .checked .known;
         reads = resulting-reads s t cs ready octets table;
         scratch = enough;
         atSlots = table .atSlots;
         acyclic = table .acyclic;
-        sorted = table-sorted s t cs ready (m .checked .sorted) (table .view);
+        sorted = table-sorted s t cs ready (may .checked .sorted) (table .view);
       })
       (again-uncut s t cs ready (own-within s t) u h)
 
@@ -77,7 +76,8 @@ module _ (s : Store) (t : ℕ) (w : Scratch) (list : List ℕ) (octets : Octets 
         rows = λ two. of-left RowsFitIn (rows-fit s t cs ready within (ne-eqb format 1 (λ one. omega arith)));
       }
 
--- a split under edition 2 whose outcome is that of `pair_rules`
+-- a split under edition 2 whose outcome is that of `pair_rules`, where there is a cut
 pub pairs-guaranteed : (s : Store) (t : ℕ) (w : Scratch) (list : List ℕ) (o : Outcome) → Octets s → o ≡ splitCall secondEdition s t w list
-    → MaySplit secondEdition s t w list → PairsGuaranteed s t o
-pairs-guaranteed s t w list o octets e m = subst (PairsGuaranteed s t) (sym e) (guaranteed s t w list octets m)
+    → PairsGuaranteedThen s t o
+pairs-guaranteed s t w list o octets e =
+    subst (PairsGuaranteedThen s t) (sym e) (λ zero some. guaranteed s t w list octets (record { answers = zero; cuts = some }))

@@ -1,6 +1,6 @@
 -- What edition 2 guarantees of mark-to-base tables, beyond document 02: of what a split of table t under edition 2 leaves in the caller's buffers, where s is
 -- what it was lent, and o what it answers and what then stands there. Assumes nothing.
-use Prim.Native.Nat.{ℕ, _≤_}
+use Prim.Native.Nat.{ℕ, _≤_, _<_}
 use mathlib.Core.Path.{_≡_}
 use mathlib.Core.Bool.{true, false}
 use mathlib.Core.List.{List}
@@ -34,3 +34,7 @@ pub record MarksGuaranteed (s : Store) (t : ℕ) (o : Outcome) : Type 0 where
   pub fewest : (cs : List ℕ) → placesAscend 0 (classesOf s t) cs ≡ true → withinBy2 s t cs ≡ true → o .count ≤ length cs
   -- splitting any of the resulting tables again adds nothing
   pub again : OfMarkTables t o MarkUncut
+
+-- of a call that answers 0 and reports new tables
+abbrev pub MarksGuaranteedThen : Store → ℕ → Outcome → Type 0
+MarksGuaranteedThen s t o = o .answer ≡ 0 → 0 < o .count → MarksGuaranteed s t o

@@ -1,6 +1,6 @@
 -- "What edition 2 guarantees.", of what a split of pair table t under edition 2 leaves in the caller's buffers: s is what it was lent, and o what it answers and
 -- what then stands there. Assumes nothing.
-use Prim.Native.Nat.{ℕ, _≤_}
+use Prim.Native.Nat.{ℕ, _≤_, _<_}
 use mathlib.Core.Path.{_≡_}
 use mathlib.Core.Bool.{true, false}
 use mathlib.Core.List.{List}
@@ -36,3 +36,7 @@ pub record PairsGuaranteed (s : Store) (t : ℕ) (o : Outcome) : Type 0 where
   pub again : OfPairTables t o PairUncut
   -- beyond document 02, for format 2: together with all that its rows reach, and with coverage and both class definitions but for the largest of these three
   pub rows : shape s t .format ≡ 2 → OfPairTables t o RowsFitIn
+
+-- of a call that answers 0 and reports new tables
+abbrev pub PairsGuaranteedThen : Store → ℕ → Outcome → Type 0
+PairsGuaranteedThen s t o = o .answer ≡ 0 → 0 < o .count → PairsGuaranteed s t o
