@@ -10,6 +10,7 @@ use Rattle.folds.proofs.Compared.{same, every}
 use Rattle.ot_layouts.specs.Numbers.{words}
 use Rattle.store_rules.specs.Store.{Store, sound, bytesOf}
 use Rattle.store_rules.proofs.Pinned.{linkRow, packed, roomy}
+use Rattle.call_rules.specs.Settings.{firstEdition}
 use Rattle.call_rules.specs.Scratch.{Scratch}
 use Rattle.call_rules.specs.Outcomes.{Outcome}
 use Rattle.call_rules.proofs.Pinned.{fives}
@@ -71,15 +72,16 @@ splits s objects links bytes us o =
 -- plan and split with just that room
 unfoldable pub cutAt : List ℕ → ℕ → ℕ → ℕ → List ℕ → Store → Bool
 cutAt cs objects links bytes us s =
-    plans s cs (markPlanCall s 0 scratch (9 ∷ 9 ∷ [])) && splits s objects links bytes us (markSplitCall (roomy bytes objects links s) 0 scratch (9 ∷ 9 ∷ []))
+    plans s cs (markPlanCall firstEdition s 0 scratch (9 ∷ 9 ∷ []))
+    && splits s objects links bytes us (markSplitCall firstEdition (roomy bytes objects links s) 0 scratch (9 ∷ 9 ∷ []))
 
 -- one link less than that: 8
 unfoldable pub noRoom : ℕ → ℕ → ℕ → Store → Bool
-noRoom objects links bytes s = eqb (markSplitCall (roomy bytes objects (links - 1) s) 0 scratch (9 ∷ 9 ∷ []) .answer) 8
+noRoom objects links bytes s = eqb (markSplitCall firstEdition (roomy bytes objects (links - 1) s) 0 scratch (9 ∷ 9 ∷ []) .answer) 8
 
 -- nothing is cut, with no room at all
 unfoldable pub whole : Store → Bool
-whole s = plans s [] (markPlanCall s 0 scratch (9 ∷ 9 ∷ [])) && splits s 0 0 0 [] (markSplitCall s 0 scratch (9 ∷ 9 ∷ []))
+whole s = plans s [] (markPlanCall firstEdition s 0 scratch (9 ∷ 9 ∷ [])) && splits s 0 0 0 [] (markSplitCall firstEdition s 0 scratch (9 ∷ 9 ∷ []))
 
 -- a reading of table 0, and then of the tables that it was split into at class 1
 unfoldable pub attaches : ℕ → ℕ → List ℕ → Store → Bool
@@ -105,7 +107,7 @@ written o =
 unfoldable pub limits : List Bool
 limits =
     whole (oneMark 1 65501) ∷ cutAt (0 ∷ []) 7 5 36 (6 ∷ []) (oneMark 1 65502) ∷ noRoom 7 5 36 (oneMark 1 65502)
-    ∷ written (markSplitCall (roomy 36 7 5 (oneMark 1 65502)) 0 scratch (9 ∷ []))
+    ∷ written (markSplitCall firstEdition (roomy 36 7 5 (oneMark 1 65502)) 0 scratch (9 ∷ []))
     ∷ []
 
 pub limits-hold : every limits ≡ true

@@ -1,13 +1,13 @@
--- What the decision rests on: the checks that need no scratch, whether there is a cycle, and the cut places. Assumes nothing.
+-- What the decision rests on: whether the settings are known, the checks that need no scratch, whether there is a cycle, and the cut places. Assumes nothing.
 use Prim.Native.Nat.{ℕ, _*_, _≤_, _<_}
-use mathlib.Core.Path.{_≡_, refl, subst, _∙_}
-use mathlib.Core.Bool.{true, false, cond}
+use mathlib.Core.Path.{_≡_, refl, sym, subst, _∙_}
+use mathlib.Core.Bool.{Bool, true, false, cond, not}
 use mathlib.Core.List.{List, _++_}
 use mathlib.Core.Option.{some, none}
 use native.Mathlib.Omega.{arith}
 use lib.ListN.{length, getD}
 use lib.Dec.{ltb}
-use borrow.Author.Tests.{lt-ltb, le-ltb}
+use borrow.Author.Tests.{lt-ltb, le-ltb, not-true, not-false}
 use Rattle.store_rules.specs.Store.{Store}
 use Rattle.store_rules.specs.Reach.{onCycle}
 use Rattle.store_rules.proofs.Sound.{size-bytes}
@@ -42,14 +42,21 @@ settles : {how : Settings} {s : Store} {t : ℕ} {w : Scratch} {a : Answer} {cut
     → Decided how s t w (Settled a) cuts
 settles e = record { answers = e; plans = λ p x. let z : _≡_ {A = ℕ} 0 1 = cc in absurd (omega arith) }
 
-pub decided-unknown : {how : Settings} {s : Store} {t : ℕ} {w : Scratch} {cuts : List ℕ} → known how ≡ false → Decided how s t w (Settled BadEdition) cuts
-unfolding cutCases
-decided-unknown {how} {s} {t} h =
-    settles (first-stands (settingsCases how ++ readCases s t) _ 12 (first-stands (settingsCases how) (readCases s t) 12 (unknown-refused how h)))
-
 pub decided-settled : {how : Settings} → known how ≡ true → {s : Store} {t : ℕ} (w : Scratch) {x : Checked} {a : Answer} {cuts : List ℕ}
     → Calls s t (lengthsOf w) x → x ≡ Checked.Settled a → Decided how s t w (Settled a) cuts
 decided-settled {how} l w {a = a} c y = settles (c .refuses a y how l w refl)
+
+-- ---- 12
+
+module _ (how : Settings) {b : Bool} (e : b ≡ known how) where
+  pub tested-known : not b ≡ false → known how ≡ true
+  tested-known h = sym e ∙ not-false b h
+
+  pub decided-unknown : not b ≡ true → {s : Store} {t : ℕ} {w : Scratch} {cuts : List ℕ} → Decided how s t w (Settled BadEdition) cuts
+  unfolding cutCases
+  decided-unknown h {s} {t} =
+      let refused = unknown-refused how (sym e ∙ not-true b h) in
+      settles (first-stands (settingsCases how ++ readCases s t) _ 12 (first-stands (settingsCases how) (readCases s t) 12 refused))
 
 -- ---- the rest of 7, and the cuts
 

@@ -85,7 +85,7 @@ pub fn decide_cuts(
     })
 }
 
-// Decides for a table of any store, by any settings and with any scratch.
+// Decides for a table of any store, with any scratch.
 pub fn decide(
     data: &[u8],
     objects: &[u32],

@@ -31,9 +31,8 @@ module _ {how : Settings} {s : Store} {t : ℕ} {w : Scratch} {d : Decision} {cu
   pub none-applies : firstCase (cutCases how s t w) ≡ none
   none-applies = x .answers ∙ ap decidedAs y
 
-  -- the plan's cuts are the table's places
-  pub places-planned : part cuts 0 (p .cuts) ≡ cutPlaces how s t
-  places-planned = placed-front (x .plans p y .placed)
+  pub at-places : part cuts 0 (p .cuts) ≡ cutPlaces how s t
+  at-places = placed-front (x .plans p y .placed)
 
   pub ready : Bytes (s .bytes) → {set gs ks : List ℕ} → length set ≡ length (w .set) → length gs ≡ length (w .glyphs) → length ks ≡ length (w .classes)
       → PlanReady s t p gs ks set cuts
@@ -46,7 +45,7 @@ module _ {how : Settings} {s : Store} {t : ℕ} {w : Scratch} {d : Decision} {cu
         slots = k .passed .slots;
         few = few;
         cut-room = room;
-        places = subst (Places (classesOf s t)) (sym places-planned) (table-cuts how s t);
+        places = subst (Places (classesOf s t)) (sym at-places) (table-cuts how s t);
         glyph-room = omega (arith, long .glyphs);
         class-room = omega (arith, long .classes);
         scratch = omega (arith, long .set);

@@ -1,4 +1,4 @@
--- A split with its places in hand: carried out at any places, or as planned. Assumes nothing.
+-- A split with its places in hand, whatever they come from: in a list of their own, or at the front of the scratch. Assumes nothing.
 use Prim.Native.Nat.{ℕ, _<_, _≤_}
 use mathlib.Core.Path.{_≡_}
 use mathlib.Core.Bool.{Bool, true}
@@ -24,7 +24,7 @@ pub record Cuttable (s : Store) (t : ℕ) (p : MarkTable) (gs ks set cs : List �
 abbrev pub CutIfRoom : Store → ℕ → List ℕ → List ℕ → Bool → Store → List ℕ → Type 0
 CutIfRoom s t cs list r s′ list′ = CarriedIfRoom s (needed s t cs) (splitStore s t cs) (newTables s t cs) list r s′ list′
 
--- as planned: the plan's cuts, any places at which the table can be cut, stand at the front of the scratch and can be counted, and no scratch is too short
+-- as planned: the plan's cuts, any places that ascend within the table and can be counted, stand at the front of the scratch, and no scratch is too short
 pub record PlanReady (s : Store) (t : ℕ) (p : Plan) (gs ks set cuts : List ℕ) : Type 0 where
   pub opens : Opens s t (p .table)
   pub slots : allAtSlots s t ≡ true

@@ -88,7 +88,7 @@ pub fn split_at(
     true
 }
 
-// Splits a table as planned: nothing to cut, no room, or the split.
+// Splits a table at the places of a plan, whatever they come from: nothing to cut, no room, or the split.
 fn split_planned(
     data: &mut [u8],
     objects: &mut [u32],
@@ -109,7 +109,8 @@ fn split_planned(
     ensures { λ r. ⌜
         ((w : Scratch)
         → outcome r (left «new_count») (storeLeft «data» objects links counts) (left «new_tables») (cleared w)
-        ≡ splitUnless (lastCases (storeCame «data» objects links counts) table (part (came cuts) 0 (plan .cuts)) (came «new_tables»))
+        ≡ splitUnless
+        (lastCases (storeCame «data» objects links counts) table (part (came cuts) 0 (plan .cuts)) (came «new_tables»))
         (storeCame «data» objects links counts) table (part (came cuts) 0 (plan .cuts)) w (came «new_tables»))
         ⌝ }
 {

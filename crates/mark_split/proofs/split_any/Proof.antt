@@ -1,4 +1,4 @@
--- `mark_split::split_any` meets its contract: refused by 12 or 1 to 7, or split as planned. Assumes nothing.
+-- `mark_split::split_any` meets its contract: refused by one of the first cases, or split as planned. Assumes nothing.
 use Prim.Native.Nat.{ℕ}
 use mathlib.Core.Path.{sym, ap, _∙_}
 use mathlib.Core.List.{List}
@@ -11,7 +11,7 @@ use Rattle.mark_rules.specs.Table.{cutPlaces}
 use Rattle.mark_rules.specs.Written.{needed, splitStore, newTables}
 use Rattle.mark_rules.specs.Calls.{cutCases, lastCases, splitCases, splitUnless, markSplitCall}
 use Rattle.mark_plan.specs.Decided.{decidedAs}
-use Rattle.mark_split.proofs.Fronts.{none-applies, places-planned, ready}
+use Rattle.mark_split.proofs.Fronts.{none-applies, at-places, ready}
 use Rattle.mark_split.proofs.split_any.Statement.{statement}
 use Rattle.mark_split.proofs.split_any.Tie as tie
 
@@ -59,7 +59,7 @@ returns-2 c =
     let w = scratchOf (a .walk .now) (a .glyph-set .now) (a .glyphs .now) (a .classes .now) (a .cuts .now) in
     split .split-planned .ensures w
     ∙ ap (λ (cs : List ℕ). splitUnless (lastCases s (a .table) cs (a .new-tables .now)) s (a .table) cs w (a .new-tables .now))
-    (places-planned (decided .decide .ensures) (cut .decision2 .given .1))
+    (at-places (decided .decide .ensures) (cut .decision2 .given .1))
     ∙ call-goes s (a .new-tables .now) (needed s (a .table)) (splitStore s (a .table)) (newTables s (a .table)) (cutPlaces (a .settings) s (a .table))
     (cutCases (a .settings) s (a .table) w) w (none-applies (decided .decide .ensures) (cut .decision2 .given .1))
 
