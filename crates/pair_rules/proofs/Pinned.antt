@@ -1,9 +1,9 @@
 -- Pair tables held against small whole stores, as one check; each list pins what its comment says. Assumes nothing.
-use Prim.Native.Nat.{ℕ, zero, suc, _+_, _*_, _/_, _%_}
+use Prim.Native.Nat.{ℕ, _+_, _*_}
 use mathlib.Core.Path.{_≡_, refl}
 use mathlib.Core.Bool.{Bool, true, false, cond, _&&_}
 use mathlib.Core.List.{List, [], _∷_, _++_}
-use lib.ListN.{length, getD, replicate, take}
+use lib.ListN.{length, getD, replicate}
 use lib.IntN.{ℤ, pos, negsuc}
 use lib.Dec.{eqb}
 use Rattle.folds.specs.Folds.{all, run}
@@ -20,7 +20,6 @@ use Rattle.cut_rules.specs.Cuts.{cutsOf}
 use Rattle.call_rules.specs.declared.Settings.{Settings}
 use Rattle.call_rules.specs.Settings.{settingsOf, firstEdition, secondEdition}
 use Rattle.call_rules.specs.Scratch.{Scratch}
-use Rattle.call_rules.specs.Outcomes.{Outcome}
 use Rattle.call_rules.proofs.Pinned.{fives}
 use Rattle.pair_rules.specs.Rules.{bareRule, rule2}
 use Rattle.pair_rules.specs.Table.{cutPlaces}
@@ -117,14 +116,6 @@ largeSet set bytes objects links =
       objectCount = 3;
       linkCount = 2;
     }
-
--- n records of one field, for second glyphs from g on
-unfoldable pub records : ℕ → ℕ → List ℕ
-records zero g = []
-records (suc n) g = g / 256 ∷ g % 256 ∷ 0 ∷ 0 ∷ records n (g + 1)
-
-unfoldable pub store9 : ℕ → ℕ → ℕ → Store
-store9 bytes objects links = largeSet (words (16379 ∷ []) ++ records 16379 0) bytes objects links
 
 -- just enough for store1 and store2
 unfoldable pub enough : Scratch
@@ -308,8 +299,6 @@ orders =
     ∷ splits (under1 tens (linkRow 0 2 1 ++ linkRow 0 4 1 ++ slots1)) 7 enough
     -- "no cut" before 8: there is no room at all
     ∷ splits (bare1 tens (linkRow 0 2 1 ++ slots1)) 0 enough
-    -- 6 before 8: a place, and no list
-    ∷ splits (store9 0 0 0) 6 (fives 5 8192 1 1 1)
     ∷ []
 
 -- ---- splits
@@ -344,16 +333,6 @@ inOrder =
     ∷ eqb (pairCall store1 0 30 5 .found) 1 ∷ eqb (pairCall (splitStore store1 0 (1 ∷ [])) 0 30 5 .found) 0 ∷ eqb (readInOrder store1 [] 10 5 .found) 0
     ∷ []
 
--- a whole outcome of W9: a new table, its coverage and the kept table's
-unfoldable pub splitsAt0 : Outcome → Bool
-splitsAt0 o =
-    eqb (o .answer) 0 && eqb (o .count) 1 && same (o .list) (3 ∷ 9 ∷ [])
-    && same (take 12 (o .store .objects)) (packed 0 (10 ∷ []) ++ (12 ∷ 18 ∷ 18 ∷ 65536 ∷ []) ++ packed 65536 (12 ∷ 6 ∷ 4 ∷ []))
-    && same (take 12 (o .store .links)) (linkRow 0 2 5 ++ linkRow 3 2 4 ++ linkRow 3 10 2)
-    && eqb (o .store .byteCount) 65558 && eqb (o .store .objectCount) 6 && eqb (o .store .linkCount) 3
-    && same (bytesOf (o .store) 0) (words (1 ∷ 0 ∷ 4 ∷ 0 ∷ 0 ∷ [])) && same (bytesOf (o .store) 3) (words (1 ∷ 0 ∷ 4 ∷ 0 ∷ 1 ∷ 0 ∷ []))
-    && same (bytesOf (o .store) 4) (words (1 ∷ 1 ∷ 10 ∷ [])) && same (bytesOf (o .store) 5) (words (1 ∷ 0 ∷ []))
-
 -- a table of three items whose offsets are not zero, and the bytes of a new one of the last two
 unfoldable pub afresh : List ℕ → List ℕ → Bool
 afresh old new = same (newTable (shapeOf (words old)) (words old) 1 3) (words new)
@@ -367,7 +346,6 @@ tables =
     ∷ []
 
 -- `newParts`, `tableLinks`, `keptTable`, `kept`, `needed`: at one and at several places; "2K+1 objects and K links", "3K+2 objects and 3K links"
--- `splitCall`, `planCall`: a whole outcome; 8 at its edges: bytes, objects, links, the list, and the plan's list
 unfoldable pub splittings : List Bool
 splittings =
     keeps store1 (1 ∷ []) 3 1 (10 ∷ 20 ∷ 30 ∷ []) (5 ∷ 6 ∷ []) ∷ keeps store1 (0 ∷ 2 ∷ []) 5 2 (10 ∷ 20 ∷ 30 ∷ []) (5 ∷ 6 ∷ [])
@@ -376,12 +354,8 @@ splittings =
     ∷ same (newTables store2 0 (1 ∷ 2 ∷ [])) (5 ∷ 8 ∷ [])
     ∷ same (rowNumbers (newLinks store2 0 (shapeOf (bytesOf store2 0)) (1 ∷ [])))
     (linkRow 0 2 8 ++ linkRow 0 8 9 ++ linkRow 0 10 3 ++ linkRow 5 2 6 ++ linkRow 5 8 7 ++ linkRow 5 10 3 ++ linkRow 5 22 4 ++ linkRow 5 30 4)
-    ∷ splitsAt0 (splitCall firstEdition (store9 22 3 1) 0 enough (8 ∷ 9 ∷ []))
-    ∷ eqb (splitCall firstEdition (store9 21 3 1) 0 enough (9 ∷ []) .answer) 8 ∷ eqb (splitCall firstEdition (store9 22 2 1) 0 enough (9 ∷ []) .answer) 8
-    ∷ eqb (splitCall firstEdition (store9 22 3 0) 0 enough (9 ∷ []) .answer) 8 ∷ eqb (splitCall firstEdition (store9 22 3 1) 0 enough [] .answer) 8
-    ∷ same (planCall firstEdition (store9 0 0 0) 0 enough (8 ∷ 9 ∷ []) .list) (0 ∷ 9 ∷ []) ∷ eqb (planCall firstEdition (store9 22 3 1) 0 enough [] .answer) 8
     ∷ []
 
 pub pinned : every (readings ++ cuttings ++ refusals ++ orders ++ tables ++ splittings ++ inOrder) ≡ true
-unfolding definitions.computes compared.computes packed sameℤs samePair storeOf roomy withSets twoRecords oneRecord bare1 under1 tens slots1 store1 bare2 rows2 fifties heads2 store2 storeFields parts largeSet records store9 fives enough reads found nothing readings cutSets cutRows sharing fiveSets twoSets threeRows cuttings refuses splits refusals short orders having keepsIn keeps splitsAt0 afresh tables splittings readAs inOrder
+unfolding definitions.computes compared.computes packed sameℤs samePair storeOf roomy withSets twoRecords oneRecord bare1 under1 tens slots1 store1 bare2 rows2 fifties heads2 store2 storeFields parts largeSet fives enough reads found nothing readings cutSets cutRows sharing fiveSets twoSets threeRows cuttings refuses splits refusals short orders having keepsIn keeps afresh tables splittings readAs inOrder
 pinned = refl

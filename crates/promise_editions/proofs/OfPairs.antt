@@ -2,7 +2,7 @@
 use Prim.Native.Nat.{ℕ}
 use mathlib.Core.Path.{_≡_, sym, subst}
 use mathlib.Core.Bool.{true}
-use mathlib.Core.List.{List, _∷_}
+use mathlib.Core.List.{List}
 use native.Mathlib.Omega.{arith}
 use borrow.Author.Tests.{eq-eqb, ne-eqb}
 use Rattle.folds.specs.Lists.{among}
@@ -11,7 +11,7 @@ use Rattle.call_rules.specs.Settings.{secondEdition}
 use Rattle.call_rules.specs.Scratch.{Scratch}
 use Rattle.call_rules.specs.Outcomes.{Outcome}
 use Rattle.pair_rules.specs.Table.{shape, cutPlaces}
-use Rattle.pair_rules.specs.Written.{splitStore, newTables}
+use Rattle.pair_rules.specs.Written.{splitStore}
 use Rattle.pair_rules.specs.Calls.{splitCall}
 use Rattle.pair_after.proofs.Ready.{Ready}
 use Rattle.pair_after.proofs.Resulting.{resulting-table, resulting-reads}
@@ -24,7 +24,6 @@ use Rattle.pair_fits.proofs.AgainUncut.{again-uncut}
 use Rattle.promise_calls.specs.Unchanged.{Octets}
 use Rattle.promise_pairs.specs.Demands.{Splits}
 use Rattle.promise_pairs.specs.Exactly.{MaySplit}
-use Rattle.promise_pairs.specs.Calls.{keptThenNew}
 use Rattle.promise_pairs.proofs.Refusals.{as-many-as-cuts}
 use Rattle.promise_pairs.proofs.GoesAhead.{splits-may, splits-ready, store-written}
 use Rattle.promise_pairs.proofs.AgainNothing.{nothing-to-split}

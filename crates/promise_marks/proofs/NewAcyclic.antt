@@ -1,5 +1,5 @@
 -- A new table cannot be reached from itself: no link leads to it. Assumes nothing.
-use Prim.Native.Nat.{ℕ, _+_, _-_, _*_, _≤_, _<_}
+use Prim.Native.Nat.{ℕ, _+_, _-_, _*_, _<_}
 use mathlib.Core.Path.{_≡_, subst, sym}
 use mathlib.Core.Bool.{false}
 use mathlib.Core.List.{List}
@@ -13,7 +13,7 @@ use Rattle.ot_layouts.specs.MarkBasePos.{own, heads, markSlot, baseSlot}
 use Rattle.store_rules.specs.Store.{Store, Link, linkAt, ofParent, linkedAt}
 use Rattle.store_rules.specs.Reach.{marked, reached, onCycle, Reach}
 use Rattle.store_rules.specs.Appended.{newNumber}
-use Rattle.store_rules.specs.Header.{ownChild, headerLinks}
+use Rattle.store_rules.specs.Header.{headerLinks}
 use Rattle.store_rules.proofs.Reached.{reached-only}
 use Rattle.store_rules.proofs.Lookups.{child-used, linked-used}
 use Rattle.store_rules.proofs.Header.{child-any, header-each, kept-any}
