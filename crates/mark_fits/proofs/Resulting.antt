@@ -1,7 +1,7 @@
 -- The resulting tables, the kept one first: each is the table of its range, and what its classes take is what they took. Assumes nothing.
 use Prim.Native.Nat.{ℕ, suc, _+_, _<_, _≤_}
 use mathlib.Core.Path.{_≡_, sym, ap, subst, _∙_}
-use mathlib.Core.Bool.{true}
+use mathlib.Core.Bool.{true, false}
 use mathlib.Core.List.{List, _∷_}
 use native.Mathlib.Numerals.{add-one}
 use native.Mathlib.Omega.{arith}
@@ -12,6 +12,7 @@ use Rattle.folds.proofs.Moved.{length-map}
 use Rattle.folds.proofs.Parts.{getD-default}
 use Rattle.ot_layouts.specs.MarkBasePos.{baseCoverAt}
 use Rattle.store_rules.specs.Store.{Store, sizeOf, linkedAt}
+use Rattle.store_rules.specs.Reach.{onCycle}
 use Rattle.store_rules.specs.Appended.{newNumber}
 use Rattle.store_rules.proofs.Lookups.{child-used, linked-is}
 use Rattle.cut_rules.proofs.CutPlaces.{loAt}
@@ -27,8 +28,9 @@ use Rattle.promise_marks.proofs.View.{View, view-marks}
 use Rattle.promise_marks.proofs.KeptAndNew.{view-kept, view-new}
 use Rattle.promise_marks.proofs.StaysSound.{sound-then}
 use Rattle.promise_marks.proofs.WrittenAfresh.{view-reads, kept-reads}
-use Rattle.promise_marks.proofs.KeptChecked.{slots-then}
+use Rattle.promise_marks.proofs.KeptChecked.{slots-then, still-acyclic}
 use Rattle.promise_marks.proofs.NewSlots.{new-slots}
+use Rattle.promise_marks.proofs.NewAcyclic.{new-acyclic}
 
 -- object u is the table of range j
 pub record TableOf (s : Store) (t : ℕ) (cs : List ℕ) (u : ℕ) : Type 0 where
@@ -36,7 +38,9 @@ pub record TableOf (s : Store) (t : ℕ) (cs : List ℕ) (u : ℕ) : Type 0 wher
   pub some : j ≤ length cs
   pub view : View s t (splitStore s t cs) u (loAt cs j) (getD cs j (classesOf s t))
   pub reads : Reads (splitStore s t cs) u
+  -- nor does 7 apply to it
   pub slots : AtSlots (splitStore s t cs) u
+  pub acyclic : onCycle (splitStore s t cs) u ≡ false
 
 module _ (s : Store) (t : ℕ) (cs : List ℕ) (g : Ready s t cs) where
   abbrev s′ : Store
@@ -50,6 +54,7 @@ module _ (s : Store) (t : ℕ) (cs : List ℕ) (g : Ready s t cs) where
         view = subst (λ (hi : ℕ). View s t s′ t 0 hi) (sym (getD-default cs 0 (classesOf s t) 0 (g .someCut))) (view-kept s t cs g);
         reads = kept-reads s t cs g;
         slots = slots-then s t cs g;
+        acyclic = still-acyclic s t cs g;
       }
 
   new-table : (j : ℕ) → j < length cs → TableOf s t cs (newNumber s perTable j)
@@ -61,6 +66,7 @@ module _ (s : Store) (t : ℕ) (cs : List ℕ) (g : Ready s t cs) where
         view = subst (λ (k : ℕ). View s t s′ u (getD cs j 0) (getD cs k (classesOf s t))) (add-one j) (view-new s t cs g j l);
         reads = view-reads (view-new s t cs g j l) (g .reads) (sound-then s t cs g) (omega (arith, new-used s t cs g j 0 l (omega arith)));
         slots = new-slots s t cs g j l;
+        acyclic = new-acyclic s t cs g j l;
       }
 
   -- the kept table, and each of the result list

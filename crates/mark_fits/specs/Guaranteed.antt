@@ -26,9 +26,12 @@ FewestCuts s t = (cs : List ℕ) → placesAscend 0 (classesOf s t) cs ≡ true 
 abbrev pub OfResulting : Store → ℕ → List ℕ → (Store → ℕ → Type 0) → Type 0
 OfResulting s t cs P = (u : ℕ) → among u (t ∷ newTables s t cs) ≡ true → P (splitStore s t cs) u
 
--- each resulting table with two or more classes is, together with its parts and all that its anchors reach, at most 65,535 bytes
+-- table u with two or more classes is, together with its parts and all that its anchors reach, at most 65,535 bytes
+abbrev pub MarksFitIn : Store → ℕ → Type 0
+MarksFitIn s u = 2 ≤ classesOf s u → marksTogether s u ≤ 65535
+
 abbrev pub MarksFit : Store → ℕ → List ℕ → Type 0
-MarksFit s t cs = OfResulting s t cs (λ s′ u. 2 ≤ classesOf s′ u → marksTogether s′ u ≤ 65535)
+MarksFit s t cs = OfResulting s t cs MarksFitIn
 
 -- splitting any of the resulting tables again adds nothing: there is no class to cut it at
 abbrev pub AgainUncut : Store → ℕ → List ℕ → Type 0

@@ -1,8 +1,8 @@
 -- What the decision rests on: the checks that need no scratch, whether there is a cycle, and the cut places. Assumes nothing.
 use Prim.Native.Nat.{ℕ, _*_, _≤_, _<_}
 use mathlib.Core.Path.{_≡_, refl, subst, _∙_}
-use mathlib.Core.Bool.{false, cond}
-use mathlib.Core.List.{List}
+use mathlib.Core.Bool.{true, false, cond}
+use mathlib.Core.List.{List, _++_}
 use mathlib.Core.Option.{some, none}
 use native.Mathlib.Omega.{arith}
 use lib.ListN.{length, getD}
@@ -14,20 +14,23 @@ use Rattle.store_rules.proofs.Sound.{size-bytes}
 use Rattle.store_walk.specs.Marks.{Begun}
 use Rattle.store_walk.proofs.Cycles.{begun-whole}
 use Rattle.call_rules.specs.declared.Answer.{Answer}
-use Rattle.call_rules.specs.declared.Answer.the-variants.{BadLinks}
+use Rattle.call_rules.specs.declared.Answer.the-variants.{BadEdition, BadLinks}
+use Rattle.call_rules.specs.declared.Settings.{Settings}
+use Rattle.call_rules.specs.Settings.{known, settingsCases}
 use Rattle.call_rules.specs.Scratch.{Scratch, lengthsOf}
 use Rattle.call_rules.specs.Answers.{number, firstCase}
-use Rattle.call_rules.proofs.Cases.{first-skip}
+use Rattle.call_rules.proofs.Cases.{first-skip, first-stands}
+use Rattle.call_rules.proofs.KnownSettings.{unknown-refused}
 use Rattle.call_rules.proofs.Scratch.{LongEnough, long-enough}
 use Rattle.cut_filling.specs.Filling.{Placed}
 use Rattle.mark_rules.specs.Table.{cutPlaces}
 use Rattle.mark_rules.specs.Calls.{readCases, scratchShort, cutCases}
-use Rattle.mark_rules.proofs.Checks.{reads-no-case}
 use Rattle.mark_checks.specs.declared.MarkTable.{MarkTable}
 use Rattle.mark_checks.specs.declared.Checked.{Checked}
 use Rattle.mark_checks.specs.declared.Checked.the-variants as Checked
 use Rattle.mark_checks.specs.Called.{Passed, Calls}
 use Rattle.mark_checks.proofs.Opened.{opened-fits}
+use Rattle.mark_checks.proofs.Calling.{reads-pass}
 use Rattle.mark_plan.specs.declared.Plan.{Plan}
 use Rattle.mark_plan.specs.declared.Decision.the-variants.{Cut, Settled}
 use Rattle.mark_plan.specs.Cutting.{Looked}
@@ -35,11 +38,18 @@ use Rattle.mark_plan.specs.Decided.{Planned, Decided}
 
 -- ---- the call has its answer
 
-settles : {s : Store} {t : ℕ} {w : Scratch} {a : Answer} {cuts : List ℕ} → firstCase (cutCases s t w) ≡ some (number a) → Decided s t w (Settled a) cuts
+settles : {how : Settings} {s : Store} {t : ℕ} {w : Scratch} {a : Answer} {cuts : List ℕ} → firstCase (cutCases how s t w) ≡ some (number a)
+    → Decided how s t w (Settled a) cuts
 settles e = record { answers = e; plans = λ p x. let z : _≡_ {A = ℕ} 0 1 = cc in absurd (omega arith) }
 
-pub decided-settled : {s : Store} {t : ℕ} (w : Scratch) {x : Checked} {a : Answer} {cuts : List ℕ} → Calls s t (lengthsOf w) x → x ≡ Checked.Settled a → Decided s t w (Settled a) cuts
-decided-settled w {a = a} c y = settles (c .refuses a y w refl)
+pub decided-unknown : {how : Settings} {s : Store} {t : ℕ} {w : Scratch} {cuts : List ℕ} → known how ≡ false → Decided how s t w (Settled BadEdition) cuts
+unfolding cutCases
+decided-unknown {how} {s} {t} h =
+    settles (first-stands (settingsCases how ++ readCases s t) _ 12 (first-stands (settingsCases how) (readCases s t) 12 (unknown-refused how h)))
+
+pub decided-settled : {how : Settings} → known how ≡ true → {s : Store} {t : ℕ} (w : Scratch) {x : Checked} {a : Answer} {cuts : List ℕ}
+    → Calls s t (lengthsOf w) x → x ≡ Checked.Settled a → Decided how s t w (Settled a) cuts
+decided-settled {how} l w {a = a} c y = settles (c .refuses a y how l w refl)
 
 -- ---- the rest of 7, and the cuts
 
@@ -60,18 +70,15 @@ module _ {s : Store} {t : ℕ} (w : Scratch) {p : MarkTable} (k : Passed s t (le
   not-short = rw (← k .opens .glyphs, ← k .opens .classes) (k .long)
 
   -- all but the cycle has been asked
-  last : firstCase (cutCases s t w) ≡ cond (onCycle s t) (some (number BadLinks)) none
+  last : (how : Settings) → known how ≡ true → firstCase (cutCases how s t w) ≡ cond (onCycle s t) (some (number BadLinks)) none
   unfolding cutCases firstCase
-  last = first-skip (readCases s t) _ (reads-no-case s t (k .opens .reads)) ∙ rw (not-short, k .slots)
+  last how l = first-skip (settingsCases how ++ readCases s t) _ (reads-pass (k .opens) how l) ∙ rw (not-short, k .slots)
 
   module _ {z : List ℕ} (d : Begun s t 12 z) where
     tells : ltb 0 (getD z t 0) ≡ onCycle s t
     tells =
         let fits = opened-fits (k .opens) in
         begun-whole fits (can-begin .0) (omega arith) (omega (arith, size-bytes s fits t (can-begin .0), k .opens .reads .exactly)) d
-
-    pub decided-cycle : {cuts : List ℕ} → (getD z t 0 ≡ 0 → ⊥) → Decided s t w (Settled BadLinks) cuts
-    decided-cycle ne = settles (last ∙ rw (← tells, lt-ltb 0 (getD z t 0) (omega arith)))
 
     pub can-cut : Looked s t p z (w .set) (w .glyphs) (w .classes) (w .cuts)
     can-cut =
@@ -85,9 +92,13 @@ module _ {s : Store} {t : ℕ} (w : Scratch) {p : MarkTable} (k : Passed s t (le
           classes = long .classes;
         }
 
-    pub decided-cut : {cuts : List ℕ} {n : ℕ} → getD z t 0 ≡ 0 → Placed (cutPlaces s t) (w .cuts) cuts n → Decided s t w (Cut (record { table = p; cuts = n })) cuts
-    decided-cut {cuts} {n} h x =
-        record {
-          answers = last ∙ rw (← tells, le-ltb 0 (getD z t 0) (omega arith));
-          plans = λ q y. let same : record { table = p; cuts = n } ≡ q = cc in subst (λ (r : Plan). Planned s t w r cuts) same (record { passed = k; placed = x });
-        }
+    module _ {how : Settings} (l : known how ≡ true) {cuts : List ℕ} where
+      pub decided-cycle : (getD z t 0 ≡ 0 → ⊥) → Decided how s t w (Settled BadLinks) cuts
+      decided-cycle ne = settles (last how l ∙ rw (← tells, lt-ltb 0 (getD z t 0) (omega arith)))
+
+      pub decided-cut : {n : ℕ} → getD z t 0 ≡ 0 → Placed (cutPlaces how s t) (w .cuts) cuts n → Decided how s t w (Cut (record { table = p; cuts = n })) cuts
+      decided-cut {n} h x =
+          record {
+            answers = last how l ∙ rw (← tells, le-ltb 0 (getD z t 0) (omega arith));
+            plans = λ q y. let same : record { table = p; cuts = n } ≡ q = cc in subst (λ (r : Plan). Planned how s t w r cuts) same (record { passed = k; placed = x });
+          }

@@ -12,6 +12,7 @@ use Rattle.mark_rules.specs.Table.{classesOf, cutPlaces}
 use Rattle.mark_rules.proofs.NewCounts.{table-cuts}
 use Rattle.mark_rules.specs.Calls.{cutCases, planCases, markPlanCall}
 use Rattle.call_rules.specs.declared.Answer.{Answer}
+use Rattle.call_rules.specs.declared.Settings.{Settings}
 use Rattle.call_rules.specs.Answers.{number}
 use Rattle.call_rules.specs.Scratch.{Scratch, cleared}
 use Rattle.call_rules.specs.Outcomes.{outcome}
@@ -33,20 +34,20 @@ module _ (cuts list : List ℕ) {d : Decision} where
   unfolding handedBy
   out-places p y e = rw y e
 
-module _ (s : Store) (t : ℕ) (w : Scratch) (list : List ℕ) where
-  cuts-are : {cuts : List ℕ} (d : Decision) → Decided s t w d cuts → decidedAs d ≡ none → plannedCuts d cuts ≡ cutPlaces s t
+module _ (how : Settings) (s : Store) (t : ℕ) (w : Scratch) (list : List ℕ) where
+  cuts-are : {cuts : List ℕ} (d : Decision) → Decided how s t w d cuts → decidedAs d ≡ none → plannedCuts d cuts ≡ cutPlaces how s t
   cuts-are (Cut p) x e = placed-front (x .plans p refl .placed)
   cuts-are (Settled a) x e = let z : _≡_ {A = ℕ} 0 1 = cc in absurd (omega arith)
 
-  pub plan-called : {w′ w″ : Scratch} {d : Decision} {cuts list′ : List ℕ} {n k : ℕ} → Decided s t w d cuts
+  pub plan-called : {w′ w″ : Scratch} {d : Decision} {cuts list′ : List ℕ} {n k : ℕ} → Decided how s t w d cuts
       → handed n k list′ ≡ handedBy (decidedAs d) (plannedCuts d cuts) list
-      → SameLengths w w′ → w″ ≡ cleared w′ → outcome n k s list′ w″ ≡ markPlanCall s t w list
+      → SameLengths w w′ → w″ ≡ cleared w′ → outcome n k s list′ w″ ≡ markPlanCall how s t w list
   unfolding markPlanCall planCases
-  plan-called {d = d} x h = leaves-handed (cutCases s t w) (cutPlaces s t) s w list (x .answers) (cuts-are d x) h
+  plan-called {d = d} x h = leaves-handed (cutCases how s t w) (cutPlaces how s t) s w list (x .answers) (cuts-are d x) h
 
 -- the cuts of a plan stand in the scratch, and there are fewer than 65,536
-pub can-hand-out : {s : Store} {t : ℕ} {w : Scratch} {d : Decision} {cuts : List ℕ} → Bytes (s .bytes) → Decided s t w d cuts → HandingOut d cuts
-can-hand-out {s} {t} octets x p y =
+pub can-hand-out : {how : Settings} {s : Store} {t : ℕ} {w : Scratch} {d : Decision} {cuts : List ℕ} → Bytes (s .bytes) → Decided how s t w d cuts → HandingOut d cuts
+can-hand-out {how} {s} {t} octets x p y =
     let o = x .plans p y .passed .opens in
     let z = x .plans p y .placed in
-    (placed-inside z, omega (arith, z .count, few-places (classesOf s t) (cutPlaces s t) (table-cuts s t), o .classes, classes-bits o octets))
+    (placed-inside z, omega (arith, z .count, few-places (classesOf s t) (cutPlaces how s t) (table-cuts how s t), o .classes, classes-bits o octets))

@@ -6,6 +6,7 @@ use mathlib.Core.Option.{Option, some, none}
 use lib.ListN.{length}
 use Rattle.folds.specs.Lists.{part}
 use Rattle.store_rules.specs.Store.{Store}
+use Rattle.call_rules.specs.declared.Settings.{Settings}
 use Rattle.call_rules.specs.Scratch.{Scratch, lengthsOf}
 use Rattle.call_rules.specs.Answers.{number, firstCase}
 use Rattle.cut_filling.specs.Filling.{Placed}
@@ -22,14 +23,14 @@ decidedAs (Cut p) = none
 decidedAs (Settled a) = some (number a)
 
 -- the plan that is to be carried out: the table has passed the checks, and its cuts stand at the front of the scratch
-pub record Planned (s : Store) (t : ℕ) (w : Scratch) (p : Plan) (cuts : List ℕ) : Type 0 where
+pub record Planned (how : Settings) (s : Store) (t : ℕ) (w : Scratch) (p : Plan) (cuts : List ℕ) : Type 0 where
   pub passed : Passed s t (lengthsOf w) (p .table)
-  pub placed : Placed (cutPlaces s t) (w .cuts) cuts (p .cuts)
+  pub placed : Placed (cutPlaces how s t) (w .cuts) cuts (p .cuts)
 
--- the first of the cases 1 to 7 that applies decides; where none does, there is a plan
-pub record Decided (s : Store) (t : ℕ) (w : Scratch) (d : Decision) (cuts : List ℕ) : Type 0 where
-  pub answers : firstCase (cutCases s t w) ≡ decidedAs d
-  pub plans : (p : Plan) → d ≡ Cut p → Planned s t w p cuts
+-- the first of the cases 12, then 1 to 7, that applies decides; where none does, there is a plan
+pub record Decided (how : Settings) (s : Store) (t : ℕ) (w : Scratch) (d : Decision) (cuts : List ℕ) : Type 0 where
+  pub answers : firstCase (cutCases how s t w) ≡ decidedAs d
+  pub plans : (p : Plan) → d ≡ Cut p → Planned how s t w p cuts
 
 -- ---- what a cut plan hands out
 

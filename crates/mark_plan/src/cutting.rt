@@ -39,6 +39,7 @@ pub fn cut_table(
     objects: &[u32],
     links: &[u32],
     counts: [u32; 3],
+    settings: Settings,
     opened: MarkTable,
     walk: &mut [u32],
     glyph_set: &mut [u8],
@@ -53,14 +54,13 @@ pub fn cut_table(
     ensures { λ r. ⌜
         ((t : ℕ)
         → Looked (storeCameWith «data» objects links counts) t opened (came walk) (came «glyph_set») (came glyphs) (came classes) (came cuts)
-        → Placed (cutPlaces (storeCameWith «data» objects links counts) t) (came cuts) (left cuts) r)
+        → Placed (cutPlaces settings (storeCameWith «data» objects links counts) t) (came cuts) (left cuts) r)
         ⌝ }
 {
     let marks = opened.marks;
     let count = marks.count as usize;
     let array = bytes_of(data, objects, marks.object as usize);
     let info = info_of(objects, opened);
-    let settings = Settings { edition: 1 };
     order_places(
         array,
         &mut glyphs[0..count],

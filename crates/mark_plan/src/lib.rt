@@ -5,6 +5,8 @@ pub mod cutting;
 use call_lists::list_places;
 use call_rules::Answer;
 use call_rules::Lengths;
+use call_rules::Settings;
+use call_rules::is_known;
 use call_rules::number_of;
 use call_scratch::clear_scratch;
 use cutting::cut_table;
@@ -13,8 +15,10 @@ use mark_checks::MarkTable;
 use mark_checks::call::check_call;
 use store_walk::begin_walk;
 ghost use mathlib.Core.Path.{_≡_};
+ghost use mathlib.Core.Bool.{true};
 ghost use Rattle.folds.specs.Moments.{came, left};
 ghost use Rattle.store_rules.specs.Moments.{storeCameWith, storeNowWith};
+ghost use Rattle.call_rules.specs.Settings.{known};
 ghost use Rattle.call_rules.specs.Scratch.{lengthsOf};
 ghost use Rattle.call_rules.specs.Moments.{scratchCame, scratchLeft, scratchNow};
 ghost use Rattle.call_rules.specs.Outcomes.{outcome};
@@ -42,6 +46,7 @@ pub fn decide_cuts(
     links: &[u32],
     counts: [u32; 3],
     table: u32,
+    settings: Settings,
     opened: MarkTable,
     walk: &mut [u32],
     glyph_set: &mut [u8],
@@ -49,11 +54,12 @@ pub fn decide_cuts(
     classes: &mut [u16],
     cuts: &mut [u16],
 ) -> Decision
+    requires { ⌜ known settings ≡ true ⌝ }
     requires { ⌜
         Passed (storeNowWith «data» objects links counts) table (lengthsOf (scratchNow walk «glyph_set» glyphs classes cuts)) opened
         ⌝ }
     ensures { λ r. ⌜
-        Decided (storeCameWith «data» objects links counts) table (scratchCame walk «glyph_set» glyphs classes cuts) r (left cuts)
+        Decided settings (storeCameWith «data» objects links counts) table (scratchCame walk «glyph_set» glyphs classes cuts) r (left cuts)
         ⌝ }
 {
     begin_walk(objects, links, counts, table, 12, walk);
@@ -65,6 +71,7 @@ pub fn decide_cuts(
         objects,
         links,
         counts,
+        settings,
         opened,
         walk,
         glyph_set,
@@ -78,13 +85,14 @@ pub fn decide_cuts(
     })
 }
 
-// Decides for a table of any store, with any scratch.
+// Decides for a table of any store, by any settings and with any scratch.
 pub fn decide(
     data: &[u8],
     objects: &[u32],
     links: &[u32],
     counts: [u32; 3],
     table: u32,
+    settings: Settings,
     walk: &mut [u32],
     glyph_set: &mut [u8],
     glyphs: &mut [u16],
@@ -92,9 +100,12 @@ pub fn decide(
     cuts: &mut [u16],
 ) -> Decision
     ensures { λ r. ⌜
-        Decided (storeCameWith «data» objects links counts) table (scratchCame walk «glyph_set» glyphs classes cuts) r (left cuts)
+        Decided settings (storeCameWith «data» objects links counts) table (scratchCame walk «glyph_set» glyphs classes cuts) r (left cuts)
         ⌝ }
 {
+    if !is_known(settings) {
+        return Decision::Settled(Answer::BadEdition);
+    }
     let lengths = Lengths {
         walk: walk.len(),
         glyph_set: glyph_set.len(),
@@ -111,6 +122,7 @@ pub fn decide(
             links,
             counts,
             table,
+            settings,
             opened,
             walk,
             glyph_set,
@@ -147,6 +159,7 @@ pub fn cut_plan_markbasepos(
     links: &[u32],
     counts: [u32; 3],
     table: u32,
+    settings: Settings,
     walk: &mut [u32],
     glyph_set: &mut [u8],
     glyphs: &mut [u16],
@@ -158,7 +171,8 @@ pub fn cut_plan_markbasepos(
     ensures { λ r. ⌜
         outcome r (left «place_count») (storeCameWith «data» objects links counts) (left places)
         (scratchLeft walk «glyph_set» glyphs classes cuts)
-        ≡ markPlanCall (storeCameWith «data» objects links counts) table (scratchCame walk «glyph_set» glyphs classes cuts) (came places)
+        ≡ markPlanCall settings (storeCameWith «data» objects links counts) table (scratchCame walk «glyph_set» glyphs classes cuts)
+        (came places)
         ⌝ }
 {
     let decision = decide(
@@ -167,6 +181,7 @@ pub fn cut_plan_markbasepos(
         links,
         counts,
         table,
+        settings,
         walk,
         glyph_set,
         glyphs,

@@ -8,12 +8,13 @@ use lib.ListN.{length}
 use Rattle.folds.specs.Lists.{part, Bytes}
 use Rattle.folds.proofs.Fronts.{front-long}
 use Rattle.store_rules.specs.Store.{Store}
+use Rattle.call_rules.specs.declared.Settings.{Settings}
 use Rattle.call_rules.specs.Scratch.{Scratch, lengthsOf}
 use Rattle.call_rules.specs.Answers.{firstCase}
 use Rattle.call_rules.proofs.Scratch.{long-enough}
 use Rattle.cut_rules.specs.Places.{Places}
 use Rattle.cut_filling.proofs.Turns.{placed-front}
-use Rattle.mark_rules.specs.Table.{classesOf}
+use Rattle.mark_rules.specs.Table.{classesOf, cutPlaces}
 use Rattle.mark_rules.specs.Calls.{cutCases}
 use Rattle.mark_rules.proofs.NewCounts.{table-cuts}
 use Rattle.mark_checks.proofs.Opened.{marks-are}
@@ -26,9 +27,13 @@ use Rattle.mark_split.specs.Splitting.{Cuttable, PlanReady}
 
 -- ---- as decided
 
-module _ {s : Store} {t : ℕ} {w : Scratch} {d : Decision} {cuts : List ℕ} (x : Decided s t w d cuts) {p : Plan} (y : d ≡ Cut p) where
-  pub none-applies : firstCase (cutCases s t w) ≡ none
+module _ {how : Settings} {s : Store} {t : ℕ} {w : Scratch} {d : Decision} {cuts : List ℕ} (x : Decided how s t w d cuts) {p : Plan} (y : d ≡ Cut p) where
+  pub none-applies : firstCase (cutCases how s t w) ≡ none
   none-applies = x .answers ∙ ap decidedAs y
+
+  -- the plan's cuts are the table's places
+  pub places-planned : part cuts 0 (p .cuts) ≡ cutPlaces how s t
+  places-planned = placed-front (x .plans p y .placed)
 
   pub ready : Bytes (s .bytes) → {set gs ks : List ℕ} → length set ≡ length (w .set) → length gs ≡ length (w .glyphs) → length ks ≡ length (w .classes)
       → PlanReady s t p gs ks set cuts
@@ -39,10 +44,9 @@ module _ {s : Store} {t : ℕ} {w : Scratch} {d : Decision} {cuts : List ℕ} (x
       record {
         opens = k .passed .opens;
         slots = k .passed .slots;
-        count = k .placed .count;
         few = few;
         cut-room = room;
-        places = placed-front (k .placed);
+        places = subst (Places (classesOf s t)) (sym places-planned) (table-cuts how s t);
         glyph-room = omega (arith, long .glyphs);
         class-room = omega (arith, long .classes);
         scratch = omega (arith, long .set);
@@ -60,7 +64,7 @@ module _ {s : Store} {t : ℕ} {p : Plan} {gs ks set cuts : List ℕ} (k : PlanR
         arranging =
             record {
               opens = k .opens;
-              places = subst (Places (classesOf s t)) (sym (k .places)) (table-cuts s t);
+              places = k .places;
               some = let n = front-long cuts (p .cuts) (k .cut-room) in omega arith;
               numbers = front-long gs (p .table .glyphs) (k .glyph-room);
               classes = front-long ks (p .table .marks .count) classes-room;

@@ -6,7 +6,8 @@ use mathlib.Core.List.{List}
 use lib.ListN.{length}
 use Rattle.folds.specs.Lists.{part}
 use Rattle.store_rules.specs.Store.{Store}
-use Rattle.mark_rules.specs.Table.{allAtSlots, cutPlaces}
+use Rattle.cut_rules.specs.Places.{Places}
+use Rattle.mark_rules.specs.Table.{classesOf, allAtSlots}
 use Rattle.mark_rules.specs.Written.{needed, splitStore, newTables}
 use Rattle.call_lists.specs.Split.{CarriedIfRoom}
 use Rattle.mark_checks.specs.declared.MarkTable.{MarkTable}
@@ -23,14 +24,13 @@ pub record Cuttable (s : Store) (t : ℕ) (p : MarkTable) (gs ks set cs : List �
 abbrev pub CutIfRoom : Store → ℕ → List ℕ → List ℕ → Bool → Store → List ℕ → Type 0
 CutIfRoom s t cs list r s′ list′ = CarriedIfRoom s (needed s t cs) (splitStore s t cs) (newTables s t cs) list r s′ list′
 
--- as planned: the plan's cuts, which can be counted, stand at the front of the scratch, and no scratch is too short
+-- as planned: the plan's cuts, any places at which the table can be cut, stand at the front of the scratch and can be counted, and no scratch is too short
 pub record PlanReady (s : Store) (t : ℕ) (p : Plan) (gs ks set cuts : List ℕ) : Type 0 where
   pub opens : Opens s t (p .table)
   pub slots : allAtSlots s t ≡ true
-  pub count : p .cuts ≡ length (cutPlaces s t)
   pub few : p .cuts < 65536
   pub cut-room : p .cuts ≤ length cuts
-  pub places : part cuts 0 (p .cuts) ≡ cutPlaces s t
+  pub places : Places (classesOf s t) (part cuts 0 (p .cuts))
   pub glyph-room : p .table .glyphs ≤ length gs
   pub class-room : p .table .glyphs ≤ length ks
   pub scratch : 8192 ≤ length set

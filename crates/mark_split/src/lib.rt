@@ -7,6 +7,7 @@ pub mod measuring;
 use call_room::is_short;
 use call_rules::Answer;
 use call_rules::Lent;
+use call_rules::Settings;
 use call_rules::number_of;
 use call_scratch::clear_scratch;
 use carrying::carry_out;
@@ -16,6 +17,7 @@ use mark_plan::Plan;
 use mark_plan::decide;
 use measuring::measure_needs;
 ghost use mathlib.Core.Path.{_≡_};
+ghost use Rattle.folds.specs.Lists.{part};
 ghost use Rattle.folds.specs.Moments.{came, left};
 ghost use Rattle.store_rules.specs.Moments.{storeCame, storeLeft, storeNow};
 ghost use Rattle.call_rules.specs.Scratch.{Scratch, cleared};
@@ -107,8 +109,8 @@ fn split_planned(
     ensures { λ r. ⌜
         ((w : Scratch)
         → outcome r (left «new_count») (storeLeft «data» objects links counts) (left «new_tables») (cleared w)
-        ≡ splitUnless (lastCases (storeCame «data» objects links counts) table (came «new_tables»)) (storeCame «data» objects links counts)
-        table w (came «new_tables»))
+        ≡ splitUnless (lastCases (storeCame «data» objects links counts) table (part (came cuts) 0 (plan .cuts)) (came «new_tables»))
+        (storeCame «data» objects links counts) table (part (came cuts) 0 (plan .cuts)) w (came «new_tables»))
         ⌝ }
 {
     *new_count = 0;
@@ -147,6 +149,7 @@ fn split_any(
     links: &mut [u32],
     counts: &mut [u32; 3],
     table: u32,
+    settings: Settings,
     walk: &mut [u32],
     glyph_set: &mut [u8],
     glyphs: &mut [u16],
@@ -158,7 +161,8 @@ fn split_any(
     ensures { λ r. ⌜
         outcome r (left «new_count») (storeLeft «data» objects links counts) (left «new_tables»)
         (cleared (scratchCame walk «glyph_set» glyphs classes cuts))
-        ≡ markSplitCall (storeCame «data» objects links counts) table (scratchCame walk «glyph_set» glyphs classes cuts) (came «new_tables»)
+        ≡ markSplitCall settings (storeCame «data» objects links counts) table (scratchCame walk «glyph_set» glyphs classes cuts)
+        (came «new_tables»)
         ⌝ }
 {
     let decision = decide(
@@ -167,6 +171,7 @@ fn split_any(
         links,
         *counts,
         table,
+        settings,
         walk,
         glyph_set,
         glyphs,
@@ -202,6 +207,7 @@ pub fn split_markbasepos(
     links: &mut [u32],
     counts: &mut [u32; 3],
     table: u32,
+    settings: Settings,
     walk: &mut [u32],
     glyph_set: &mut [u8],
     glyphs: &mut [u16],
@@ -213,7 +219,8 @@ pub fn split_markbasepos(
     ensures { λ r. ⌜
         outcome r (left «new_count») (storeLeft «data» objects links counts) (left «new_tables»)
         (scratchLeft walk «glyph_set» glyphs classes cuts)
-        ≡ markSplitCall (storeCame «data» objects links counts) table (scratchCame walk «glyph_set» glyphs classes cuts) (came «new_tables»)
+        ≡ markSplitCall settings (storeCame «data» objects links counts) table (scratchCame walk «glyph_set» glyphs classes cuts)
+        (came «new_tables»)
         ⌝ }
 {
     let answer = split_any(
@@ -222,6 +229,7 @@ pub fn split_markbasepos(
         links,
         counts,
         table,
+        settings,
         walk,
         glyph_set,
         glyphs,

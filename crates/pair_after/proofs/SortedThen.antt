@@ -47,8 +47,12 @@ module _ (s : Store) (t : ℕ) (cs : List ℕ) (g : Ready s t cs) (sorted : sets
   set-bytes : (q c : ℕ) → childAt s t q ≡ some c → bytesOf (splitStore s t cs) c ≡ bytesOf s c
   set-bytes q c e = other-bytes s t cs g c (child-used s t (g .fit) q c e) (child-other s t (g .fit) (g .acyclic) q c e)
 
+  -- each table of some of its items is sorted then
+  pub table-sorted : {u lo hi : ℕ} → View s t (splitStore s t cs) u lo hi → setsSorted (splitStore s t cs) u ≡ true
+  table-sorted v = view-sorted v set-bytes sorted
+
   pub kept-sorted : setsSorted (splitStore s t cs) t ≡ true
-  kept-sorted = view-sorted (view-kept s t cs g) set-bytes sorted
+  kept-sorted = table-sorted (view-kept s t cs g)
 
   pub new-sorted : (j : ℕ) → j < length cs → setsSorted (splitStore s t cs) (newNumber s (perTable (shape s t)) j) ≡ true
-  new-sorted j l = view-sorted (view-new s t cs g j l) set-bytes sorted
+  new-sorted j l = table-sorted (view-new s t cs g j l)

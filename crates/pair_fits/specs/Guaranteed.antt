@@ -25,13 +25,19 @@ FewestCuts s t = (cs : List ℕ) → placesAscend 0 (shape s t .count) cs ≡ tr
 abbrev pub OfResulting : Store → ℕ → List ℕ → (Store → ℕ → Type 0) → Type 0
 OfResulting s t cs P = (u : ℕ) → among u (t ∷ newTables s t cs) ≡ true → P (splitStore s t cs) u
 
--- format 1: "each resulting table with two or more items, together with its coverage and all that its pair sets reach, is at most 65,535 bytes"
-abbrev pub SetsFit : Store → ℕ → List ℕ → Type 0
-SetsFit s t cs = OfResulting s t cs (λ s′ u. 2 ≤ shape s′ u .count → setsTogether s′ u ≤ 65535)
+-- format 1: table u "with two or more items, together with its coverage and all that its pair sets reach, is at most 65,535 bytes"
+abbrev pub SetsFitIn : Store → ℕ → Type 0
+SetsFitIn s u = 2 ≤ shape s u .count → setsTogether s u ≤ 65535
 
--- format 2, beyond document 02: each with two or more rows is, together with all that its rows reach and with its parts but for the largest
+abbrev pub SetsFit : Store → ℕ → List ℕ → Type 0
+SetsFit s t cs = OfResulting s t cs SetsFitIn
+
+-- format 2, beyond document 02: with two or more rows it is, together with all that its rows reach and with its parts but for the largest
+abbrev pub RowsFitIn : Store → ℕ → Type 0
+RowsFitIn s u = 2 ≤ shape s u .count → rowsTogether s u ≤ 65535
+
 abbrev pub RowsFit : Store → ℕ → List ℕ → Type 0
-RowsFit s t cs = OfResulting s t cs (λ s′ u. 2 ≤ shape s′ u .count → rowsTogether s′ u ≤ 65535)
+RowsFit s t cs = OfResulting s t cs RowsFitIn
 
 -- "in both PairPos formats, splitting any of the resulting tables again, scratch being enough, adds nothing": there is no place to cut it at
 abbrev pub AgainUncut : Store → ℕ → List ℕ → Type 0

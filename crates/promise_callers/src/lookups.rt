@@ -1,4 +1,5 @@
 // What a caller may rely on of new tables entered in lookups.
+ghost use Rattle.call_rules.specs.Settings.{settingsOf};
 ghost use Rattle.call_rules.specs.Outcomes.{outcome};
 ghost use Rattle.promise_lookups.specs.Calls.{LookupKeeps};
 ghost use Rattle.folds.specs.Moments.{came, left};
@@ -14,6 +15,7 @@ pub fn enter(
     counts: &mut [u32; 3],
     list: u32,
     table: u32,
+    edition: u32,
     walk: &mut [u32],
     glyph_set: &mut [u8],
     glyphs: &mut [u16],
@@ -23,7 +25,7 @@ pub fn enter(
     new_count: &mut u32,
 ) -> u32
     ensures { λ r. ⌜
-        LookupKeeps (storeCame «data» objects links counts) list table (scratchCame walk «glyph_set» glyphs classes cuts) (came «new_tables»)
+        LookupKeeps (settingsOf edition) (storeCame «data» objects links counts) list table (scratchCame walk «glyph_set» glyphs classes cuts) (came «new_tables»)
         (outcome r (left «new_count») (storeLeft «data» objects links counts) (left «new_tables»)
         (scratchLeft walk «glyph_set» glyphs classes cuts))
         ⌝ }
@@ -35,6 +37,7 @@ pub fn enter(
         counts,
         list,
         table,
+        edition,
         walk,
         glyph_set,
         glyphs,

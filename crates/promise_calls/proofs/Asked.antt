@@ -1,4 +1,4 @@
--- What the checks from 6 on ask of any call, where none of its cases applies, and the other way round. Assumes nothing.
+-- What 12 and the checks from 6 on ask of any call, where none of its cases applies, and the other way round. Assumes nothing.
 use Prim.Native.Nat.{ℕ, _+_, _<_, _≤_}
 use mathlib.Core.Path.{_≡_, refl, ap, _∙_}
 use mathlib.Core.Bool.{Bool, true, false, not, cond, _||_}
@@ -13,28 +13,34 @@ use Rattle.folds.proofs.Tests.{true-false, or-none}
 use Rattle.store_rules.specs.Store.{Store, objectRoom, byteRoom, linkRoom}
 use Rattle.call_rules.specs.declared.Answer.the-variants.{Done, ShortScratch, BadLinks, NoRoom}
 use Rattle.call_rules.specs.declared.Needs.{Needs}
+use Rattle.call_rules.specs.declared.Settings.{Settings}
 use Rattle.call_rules.specs.Answers.{Case, case, firstCase}
+use Rattle.call_rules.specs.Settings.{known, settingsCases}
 use Rattle.call_rules.specs.Needs.{shortBy, roomShort}
 use Rattle.call_rules.proofs.Cases.{first-append, first-head, first-skip}
+use Rattle.call_rules.proofs.KnownSettings.{known-pass}
 
--- ---- 6 and 7, behind the checks of a reading, and before others
+-- ---- 12, before the checks of a reading; 6 and 7, behind them, and before others
 
-module _ (read : List Case) (short slots loop : Bool) (others : List Case) where
+module _ (how : Settings) (read : List Case) (short slots loop : Bool) (others : List Case) where
   abbrev later : List Case
   later = case ShortScratch short ∷ case BadLinks (not slots || loop) ∷ others
 
-  pub no-case-checks : firstCase (read ++ later) ≡ none
-      → (firstCase read ≡ none) × (short ≡ false) × (slots ≡ true) × (loop ≡ false) × (firstCase others ≡ none)
+  pub no-case-checks : firstCase (settingsCases how ++ read ++ later) ≡ none
+      → (known how ≡ true) × (firstCase read ≡ none) × (short ≡ false) × (slots ≡ true) × (loop ≡ false) × (firstCase others ≡ none)
+  unfolding settingsCases
   no-case-checks h =
-      let (none-read, rest) = first-append read later h in
+      let (front, rest) = first-append (settingsCases how ++ read) later h in
+      let (twelve, none-read) = first-head _ _ front in
       let (six, seven) = first-head _ _ rest in
       let (stands, none-other) = first-head _ _ seven in
       let (at, round) = or-none (not slots) loop stands in
-      (none-read, six, not-false slots at, round, none-other)
+      (not-false (known how) twelve, none-read, six, not-false slots at, round, none-other)
 
-  pub checks-no-case : firstCase read ≡ none → short ≡ false → slots ≡ true → loop ≡ false → firstCase others ≡ none → firstCase (read ++ later) ≡ none
+  pub checks-no-case : known how ≡ true → firstCase read ≡ none → short ≡ false → slots ≡ true → loop ≡ false → firstCase others ≡ none
+      → firstCase (settingsCases how ++ read ++ later) ≡ none
   unfolding firstCase
-  checks-no-case a b c d e = first-skip read later a ∙ rw (b, c, d) e
+  checks-no-case k a b c d e = first-skip (settingsCases how ++ read) later (first-skip (settingsCases how) read (known-pass how k) ∙ a) ∙ rw (b, c, d) e
 
 -- ---- "no cut" and 8, behind these
 

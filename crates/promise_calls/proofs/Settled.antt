@@ -19,6 +19,11 @@ module _ (s : Store) (w : Scratch) (list : List ℕ) where
     unfolding settle
     settled n = record { noneNew = refl; sameStore = refl; sameList = refl; zeroScratch = refl }
 
+    -- and where it is 0, there is nothing to do
+    pub stopped : (c : Option ℕ) → c ≡ some 0 → (settle c s list w o .answer ≡ 0) × Unchanged s w list (settle c s list w o)
+    unfolding settle
+    stopped c e = rw e (refl, settled 0)
+
     -- where going ahead answers 0, another answer leaves everything as it came
     pub refuses : (c : Option ℕ) → o .answer ≡ 0 → (settle c s list w o .answer ≡ 0 → ⊥) → Unchanged s w list (settle c s list w o)
     unfolding settle

@@ -1,4 +1,4 @@
--- Splitting the kept table again, scratch being enough, adds and changes nothing, also where new tables were entered. Assumes nothing.
+-- Splitting the kept table again under the same settings, scratch being enough, adds and changes nothing, also where new tables were entered. Assumes nothing.
 use Prim.Native.Nat.{ℕ, _+_, _-_, _<_, _≤_}
 use mathlib.Core.Path.{_≡_, refl, sym, ap, subst, _∙_}
 use mathlib.Core.Bool.{true}
@@ -31,15 +31,13 @@ use Rattle.promise_pairs.specs.Exactly.{Checked}
 use Rattle.promise_pairs.proofs.WrittenAfresh.{kept-reads}
 use Rattle.pair_after.proofs.SortedThen.{kept-sorted}
 use Rattle.pair_after.proofs.SameReach.{at-slots, still-acyclic}
-use Rattle.promise_pairs.proofs.GoesAhead.{splits-sorted}
 use Rattle.pair_after.proofs.SplitLinks.{NewOrOwn, row-leads}
 use Rattle.promise_pairs.proofs.AgainNothing.{nothing-to-split}
-use Rattle.call_rules.specs.Settings.{firstEdition}
 use Rattle.pair_after.proofs.KeptUncut.{kept-uncut}
 use Rattle.promise_lookups.specs.Demands.{AgainNoEntry}
-use Rattle.promise_lookups.proofs.Answered.{store-entered}
+use Rattle.promise_lookups.proofs.Answered.{enters-may, store-entered}
 use Rattle.lookup_after.proofs.Entering.{Entering}
-use Rattle.promise_lookups.proofs.GoesAhead.{entering, splits}
+use Rattle.promise_lookups.proofs.GoesAhead.{entering}
 use Rattle.lookup_after.proofs.NewLookups.{more, unled, links, links-are, fit′, used-then, split-head, split-tail, split-bytes}
 use Rattle.promise_lookups.proofs.StaysSound.{fits-entered}
 use Rattle.promise_lookups.proofs.Kept.{not-rewritten, table-child, around-table, kept-table}
@@ -133,21 +131,22 @@ module _ (s : Store) (l t : ℕ) (cs : List ℕ) (e : Entering s l t cs) where
 
 -- "Splitting the kept table again adds and changes nothing", scratch being enough
 pub again-no-entry : AgainNoEntry
-again-no-entry s l t w list octets p v list′ =
-    let cs = cutPlaces s t in
-    let e = entering s l t w list p in
+again-no-entry how s l t w list octets p v list′ =
+    let cs = cutPlaces how s t in
+    let e = entering how s l t w list p in
     let g = e .ready in
     let x = extends s l t cs e in
-    let pairs = reads-then s l t cs e octets (splits-sorted s t w list (splits s l t w list p)) in
-    rw (store-entered s l t w list p)
+    let before = enters-may how s l t w list p .checked in
+    let pairs = reads-then s l t cs e octets (before .sorted) in
+    rw (store-entered how s l t w list p)
     (λ h.
-    let checked : Checked (lookupStore s l t cs) t v
+    let checked : Checked how (lookupStore s l t cs) t v
     = record {
+      known = before .known;
       reads = pairs .reads;
       scratch = h;
       atSlots = slots-same x (at-slots s t cs g);
       acyclic = acyclic-same x (still-acyclic s t cs g);
       sorted = pairs .sorted;
     } in
-    let o = nothing-to-split (lookupStore s l t cs) t v list′ checked (cuts-same x ∙ kept-uncut firstEdition s t cs g refl) in
-    rw o (refl, record { noneNew = refl; sameStore = refl; sameList = refl; zeroScratch = refl }))
+    nothing-to-split how (lookupStore s l t cs) t v list′ checked (cuts-same x how ∙ kept-uncut how s t cs g refl))

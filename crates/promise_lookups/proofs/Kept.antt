@@ -15,6 +15,7 @@ use Rattle.store_rules.specs.Store.{Store, bytesOf, childAt}
 use Rattle.store_rules.specs.Appended.{newNumber}
 use Rattle.store_rules.proofs.Lookups.{mapped, child-used}
 use Rattle.store_rules.proofs.Ways.{Way, way-child, way-on}
+use Rattle.call_rules.specs.declared.Settings.{Settings}
 use Rattle.pair_rules.specs.Table.{shape, cutPlaces}
 use Rattle.pair_rules.specs.Written.{newTables, perTable, splitStore}
 use Rattle.pair_rules.proofs.NewCounts.{per-two}
@@ -117,45 +118,45 @@ module _ (s : Store) (l t : ℕ) (cs : List ℕ) (e : Entering s l t cs) where
 -- ---- the demands
 
 -- a link, as the demands say where it leads then
-lead-then : (s : Store) (l t : ℕ) (o : Option ℕ) → mapped (numberThen s l t) o ≡ leadThen s l t o
-lead-then s l t (some c) = refl
-lead-then s l t none = refl
+lead-then : (how : Settings) (s : Store) (l t : ℕ) (o : Option ℕ) → mapped (numberThen how s l t) o ≡ leadThen how s l t o
+lead-then how s l t (some c) = refl
+lead-then how s l t none = refl
 
 pub others-redirected : OthersRedirected
-others-redirected s l t w list p i h ne =
-    let cs = cutPlaces s t in
-    let e = entering s l t w list p in
+others-redirected how s l t w list p i h ne =
+    let cs = cutPlaces how s t in
+    let e = entering how s l t w list p in
     let k : i < splitStore s t cs .objectCount = omega (arith, old-used s l t cs e) in
-    rw (store-entered s l t w list p) (
+    rw (store-entered how s l t w list p) (
       split-head s l t cs e i k ∙ split.old-head s t cs (e .ready) i h,
       split-tail s l t cs e i k ∙ split.other-tail s t cs (e .ready) i h ne,
       other-bytes s l t cs e i h ne,
-      λ q. other-child s l t cs e i q h ne ∙ lead-then s l t (childAt s i q),
+      λ q. other-child s l t cs e i q h ne ∙ lead-then how s l t (childAt s i q),
     )
 
 pub objects-as-split : ObjectsAsSplit
-objects-as-split s l t w list p i h =
-    let cs = cutPlaces s t in
-    let e = entering s l t w list p in
-    rw (store-entered s l t w list p) (split-head s l t cs e i h, split-tail s l t cs e i h, split-bytes s l t cs e i h)
+objects-as-split how s l t w list p i h =
+    let cs = cutPlaces how s t in
+    let e = entering how s l t w list p in
+    rw (store-entered how s l t w list p) (split-head s l t cs e i h, split-tail s l t cs e i h, split-bytes s l t cs e i h)
 
 pub tables-as-split : TablesAsSplit
-tables-as-split s l t w list p u h =
-    let cs = cutPlaces s t in
-    let e = entering s l t w list p in
+tables-as-split how s l t w list p u h =
+    let cs = cutPlaces how s t in
+    let e = entering how s l t w list p in
     let (k, d) = each-among (OneOfTables s l t cs e) (t ∷ newTables s t cs) u (tables-are s l t cs e) h in
-    rw (store-entered s l t w list p) (split-bytes s l t cs e u k, λ q. table-child s l t cs e u q k d)
+    rw (store-entered how s l t w list p) (split-bytes s l t cs e u k, λ q. table-child s l t cs e u q k d)
 
 pub lookups-written : LookupsWritten
-lookups-written s l t w list p m h =
-    let cs = cutPlaces s t in
-    let e = entering s l t w list p in
-    let slots : List (Option ℕ) = newSlots s t (tablesNew s t) (getD (rewritten s l t) m 0) in
-    rw (store-entered s l t w list p)
-    (lookup-bytes s l t cs e m h, lookup-slots s l t cs e m h ∙ (λ i. map (λ (o : Option ℕ). lead-then s l t o i) slots))
+lookups-written how s l t w list p m h =
+    let cs = cutPlaces how s t in
+    let e = entering how s l t w list p in
+    let slots : List (Option ℕ) = newSlots s t (tablesNew how s t) (getD (rewritten s l t) m 0) in
+    rw (store-entered how s l t w list p)
+    (lookup-bytes s l t cs e m h, lookup-slots s l t cs e m h ∙ (λ i. map (λ (o : Option ℕ). lead-then how s l t o i) slots))
 
 pub list-leads-on : ListLeads
-list-leads-on s l t w list p =
-    let e = entering s l t w list p in
-    let (a, b, c, d) = others-redirected s l t w list p l (e .used) (list-other s l t (e .fine) (e .ready .fit) (e .ready .reads)) in
+list-leads-on how s l t w list p =
+    let e = entering how s l t w list p in
+    let (a, b, c, d) = others-redirected how s l t w list p l (e .used) (list-other s l t (e .fine) (e .ready .fit) (e .ready .reads)) in
     (c, d)

@@ -21,6 +21,7 @@ use Rattle.ot_layouts.specs.Lookup.{lookupType, pairType, subtableCount, lookup
 use Rattle.store_rules.specs.Store.{Store, bytesOf, childAt}
 use Rattle.store_rules.proofs.Lookups.{mapped, child-used}
 use Rattle.store_rules.proofs.Ways.{way-child}
+use Rattle.call_rules.specs.declared.Settings.{Settings}
 use Rattle.call_rules.specs.Scratch.{Scratch}
 use Rattle.pair_rules.specs.Table.{cutPlaces}
 use Rattle.pair_rules.specs.Written.{newTables, splitStore}
@@ -78,13 +79,13 @@ map-same f [] h = refl
 map-same f (x ∷ xs) h = ap₂ (λ (y : ℕ) (ys : List ℕ). y ∷ ys) (h .0) (map-same f xs (h .1))
 
 -- the kept table and the new ones together have the old table's pairs
-split-pairs : (s : Store) (t : ℕ) (w : Scratch) (list : List ℕ) → Octets s → Splits s t w list → (a b : ℕ)
-    → readInOrder (splitStore s t (cutPlaces s t)) (resulting s t) a b ≡ pairCall s t a b
-split-pairs s t w list octets p a b =
-    let (old, each) = readings-kept s t w list octets p a b in
-    ap (λ (x : Store). readInOrder x (resulting s t) a b) (sym (store-written s t w list p))
-    ∙ read-among (storeThen s t w list) a b (resulting s t) each
-    ∙ ap (reported 0) (pairs-kept s t w list p a b .0)
+split-pairs : (how : Settings) (s : Store) (t : ℕ) (w : Scratch) (list : List ℕ) → Octets s → Splits how s t w list → (a b : ℕ)
+    → readInOrder (splitStore s t (cutPlaces how s t)) (resulting how s t) a b ≡ pairCall s t a b
+split-pairs how s t w list octets p a b =
+    let (old, each) = readings-kept how s t w list octets p a b in
+    ap (λ (x : Store). readInOrder x (resulting how s t) a b) (sym (store-written how s t w list p))
+    ∙ read-among (storeThen how s t w list) a b (resulting how s t) each
+    ∙ ap (reported 0) (pairs-kept how s t w list p a b .0)
     ∙ sym old
 
 module _ (s : Store) (l t : ℕ) (cs : List ℕ) (e : Entering s l t cs) where
@@ -247,10 +248,10 @@ module _ (s : Store) (l t : ℕ) (cs : List ℕ) (e : Entering s l t cs) where
 
 -- "applying a type 2 lookup of the list, as the list now leads to it, to any pair gives what it gave before"
 pub lookups-kept : LookupsKept
-lookups-kept s l t w list octets enters q p lead two reads noOther =
-    let cs = cutPlaces s t in
-    let e = entering s l t w list enters in
+lookups-kept how s l t w list octets enters q p lead two reads noOther =
+    let cs = cutPlaces how s t in
+    let e = entering how s l t w list enters in
     let among-list = list-leads s l t (e .fine) q p lead in
     let listed = each-listed s l t (e .fine) (e .ready .fit) (e .ready .reads) p among-list in
-    rw (store-entered s l t w list enters)
-    (lookup-kept s l t cs e p listed noOther q lead among-list two (split-pairs s t w list octets (splits s l t w list enters)))
+    rw (store-entered how s l t w list enters)
+    (lookup-kept s l t cs e p listed noOther q lead among-list two (split-pairs how s t w list octets (splits how s l t w list enters)))

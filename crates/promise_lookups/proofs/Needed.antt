@@ -19,6 +19,8 @@ use Rattle.folds.proofs.Bytes.{bytes-append, bytes-zeros}
 use Rattle.ot_layouts.specs.Numbers.{words, be16}
 use Rattle.ot_layouts.specs.Lookup.{lookupType, pairType}
 use Rattle.store_rules.specs.Store.{Store, bytesOf, childAt}
+use Rattle.call_rules.specs.declared.Settings.{Settings}
+use Rattle.call_rules.specs.Settings.{firstEdition}
 use Rattle.call_rules.specs.Scratch.{Scratch, scratchOf}
 use Rattle.call_rules.specs.Answers.{firstCase}
 use Rattle.call_rules.specs.Outcomes.{Outcome}
@@ -68,7 +70,7 @@ seen p o = (some (o .answer) ∷ some (o .count) ∷ childAt (o .store) 2 2 ∷ 
 
 -- the device was 3, numbered 4; it is the new lookup 11, numbered 12
 turned-seen :
-    seen 11 (lookupCall turned 2 0 scratch (0 ∷ []))
+    seen 11 (lookupCall firstEdition turned 2 0 scratch (0 ∷ []))
     ≡ (some 0 ∷ some 1 ∷ some 11 ∷ [], pos 0 ∷ pos 0 ∷ pos 0 ∷ pos 0 ∷ pos 12 ∷ replicate 11 (pos 0))
 unfolding turned front scratch computes seen
 turned-seen = refl
@@ -80,12 +82,12 @@ unfolding turned front computes
 turned-before = (refl, refl, refl, refl)
 
 -- the call enters a table
-turned-enters : Enters turned 2 0 scratch (0 ∷ [])
+turned-enters : Enters firstEdition turned 2 0 scratch (0 ∷ [])
 unfolding seen
 turned-enters =
     let e = ap (λ (x : List (Option ℕ) × List ℤ). x .0) turned-seen in
-    let answer : lookupCall turned 2 0 scratch (0 ∷ []) .answer ≡ 0 = cc in
-    let count : lookupCall turned 2 0 scratch (0 ∷ []) .count ≡ 1 = cc in
+    let answer : lookupCall firstEdition turned 2 0 scratch (0 ∷ []) .answer ≡ 0 = cc in
+    let count : lookupCall firstEdition turned 2 0 scratch (0 ∷ []) .count ≡ 1 = cc in
     record { answers = answer; cuts = omega arith }
 
 -- both subtables are read without refusal
@@ -111,19 +113,19 @@ turned-reaches = refl
 
 -- without the second condition the promise does not hold
 pub not-without-reach :
-    ((s : Store) (l t : ℕ) (w : Scratch) (list : List ℕ) → Octets s → Enters s l t w list
+    ((how : Settings) (s : Store) (l t : ℕ) (w : Scratch) (list : List ℕ) → Octets s → Enters how s l t w list
     → (q p : ℕ) → childAt s l q ≡ some p → lookupType (bytesOf s p) ≡ pairType → AllRead s p
-    → (p′ : ℕ) × (childAt (storeEntered s l t w list) l q ≡ some p′) × ((a b : ℕ) → applied (storeEntered s l t w list) p′ a b ≡ applied s p a b)) → ⊥
+    → (p′ : ℕ) × (childAt (storeEntered how s l t w list) l q ≡ some p′) × ((a b : ℕ) → applied (storeEntered how s l t w list) p′ a b ≡ applied s p a b)) → ⊥
 unfolding seen
 not-without-reach h =
     let (values, lead, two, lists) = turned-before in
-    let (p′, leads, gives) = h turned 2 0 scratch (0 ∷ []) turned-octets turned-enters 2 3 lead two turned-all in
+    let (p′, leads, gives) = h firstEdition turned 2 0 scratch (0 ∷ []) turned-octets turned-enters 2 3 lead two turned-all in
     let e = ap (λ (x : List (Option ℕ) × List ℤ). x .0) turned-seen in
-    let at : childAt (storeEntered turned 2 0 scratch (0 ∷ [])) 2 2 ≡ some 11 = cc in
+    let at : childAt (storeEntered firstEdition turned 2 0 scratch (0 ∷ [])) 2 2 ≡ some 11 = cc in
     let z : p′ ≡ 11 = cc in
-    let new : applied (storeEntered turned 2 0 scratch (0 ∷ [])) 11 10 5 .values ≡ pos 0 ∷ pos 0 ∷ pos 0 ∷ pos 0 ∷ pos 12 ∷ replicate 11 (pos 0)
+    let new : applied (storeEntered firstEdition turned 2 0 scratch (0 ∷ [])) 11 10 5 .values ≡ pos 0 ∷ pos 0 ∷ pos 0 ∷ pos 0 ∷ pos 12 ∷ replicate 11 (pos 0)
     = ap (λ (x : List (Option ℕ) × List ℤ). x .1) turned-seen in
-    let old : applied (storeEntered turned 2 0 scratch (0 ∷ [])) 11 10 5 .values ≡ applied turned 3 10 5 .values
-    = ap (λ (n : ℕ). applied (storeEntered turned 2 0 scratch (0 ∷ [])) n 10 5 .values) (sym z) ∙ ap (λ (o : PairOutcome). o .values) (gives 10 5) in
+    let old : applied (storeEntered firstEdition turned 2 0 scratch (0 ∷ [])) 11 10 5 .values ≡ applied turned 3 10 5 .values
+    = ap (λ (n : ℕ). applied (storeEntered firstEdition turned 2 0 scratch (0 ∷ [])) n 10 5 .values) (sym z) ∙ ap (λ (o : PairOutcome). o .values) (gives 10 5) in
     let y : _≡_ {A = ℕ} 4 12 = cc in
     omega arith

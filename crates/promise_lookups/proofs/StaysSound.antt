@@ -190,27 +190,27 @@ module _ (s : Store) (l t : ℕ) (cs : List ℕ) (e : Entering s l t cs) where
 
 -- the store at exit is one that may be lent again
 pub stays-sound-entered : StaysSoundEntered
-stays-sound-entered s l t w list p = rw (store-entered s l t w list p) (sound-entered s l t (cutPlaces s t) (entering s l t w list p))
+stays-sound-entered how s l t w list p = rw (store-entered how s l t w list p) (sound-entered s l t (cutPlaces how s t) (entering how s l t w list p))
 
 -- and its data stay bytes
 pub stays-octets-entered : StaysOctetsEntered
-stays-octets-entered s l t w list h p =
-    let split = splits s l t w list p in
-    rw (store-entered s l t w list p)
-    (octets-entered s l t (cutPlaces s t) (entering s l t w list p) h (rw (store-written s t w list split) at (stays-octets s t w list h split)))
+stays-octets-entered how s l t w list h p =
+    let split = splits how s l t w list p in
+    rw (store-entered how s l t w list p)
+    (octets-entered s l t (cutPlaces how s t) (entering how s l t w list p) h (rw (store-written how s t w list split) at (stays-octets how s t w list h split)))
 
 -- what it takes is what 8 asked for
 pub enters-as-needed : EntersAsNeeded
 unfolding neededInAll needed needsOf needObjects lookupsNeed
-enters-as-needed s l t w list p =
-    let cs = cutPlaces s t in
-    let e = entering s l t w list p in
+enters-as-needed how s l t w list p =
+    let cs = cutPlaces how s t in
+    let e = entering how s l t w list p in
     let objects = used-then s l t cs e in
     let rows : lookupStore s l t cs .linkCount ≡ length (links s l t cs e)
     = ap (λ (x : Store). x .linkCount) (s″-is s l t cs e) ∙ behind.links-count (splitStore s t cs) (new s l t cs e) (links s l t cs e) in
     let bytes : lookupStore s l t cs .byteCount ≡ splitStore s t cs .byteCount + length (join (new s l t cs e))
     = ap (λ (x : Store). x .byteCount) (s″-is s l t cs e) ∙ behind.bytes-then (splitStore s t cs) (new s l t cs e) (links s l t cs e) in
-    rw (store-entered s l t w list p) (
+    rw (store-entered how s l t w list p) (
       omega (arith, objects, objects-then s t cs (e .ready), many-new s t cs (e .ready)),
       omega (arith, rows, many-links s l t cs e),
       omega (arith, bytes, bytes-then s t cs (e .ready)),

@@ -71,8 +71,8 @@ module _ (s : Store) (l t : ℕ) (cs : List ℕ) (e : Entering s l t cs) where
 
 -- "Each table with its own parts is what writing its range afresh would give."
 pub entered-afresh : EnteredAfresh
-entered-afresh s l t w list octets p =
-    let cs = cutPlaces s t in
-    let split = splits s l t w list p in
-    rw (store-entered s l t w list p)
-    (all-then s l t cs (entering s l t w list p) (rw (store-written s t w list split) at (written-afresh s t w list octets split)))
+entered-afresh how s l t w list octets p =
+    let cs = cutPlaces how s t in
+    let split = splits how s l t w list p in
+    rw (store-entered how s l t w list p)
+    (all-then s l t cs (entering how s l t w list p) (rw (store-written how s t w list split) at (written-afresh how s t w list octets split)))

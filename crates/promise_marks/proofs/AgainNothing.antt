@@ -1,9 +1,8 @@
--- Splitting the kept table again, scratch being enough, adds and changes nothing. Assumes nothing.
+-- Splitting the kept table again under the same settings, scratch being enough, adds and changes nothing. Assumes nothing.
 use Prim.Native.Nat.{ℕ, _+_, _-_, _<_, _≤_}
 use mathlib.Core.Path.{_≡_, refl, sym, ap, subst, _∙_}
 use mathlib.Core.Bool.{cond}
 use mathlib.Core.List.{List, []}
-use mathlib.Core.Option.{Option}
 use native.Mathlib.Omega.{arith}
 use lib.ListN.{length}
 use lib.Dec.{leb}
@@ -13,20 +12,22 @@ use Rattle.store_rules.specs.Store.{Store, sizeOf, linkedAt}
 use Rattle.store_rules.proofs.Lookups.{child-used, linked-is}
 use Rattle.cut_rules.specs.Ranges.{from}
 use Rattle.cut_rules.proofs.FirstCut.{none-before, cuts-none}
-use Rattle.call_rules.specs.Settings.{firstEdition}
-use Rattle.call_rules.specs.Scratch.{Scratch, cleared}
-use Rattle.call_rules.specs.Outcomes.{outcome, settle}
+use Rattle.call_rules.specs.declared.Settings.{Settings}
+use Rattle.call_rules.specs.Answers.{firstCase}
+use Rattle.call_rules.specs.Scratch.{Scratch}
 use Rattle.mark_rules.specs.Rules.{markRule, partialCover}
-use Rattle.mark_rules.specs.Table.{Mark, marksOf, marksOfClass, marksWithin, ruleOf, cutsBy, cutPlaces}
+use Rattle.mark_rules.specs.Table.{Mark, marksOf, marksOfClass, marksWithin, ruleOf, cutPlaces}
 use Rattle.mark_rules.specs.Written.{needed, splitStore}
 use Rattle.mark_rules.specs.Calls.{cutCases, lastCases, splitCases, markSplitCall}
 use Rattle.mark_rules.proofs.Checks.{slots-at}
 use Rattle.mark_rules.proofs.Marks.{reduced-none, within-within}
+use Rattle.promise_calls.specs.Unchanged.{Unchanged}
+use Rattle.promise_calls.proofs.Settled.{stopped}
 use Rattle.promise_calls.proofs.Asked.{no-cut-case}
 use Rattle.promise_marks.specs.Demands.{AgainNothing}
 use Rattle.promise_marks.specs.Exactly.{Checked}
 use Rattle.promise_marks.proofs.Exactly.{checked-no-case}
-use Rattle.promise_marks.proofs.Ready.{Ready, first-cut, splitAhead, splits-ready, store-written}
+use Rattle.promise_marks.proofs.Ready.{Ready, first-cut, splitAhead, splits-may, splits-ready, store-written}
 use Rattle.promise_marks.proofs.NewBytes.{old-size}
 use Rattle.promise_marks.proofs.View.{View, view-marks, view-bases}
 use Rattle.promise_marks.proofs.KeptAndNew.{view-kept, count-kept}
@@ -36,12 +37,13 @@ use Rattle.promise_marks.proofs.SameReach.{size-same}
 
 -- ---- a call that finds nothing to split
 
-nothing-to-split : (s : Store) (t : ℕ) (w : Scratch) (list : List ℕ) → Checked s t w → cutPlaces s t ≡ []
-    → markSplitCall s t w list ≡ outcome 0 0 s list (cleared w)
-unfolding markSplitCall settle splitCases lastCases
-nothing-to-split s t w list c none-cut =
-    ap (λ (o : Option ℕ). settle o s list w (splitAhead s t w list))
-    (no-cut-case (cutCases s t w) (cutPlaces s t) s list (needed s t (cutPlaces s t)) (checked-no-case s t w c) none-cut)
+pub nothing-to-split : (how : Settings) (s : Store) (t : ℕ) (w : Scratch) (list : List ℕ) → Checked how s t w → cutPlaces how s t ≡ []
+    → (markSplitCall how s t w list .answer ≡ 0) × Unchanged s w list (markSplitCall how s t w list)
+unfolding markSplitCall splitCases lastCases
+nothing-to-split how s t w list checked none-cut =
+    let cs = cutPlaces how s t in
+    stopped s w list (splitAhead how s t w list) (firstCase (splitCases how s t w list))
+    (no-cut-case (cutCases how s t w) cs s list (needed s t cs) (checked-no-case how s t w checked) none-cut)
 
 -- ---- the kept table as the rule sees it
 
@@ -78,11 +80,11 @@ module _ (s : Store) (t : ℕ) (cs : List ℕ) (g : Ready s t cs) where
       ∙ ap (sizeOf s) (sym (linked-is s t baseCoverAt c f))
 
   -- so a rule that cuts the table at cs cuts it no more
-  no-cut : cs ≡ cutPlaces s t → cutPlaces s′ t ≡ []
-  unfolding cutsBy ruleOf markRule
-  no-cut is-cut =
-      cuts-none (ruleOf firstEdition s t) (ruleOf firstEdition s′ t) p0
-      (λ k h. none-before (ruleOf firstEdition s t) k (omega (arith, first-cut s t cs g)) (subst (λ (x : List ℕ). k ≤ from x 0) is-cut h))
+  no-cut : (how : Settings) → cs ≡ cutPlaces how s t → cutPlaces how s′ t ≡ []
+  unfolding cutPlaces ruleOf markRule
+  no-cut how is-cut =
+      cuts-none (ruleOf how s t) (ruleOf how s′ t) p0
+      (λ k h. none-before (ruleOf how s t) k (omega (arith, first-cut s t cs g)) (subst (λ (x : List ℕ). k ≤ from x 0) is-cut h))
       refl
       (ap (λ (n : ℕ). 16 + n) base-same)
       (λ i h. refl)
@@ -90,14 +92,19 @@ module _ (s : Store) (t : ℕ) (cs : List ℕ) (g : Ready s t cs) where
       (λ i h. omega (arith, partial-same i h))
       (count-kept s t cs g ∙ omega arith)
 
--- splitting the kept table again, scratch being enough, adds and changes nothing
+-- "Splitting the kept table again adds and changes nothing", scratch being enough
 pub again-nothing : AgainNothing
-again-nothing s t w list p v list′ =
-    let cs = cutPlaces s t in
-    let (g, e) = splits-ready s t w list p in
-    rw (store-written s t w list p)
+again-nothing how s t w list p v list′ =
+    let cs = cutPlaces how s t in
+    let (g, e) = splits-ready how s t w list p in
+    rw (store-written how s t w list p)
     (λ h.
-    let checked : Checked (splitStore s t cs) t v
-    = record { reads = kept-reads s t cs g; scratch = h; atSlots = slots-at (splitStore s t cs) t (slots-then s t cs g); acyclic = still-acyclic s t cs g } in
-    let o = nothing-to-split (splitStore s t cs) t v list′ checked (no-cut s t cs g refl) in
-    rw o (refl, record { noneNew = refl; sameStore = refl; sameList = refl; zeroScratch = refl }))
+    let checked : Checked how (splitStore s t cs) t v
+    = record {
+      known = splits-may how s t w list p .checked .known;
+      reads = kept-reads s t cs g;
+      scratch = h;
+      atSlots = slots-at (splitStore s t cs) t (slots-then s t cs g);
+      acyclic = still-acyclic s t cs g;
+    } in
+    nothing-to-split how (splitStore s t cs) t v list′ checked (no-cut s t cs g how refl))

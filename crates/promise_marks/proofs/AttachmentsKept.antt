@@ -141,17 +141,17 @@ module _ (s : Store) (t : ℕ) (cs : List ℕ) (g : Ready s t cs) where
 
 -- "reading the kept table and then the new ones in order" gives the anchor objects that the old table gave, or none
 pub attachments-kept : AttachmentsKept
-attachments-kept s t w list p x y =
-    let cs = cutPlaces s t in
-    let (g, e) = splits-ready s t w list p in
-    rw (store-written s t w list p) (all-kept s t cs g x y, λ k m h l ne. one-only s t cs g x y k m h (omega (arith, many-tables s t cs g)) ne)
+attachments-kept how s t w list p x y =
+    let cs = cutPlaces how s t in
+    let (g, e) = splits-ready how s t w list p in
+    rw (store-written how s t w list p) (all-kept s t cs g x y, λ k m h l ne. one-only s t cs g x y k m h (omega (arith, many-tables s t cs g)) ne)
 
 -- the reading takes the old table and each resulting one
 pub readings-kept : ReadingsKept
-readings-kept s t w list p m b =
-    let cs = cutPlaces s t in
-    let (g, e) = splits-ready s t w list p in
-    rw (store-written s t w list p) (
+readings-kept how s t w list p m b =
+    let cs = cutPlaces how s t in
+    let (g, e) = splits-ready how s t w list p in
+    rw (store-written how s t w list p) (
       may-mark s t m b (g .reads),
       λ i l. may-mark (splitStore s t cs) (getD (tables s t cs g) i 0) m b (each-reads s t cs g i (omega (arith, many-tables s t cs g))),
     )

@@ -15,6 +15,7 @@ pub mod Rows
 pub mod SameAnchors
 pub mod KeptChecked
 pub mod NewSlots
+pub mod NewAcyclic
 pub mod SameReach
 pub mod AgainNothing
 pub mod StaysOctets

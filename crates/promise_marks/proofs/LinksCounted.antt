@@ -16,7 +16,7 @@ many-links s t cs g = Counts.many-links s t cs (g .cuts) (g .someCut) (g .reads)
 
 pub takes-needed : TakesNeeded
 unfolding splitStore keptTable withBytes appended needObjects
-takes-needed s t w list p =
-    let cs = cutPlaces s t in
-    let (g, e) = splits-ready s t w list p in
-    rw (store-written s t w list p) (ap (λ (k : ℕ). s .objectCount + k) (many-new s t cs g), many-links s t cs g, refl)
+takes-needed how s t w list p =
+    let cs = cutPlaces how s t in
+    let (g, e) = splits-ready how s t w list p in
+    rw (store-written how s t w list p) (ap (λ (k : ℕ). s .objectCount + k) (many-new s t cs g), many-links s t cs g, refl)

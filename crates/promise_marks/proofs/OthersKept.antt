@@ -7,8 +7,8 @@ use Rattle.promise_marks.proofs.NewLinks.{others-child}
 
 -- "Every other old object keeps its bytes and links."
 pub others-kept : OthersKept
-others-kept s t w list p i h ne =
-    let cs = cutPlaces s t in
-    let (g, e) = splits-ready s t w list p in
-    rw (store-written s t w list p)
+others-kept how s t w list p i h ne =
+    let cs = cutPlaces how s t in
+    let (g, e) = splits-ready how s t w list p in
+    rw (store-written how s t w list p)
     (old-head s t cs g i h, old-tail s t cs g i h, others-bytes s t cs g i h ne, (λ q. others-child s t cs g i q h ne))

@@ -3,7 +3,7 @@ use Prim.Native.Nat.{ℕ, _+_, _*_, _<_, _≤_}
 use mathlib.Core.Path.{_≡_, sym, ap, _∙_}
 use mathlib.Core.Bool.{false}
 use mathlib.Core.List.{List}
-use mathlib.Core.Option.{Option}
+use mathlib.Core.Option.{Option, none}
 use native.Mathlib.Omega.{arith}
 use native.Mathlib.Nat.{mul-le-mul-left, mul-add}
 use lib.ListN.{length}
@@ -16,6 +16,7 @@ use Rattle.store_rules.proofs.Sound.{Fits, sound-fits, size-bytes}
 use Rattle.store_rules.proofs.Appended as behind
 use Rattle.cut_rules.specs.Places.{Places}
 use Rattle.cut_rules.specs.Ranges.{from}
+use Rattle.call_rules.specs.declared.Settings.{Settings}
 use Rattle.call_rules.specs.Answers.{firstCase}
 use Rattle.call_rules.specs.Scratch.{Scratch}
 use Rattle.call_rules.specs.Outcomes.{Outcome, done, settle}
@@ -51,10 +52,10 @@ pub record Ready (s : Store) (t : ℕ) (cs : List ℕ) : Type 0 where
   pub linksRoom : perLink * (s .linkCount + needLinks s t (length cs)) ≤ length (s .links)
   pub linksMost : s .linkCount + needLinks s t (length cs) ≤ 262144
 
-ready : (s : Store) (t : ℕ) (w : Scratch) (list : List ℕ) → MaySplit s t w list → Ready s t (cutPlaces s t)
+ready : (how : Settings) (s : Store) (t : ℕ) (w : Scratch) (list : List ℕ) → MaySplit how s t w list → Ready s t (cutPlaces how s t)
 unfolding objectRoom byteRoom linkRoom
-ready s t w list m =
-    let cs = cutPlaces s t in
+ready how s t w list m =
+    let cs = cutPlaces how s t in
     let r = m .checked .reads in
     let f = sound-fits s (r .sounds) in
     let many : length (newOf s t cs) ≡ needObjects (length cs) = new-many (marksOf s t) (basesIn s t) (classesOf s t) cs in
@@ -65,7 +66,7 @@ ready s t w list m =
       parts = parts-read s t (r .parts);
       atSlots = at-slots s t (m .checked .atSlots);
       acyclic = m .checked .acyclic;
-      cuts = table-cuts s t;
+      cuts = table-cuts how s t;
       someCut = m .cuts;
       objectsRoom = omega (arith, m .objects);
       objectsMost = omega (arith, m .objects);
@@ -76,21 +77,30 @@ ready s t w list m =
     }
 
 -- what a split leaves that goes ahead
-abbrev pub splitAhead : Store → ℕ → Scratch → List ℕ → Outcome
-splitAhead s t w list = done (splitStore s t (cutPlaces s t)) (newTables s t (cutPlaces s t)) list w
+abbrev pub splitAhead : Settings → Store → ℕ → Scratch → List ℕ → Outcome
+splitAhead how s t w list = done (splitStore s t (cutPlaces how s t)) (newTables s t (cutPlaces how s t)) list w
 
--- a call that splits goes ahead, and leaves the store that is written
-pub splits-ready : (s : Store) (t : ℕ) (w : Scratch) (list : List ℕ) → Splits s t w list
-    → Ready s t (cutPlaces s t) × (markSplitCall s t w list ≡ splitAhead s t w list)
+-- a call that splits goes ahead: no case applies
+none-applies : (how : Settings) (s : Store) (t : ℕ) (w : Scratch) (list : List ℕ) → Splits how s t w list → firstCase (splitCases how s t w list) ≡ none
+unfolding markSplitCall
+none-applies how s t w list p = went s w list (splitAhead how s t w list) (firstCase (splitCases how s t w list)) (p .cuts)
+
+pub splits-may : (how : Settings) (s : Store) (t : ℕ) (w : Scratch) (list : List ℕ) → Splits how s t w list → MaySplit how s t w list
+splits-may how s t w list p = no-case-splits how s t w list (none-applies how s t w list p)
+
+-- and it leaves the store that is written
+pub splits-ready : (how : Settings) (s : Store) (t : ℕ) (w : Scratch) (list : List ℕ) → Splits how s t w list
+    → Ready s t (cutPlaces how s t) × (markSplitCall how s t w list ≡ splitAhead how s t w list)
 unfolding markSplitCall settle
-splits-ready s t w list p =
-    let none-applies = went s w list (splitAhead s t w list) (firstCase (splitCases s t w list)) (p .cuts) in
-    (ready s t w list (no-case-splits s t w list none-applies), ap (λ (c : Option ℕ). settle c s list w (splitAhead s t w list)) none-applies)
+splits-ready how s t w list p = (
+  ready how s t w list (splits-may how s t w list p),
+  ap (λ (c : Option ℕ). settle c s list w (splitAhead how s t w list)) (none-applies how s t w list p),
+)
 
 -- the store at exit is the written one
-pub store-written : (s : Store) (t : ℕ) (w : Scratch) (list : List ℕ) → Splits s t w list → storeThen s t w list ≡ splitStore s t (cutPlaces s t)
+pub store-written : (how : Settings) (s : Store) (t : ℕ) (w : Scratch) (list : List ℕ) → Splits how s t w list → storeThen how s t w list ≡ splitStore s t (cutPlaces how s t)
 unfolding done
-store-written s t w list p = ap (λ (o : Outcome). o .store) (splits-ready s t w list p .1)
+store-written how s t w list p = ap (λ (o : Outcome). o .store) (splits-ready how s t w list p .1)
 
 module _ (s : Store) (t : ℕ) (cs : List ℕ) (g : Ready s t cs) where
   -- the first cut is a class

@@ -137,6 +137,6 @@ module _ (s : Store) (t : ℕ) (cs : List ℕ) (g : Ready s t cs) (octets : Octe
 
 -- the data at exit are bytes
 pub stays-octets : StaysOctets
-stays-octets s t w list octets p =
-    let (g, e) = splits-ready s t w list p in
-    rw (store-written s t w list p) (octets-then s t (cutPlaces s t) g octets)
+stays-octets how s t w list octets p =
+    let (g, e) = splits-ready how s t w list p in
+    rw (store-written how s t w list p) (octets-then s t (cutPlaces how s t) g octets)

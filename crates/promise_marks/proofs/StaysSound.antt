@@ -223,6 +223,6 @@ module _ (s : Store) (t : ℕ) (cs : List ℕ) (g : Ready s t cs) where
 
 -- the store at exit is one that may be lent again
 pub stays-sound : StaysSound
-stays-sound s t w list p =
-    let (g, e) = splits-ready s t w list p in
-    rw (store-written s t w list p) (sound-then s t (cutPlaces s t) g)
+stays-sound how s t w list p =
+    let (g, e) = splits-ready how s t w list p in
+    rw (store-written how s t w list p) (sound-then s t (cutPlaces how s t) g)

@@ -4,6 +4,7 @@ use mathlib.Core.Path.{_≡_, refl, sym, _∙_}
 use mathlib.Core.List.{List, [], _∷_}
 use mathlib.Core.Logic.{⊎-elim}
 use Rattle.store_rules.specs.Store.{Store}
+use Rattle.call_rules.specs.declared.Settings.{Settings}
 use Rattle.call_rules.specs.Scratch.{Scratch}
 use Rattle.call_rules.specs.Outcomes.{Outcome}
 use Rattle.mark_rules.specs.Reads.{Reads}
@@ -20,12 +21,12 @@ use Rattle.promise_marks.proofs.Calls.{split-keeps, plan-keeps, mark-ke
 
 -- ---- the contracts
 
-module _ (s : Store) (t : ℕ) (w : Scratch) (list : List ℕ) (x y : Exit) where
-  pub one-split : outcomeOf x ≡ markSplitCall s t w list → outcomeOf y ≡ markSplitCall s t w list → Same x y
-  one-split p q = one-exit x y (markSplitCall s t w list) p q
+module _ (how : Settings) (s : Store) (t : ℕ) (w : Scratch) (list : List ℕ) (x y : Exit) where
+  pub one-split : outcomeOf x ≡ markSplitCall how s t w list → outcomeOf y ≡ markSplitCall how s t w list → Same x y
+  one-split p q = one-exit x y (markSplitCall how s t w list) p q
 
-  pub one-plan : outcomeOf x ≡ markPlanCall s t w list → outcomeOf y ≡ markPlanCall s t w list → Same x y
-  one-plan p q = one-exit x y (markPlanCall s t w list) p q
+  pub one-plan : outcomeOf x ≡ markPlanCall how s t w list → outcomeOf y ≡ markPlanCall how s t w list → Same x y
+  one-plan p q = one-exit x y (markPlanCall how s t w list) p q
 
 -- a reading's outcome is its answer, whether there is an attachment, and the two numbers, all that the function writes
 pub one-reading : (s : Store) (t m b : ℕ) (x y : MarkOutcome) → x ≡ markCall s t m b → y ≡ markCall s t m b → x ≡ y
@@ -33,14 +34,14 @@ one-reading s t m b x y p q = p ∙ sym q
 
 -- ---- what is promised decides the outcome
 
-pub split-decided : (s : Store) (t : ℕ) (w : Scratch) (list : List ℕ) (x y : Outcome) → SplitKeeps s t w list x → SplitKeeps s t w list y → x ≡ y
-split-decided s t w list =
-    call-decided (splitCases s t w list) (MaySplit s t w list) (no-case-splits s t w list) (splits-no-case s t w list) (SplitLeaves s t list) s w list
+pub split-decided : (how : Settings) (s : Store) (t : ℕ) (w : Scratch) (list : List ℕ) (x y : Outcome) → SplitKeeps how s t w list x → SplitKeeps how s t w list y → x ≡ y
+split-decided how s t w list =
+    call-decided (splitCases how s t w list) (MaySplit how s t w list) (no-case-splits how s t w list) (splits-no-case how s t w list) (SplitLeaves how s t list) s w list
     (λ x y a b. (a .count ∙ sym (b .count), a .written ∙ sym (b .written), a .tables ∙ sym (b .tables)))
 
-pub plan-decided : (s : Store) (t : ℕ) (w : Scratch) (list : List ℕ) (x y : Outcome) → PlanKeeps s t w list x → PlanKeeps s t w list y → x ≡ y
-plan-decided s t w list =
-    call-decided (planCases s t w list) (MayPlan s t w list) (no-case-plans s t w list) (plans-no-case s t w list) (PlanLeaves s t list) s w list
+pub plan-decided : (how : Settings) (s : Store) (t : ℕ) (w : Scratch) (list : List ℕ) (x y : Outcome) → PlanKeeps how s t w list x → PlanKeeps how s t w list y → x ≡ y
+plan-decided how s t w list =
+    call-decided (planCases how s t w list) (MayPlan how s t w list) (no-case-plans how s t w list) (plans-no-case how s t w list) (PlanLeaves how s t list) s w list
     (λ x y a b. (a .count ∙ sym (b .count), a .reads ∙ sym (b .reads), a .places ∙ sym (b .places)))
 
 pub mark-decided : (s : Store) (t m b : ℕ) (x y : MarkOutcome) → MarkKeeps s t m b x → MarkKeeps s t m b y → x ≡ y
@@ -58,11 +59,11 @@ mark-decided s t m b x y p q =
         λ i. record { answer = answer i; found = found i; anchors = anchors i }
 
 -- so an outcome that keeps what is promised is that of `markSplitCall`
-pub split-only : (s : Store) (t : ℕ) (w : Scratch) (list : List ℕ) (o : Outcome) → SplitKeeps s t w list o → o ≡ markSplitCall s t w list
-split-only s t w list o k = split-decided s t w list o (markSplitCall s t w list) k (split-keeps s t w list (markSplitCall s t w list) refl)
+pub split-only : (how : Settings) (s : Store) (t : ℕ) (w : Scratch) (list : List ℕ) (o : Outcome) → SplitKeeps how s t w list o → o ≡ markSplitCall how s t w list
+split-only how s t w list o k = split-decided how s t w list o (markSplitCall how s t w list) k (split-keeps how s t w list (markSplitCall how s t w list) refl)
 
-pub plan-only : (s : Store) (t : ℕ) (w : Scratch) (list : List ℕ) (o : Outcome) → PlanKeeps s t w list o → o ≡ markPlanCall s t w list
-plan-only s t w list o k = plan-decided s t w list o (markPlanCall s t w list) k (plan-keeps s t w list (markPlanCall s t w list) refl)
+pub plan-only : (how : Settings) (s : Store) (t : ℕ) (w : Scratch) (list : List ℕ) (o : Outcome) → PlanKeeps how s t w list o → o ≡ markPlanCall how s t w list
+plan-only how s t w list o k = plan-decided how s t w list o (markPlanCall how s t w list) k (plan-keeps how s t w list (markPlanCall how s t w list) refl)
 
 pub mark-only : (s : Store) (t m b : ℕ) (o : MarkOutcome) → MarkKeeps s t m b o → o ≡ markCall s t m b
 mark-only s t m b o k = mark-decided s t m b o (markCall s t m b) k (mark-keeps s t m b (markCall s t m b) refl)

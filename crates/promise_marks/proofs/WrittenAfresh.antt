@@ -144,6 +144,6 @@ module _ (s : Store) (t : ℕ) (cs : List ℕ) (g : Ready s t cs) where
 
 -- "Each table with its own parts is what writing its range afresh would give."
 pub written-afresh : WrittenAfresh
-written-afresh s t w list p =
-    let (g, e) = splits-ready s t w list p in
-    rw (store-written s t w list p) (all-afresh s t (cutPlaces s t) g)
+written-afresh how s t w list p =
+    let (g, e) = splits-ready how s t w list p in
+    rw (store-written how s t w list p) (all-afresh s t (cutPlaces how s t) g)

@@ -1,5 +1,5 @@
--- The demands, of what a call leaves in the caller's buffers: s, t, w and list are what it was lent, and o is what it answers and what then stands there.
--- Assumes nothing.
+-- The demands, of what a call leaves in the caller's buffers: it has the settings how, s, t, w and list are what it was lent, and o is what it answers and what
+-- then stands there. Assumes nothing.
 use Prim.Native.Nat.{ℕ, _<_}
 use mathlib.Core.Path.{_≡_}
 use mathlib.Core.Bool.{true, false, cond}
@@ -9,6 +9,7 @@ use lib.ListN.{length}
 use lib.Dec.{eqb}
 use Rattle.folds.specs.Lists.{put, part}
 use Rattle.store_rules.specs.Store.{Store, sound, bytesOf, childAt, headOf, tailOf}
+use Rattle.call_rules.specs.declared.Settings.{Settings}
 use Rattle.call_rules.specs.Scratch.{Scratch}
 use Rattle.call_rules.specs.Outcomes.{Outcome}
 use Rattle.mark_rules.specs.Table.{cutPlaces}
@@ -32,42 +33,42 @@ readInOrder s [] m b = reported 0 none
 readInOrder s (u ∷ us) m b = cond (eqb (markCall s u m b .found) 1) (markCall s u m b) (readInOrder s us m b)
 
 -- after a split
-pub record SplitLeaves (s : Store) (t : ℕ) (list : List ℕ) (o : Outcome) : Type 0 where
+pub record SplitLeaves (how : Settings) (s : Store) (t : ℕ) (list : List ℕ) (o : Outcome) : Type 0 where
   pub answers : o .answer ≡ 0
   -- "The new-table count equals the cuts of the rule"
-  pub count : o .count ≡ length (cutPlaces s t)
-  pub tables : o .list ≡ put list 0 (newTables s t (cutPlaces s t))
+  pub count : o .count ≡ length (cutPlaces how s t)
+  pub tables : o .list ≡ put list 0 (newTables s t (cutPlaces how s t))
   -- "What is written", and that all else stays
-  pub written : o .store ≡ splitStore s t (cutPlaces s t)
+  pub written : o .store ≡ splitStore s t (cutPlaces how s t)
   -- "reading the kept table and then the new ones in order gives, for every two glyphs, what the old table gave"
   pub attachments : (m b : ℕ) → readInOrder (o .store) (keptThenNew t o) m b ≡ markCall s t m b
   -- "Each table with its own parts is what writing its range afresh would give."
-  pub afresh : AllAfresh s t (o .store) (cutPlaces s t)
+  pub afresh : AllAfresh s t (o .store) (cutPlaces how s t)
   -- "Every other old object keeps its bytes and links."
   pub others : (i : ℕ) → i < s .objectCount → (i ≡ t → ⊥)
       → (headOf (o .store) i ≡ headOf s i) × (tailOf (o .store) i ≡ tailOf s i)
       × (bytesOf (o .store) i ≡ bytesOf s i) × ((q : ℕ) → childAt (o .store) i q ≡ childAt s i q)
-  -- "Splitting the kept table again adds and changes nothing."
+  -- "Splitting the kept table again adds and changes nothing.", "under the same edition"
   pub again : (v : Scratch) (list′ : List ℕ) → scratchShort (o .store) t v ≡ false
-      → (markSplitCall (o .store) t v list′ .answer ≡ 0) × Unchanged (o .store) v list′ (markSplitCall (o .store) t v list′)
+      → (markSplitCall how (o .store) t v list′ .answer ≡ 0) × Unchanged (o .store) v list′ (markSplitCall how (o .store) t v list′)
   -- the store can be lent again
   pub sounds : sound (o .store) ≡ true
   pub octets : Octets s → Octets (o .store)
 
 -- a split
-abbrev pub SplitKeeps : Store → ℕ → Scratch → List ℕ → Outcome → Type 0
-SplitKeeps s t w list = CallKeeps (splitCases s t w list) (MaySplit s t w list) (SplitLeaves s t list) s w list
+abbrev pub SplitKeeps : Settings → Store → ℕ → Scratch → List ℕ → Outcome → Type 0
+SplitKeeps how s t w list = CallKeeps (splitCases how s t w list) (MaySplit how s t w list) (SplitLeaves how s t list) s w list
 
 -- where places are handed out, none or more: the store is read only
-pub record PlanLeaves (s : Store) (t : ℕ) (list : List ℕ) (o : Outcome) : Type 0 where
+pub record PlanLeaves (how : Settings) (s : Store) (t : ℕ) (list : List ℕ) (o : Outcome) : Type 0 where
   pub answers : o .answer ≡ 0
-  pub count : o .count ≡ length (cutPlaces s t)
-  pub places : o .list ≡ put list 0 (cutPlaces s t)
+  pub count : o .count ≡ length (cutPlaces how s t)
+  pub places : o .list ≡ put list 0 (cutPlaces how s t)
   pub reads : o .store ≡ s
 
 -- a cut plan
-abbrev pub PlanKeeps : Store → ℕ → Scratch → List ℕ → Outcome → Type 0
-PlanKeeps s t w list = CallKeeps (planCases s t w list) (MayPlan s t w list) (PlanLeaves s t list) s w list
+abbrev pub PlanKeeps : Settings → Store → ℕ → Scratch → List ℕ → Outcome → Type 0
+PlanKeeps how s t w list = CallKeeps (planCases how s t w list) (MayPlan how s t w list) (PlanLeaves how s t list) s w list
 
 -- an attachment reading
 pub record MarkKeeps (s : Store) (t m b : ℕ) (o : MarkOutcome) : Type 0 where

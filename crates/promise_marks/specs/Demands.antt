@@ -1,5 +1,5 @@
--- What is promised of every call on a mark-to-base table, as statements over its outcome in `mark_rules`: s is the store that is lent, t the table's number,
--- w the scratch and list the result list, or the plan's places. Assumes nothing.
+-- What is promised of every call on a mark-to-base table, as statements over its outcome in `mark_rules`: it has the settings how, s is the store that is lent,
+-- t the table's number, w the scratch and list the result list, or the plan's places. Assumes nothing.
 use Prim.Native.Nat.{ℕ, _+_, _-_, _<_, _≤_}
 use mathlib.Core.Path.{_≡_}
 use mathlib.Core.Bool.{true, false}
@@ -13,7 +13,9 @@ use Rattle.store_rules.specs.Store.{Store, sound, bytesOf, childAt, headOf, tai
 use Rattle.store_rules.specs.Appended.{newNumber}
 use Rattle.store_rules.specs.Reach.{itemSize, SentenceOfS}
 use Rattle.cut_rules.specs.Ranges.{from, to}
+use Rattle.call_rules.specs.declared.Settings.{Settings}
 use Rattle.call_rules.specs.Answers.{firstCase}
+use Rattle.call_rules.specs.Settings.{known}
 use Rattle.call_rules.specs.Scratch.{Scratch, cleared}
 use Rattle.mark_rules.specs.Table.{classesOf, basesIn, glyphsOf, markArray, baseArray, markBytes, baseBytes, marksOf, marksWithin, baseAnchor, ofClasses, cutPlaces}
 use Rattle.mark_rules.specs.Written.{newTable, newCoverage, newMarkArray, newBaseArray, newOf, newTables, perTable, needObjects, needLinks}
@@ -26,22 +28,23 @@ use Rattle.promise_calls.specs.Unchanged.{Unchanged, Octets}
 -- "Each number but 0 .. returns a count of 0 new tables and keeps store, counts and result list."
 abbrev pub Refusals : Type 0
 Refusals =
-    (s : Store) (t : ℕ) (w : Scratch) (list : List ℕ)
-    → ((markSplitCall s t w list .answer ≡ 0 → ⊥) → Unchanged s w list (markSplitCall s t w list))
-    × ((markPlanCall s t w list .answer ≡ 0 → ⊥) → Unchanged s w list (markPlanCall s t w list))
+    (how : Settings) (s : Store) (t : ℕ) (w : Scratch) (list : List ℕ)
+    → ((markSplitCall how s t w list .answer ≡ 0 → ⊥) → Unchanged s w list (markSplitCall how s t w list))
+    × ((markPlanCall how s t w list .answer ≡ 0 → ⊥) → Unchanged s w list (markPlanCall how s t w list))
 
 -- "With no cut, 0 also changes nothing."
 abbrev pub NoCutNothing : Type 0
 NoCutNothing =
-    (s : Store) (t : ℕ) (w : Scratch) (list : List ℕ) → cutPlaces s t ≡ []
-    → Unchanged s w list (markSplitCall s t w list) × Unchanged s w list (markPlanCall s t w list)
+    (how : Settings) (s : Store) (t : ℕ) (w : Scratch) (list : List ℕ) → cutPlaces how s t ≡ []
+    → Unchanged s w list (markSplitCall how s t w list) × Unchanged s w list (markPlanCall how s t w list)
 
 -- "a format other than 1 is 0"
 abbrev pub OtherFormats : Type 0
 OtherFormats =
-    (s : Store) (t : ℕ) (w : Scratch) (list : List ℕ) → sound s ≡ true → t < s .objectCount → 2 ≤ length (bytesOf s t) → (formatOf (bytesOf s t) ≡ 1 → ⊥)
-    → (markSplitCall s t w list .answer ≡ 0) × Unchanged s w list (markSplitCall s t w list)
-    × (markPlanCall s t w list .answer ≡ 0) × Unchanged s w list (markPlanCall s t w list)
+    (how : Settings) (s : Store) (t : ℕ) (w : Scratch) (list : List ℕ)
+    → known how ≡ true → sound s ≡ true → t < s .objectCount → 2 ≤ length (bytesOf s t) → (formatOf (bytesOf s t) ≡ 1 → ⊥)
+    → (markSplitCall how s t w list .answer ≡ 0) × Unchanged s w list (markSplitCall how s t w list)
+    × (markPlanCall how s t w list .answer ≡ 0) × Unchanged s w list (markPlanCall how s t w list)
     × ((m b : ℕ) → markCall s t m b ≡ reported 0 none)
 
 -- a reading that refuses has no attachment: two zeros
@@ -53,39 +56,40 @@ MarkRefusals =
 -- "All lent scratch is zero after every call."
 abbrev pub ScratchZero : Type 0
 ScratchZero =
-    (s : Store) (t : ℕ) (w : Scratch) (list : List ℕ)
-    → (markSplitCall s t w list .scratch ≡ cleared w) × (markPlanCall s t w list .scratch ≡ cleared w)
+    (how : Settings) (s : Store) (t : ℕ) (w : Scratch) (list : List ℕ)
+    → (markSplitCall how s t w list .scratch ≡ cleared w) × (markPlanCall how s t w list .scratch ≡ cleared w)
 
 -- the plan's store is read only
 abbrev pub PlanReads : Type 0
-PlanReads = (s : Store) (t : ℕ) (w : Scratch) (list : List ℕ) → markPlanCall s t w list .store ≡ s
+PlanReads = (how : Settings) (s : Store) (t : ℕ) (w : Scratch) (list : List ℕ) → markPlanCall how s t w list .store ≡ s
 
 -- ---- after a split
 
 -- "'After a split' .. means with at least one cut": the call answers 0, and there are new tables
-pub record Splits (s : Store) (t : ℕ) (w : Scratch) (list : List ℕ) : Type 0 where
-  pub answers : markSplitCall s t w list .answer ≡ 0
-  pub cuts : 0 < markSplitCall s t w list .count
+pub record Splits (how : Settings) (s : Store) (t : ℕ) (w : Scratch) (list : List ℕ) : Type 0 where
+  pub answers : markSplitCall how s t w list .answer ≡ 0
+  pub cuts : 0 < markSplitCall how s t w list .count
 
 -- the store at exit
-abbrev pub storeThen : Store → ℕ → Scratch → List ℕ → Store
-storeThen s t w list = markSplitCall s t w list .store
+abbrev pub storeThen : Settings → Store → ℕ → Scratch → List ℕ → Store
+storeThen how s t w list = markSplitCall how s t w list .store
 
 -- ---- 2: "The new-table count equals the cuts of the rule", and the list starts with the new tables' numbers
 
 abbrev pub AsManyAsCuts : Type 0
 AsManyAsCuts =
-    (s : Store) (t : ℕ) (w : Scratch) (list : List ℕ) → Splits s t w list
-    → (markSplitCall s t w list .count ≡ length (cutPlaces s t)) × (markSplitCall s t w list .list ≡ put list 0 (newTables s t (cutPlaces s t)))
+    (how : Settings) (s : Store) (t : ℕ) (w : Scratch) (list : List ℕ) → Splits how s t w list
+    → (markSplitCall how s t w list .count ≡ length (cutPlaces how s t))
+    × (markSplitCall how s t w list .list ≡ put list 0 (newTables s t (cutPlaces how s t)))
 
 -- ---- 2: what a split takes is what 8 asked for: "4K+3 objects, and 4K links plus those of the mark array and of the base array", and the exact bytes
 
 abbrev pub TakesNeeded : Type 0
 TakesNeeded =
-    (s : Store) (t : ℕ) (w : Scratch) (list : List ℕ) → Splits s t w list
-    → (storeThen s t w list .objectCount ≡ s .objectCount + needObjects (length (cutPlaces s t)))
-    × (storeThen s t w list .linkCount ≡ s .linkCount + needLinks s t (length (cutPlaces s t)))
-    × (storeThen s t w list .byteCount ≡ s .byteCount + length (join (newOf s t (cutPlaces s t))))
+    (how : Settings) (s : Store) (t : ℕ) (w : Scratch) (list : List ℕ) → Splits how s t w list
+    → (storeThen how s t w list .objectCount ≡ s .objectCount + needObjects (length (cutPlaces how s t)))
+    × (storeThen how s t w list .linkCount ≡ s .linkCount + needLinks s t (length (cutPlaces how s t)))
+    × (storeThen how s t w list .byteCount ≡ s .byteCount + length (join (newOf s t (cutPlaces how s t))))
 
 -- ---- 2: "its anchors' reachable lengths", which is S: "all objects reachable .., each counted once, leaving out those counted since the last cut"
 
@@ -96,25 +100,26 @@ SizesBySentence = (s : Store) (t a i : ℕ) → sound s ≡ true → a ≤ i →
 -- ---- 3: attachments are kept
 
 -- the resulting tables: the kept one, then the new ones
-abbrev pub resulting : Store → ℕ → List ℕ
-resulting s t = t ∷ newTables s t (cutPlaces s t)
+abbrev pub resulting : Settings → Store → ℕ → List ℕ
+resulting how s t = t ∷ newTables s t (cutPlaces how s t)
 
 -- "demand 3 reads the same": "reading the kept table and then the new ones in order" gives, for every mark glyph and every base glyph, the anchor objects that
 -- the old table gave, or none; and no two of them have the same attachment
 abbrev pub AttachmentsKept : Type 0
 AttachmentsKept =
-    (s : Store) (t : ℕ) (w : Scratch) (list : List ℕ) → Splits s t w list → (m b : ℕ)
-    → (attachAmong (storeThen s t w list) (resulting s t) m b ≡ attachOf s t m b)
-    × ((i j : ℕ) → i < j → j < length (resulting s t) → (attachOf (storeThen s t w list) (getD (resulting s t) i 0) m b ≡ none → ⊥)
-    → attachOf (storeThen s t w list) (getD (resulting s t) j 0) m b ≡ none)
+    (how : Settings) (s : Store) (t : ℕ) (w : Scratch) (list : List ℕ) → Splits how s t w list → (m b : ℕ)
+    → (attachAmong (storeThen how s t w list) (resulting how s t) m b ≡ attachOf s t m b)
+    × ((i j : ℕ) → i < j → j < length (resulting how s t) → (attachOf (storeThen how s t w list) (getD (resulting how s t) i 0) m b ≡ none → ⊥)
+    → attachOf (storeThen how s t w list) (getD (resulting how s t) j 0) m b ≡ none)
 
 -- and the reading takes the old table and each resulting one: it answers 0 with the table's own attachment
 abbrev pub ReadingsKept : Type 0
 ReadingsKept =
-    (s : Store) (t : ℕ) (w : Scratch) (list : List ℕ) → Splits s t w list → (m b : ℕ)
+    (how : Settings) (s : Store) (t : ℕ) (w : Scratch) (list : List ℕ) → Splits how s t w list → (m b : ℕ)
     → (markCall s t m b ≡ reported 0 (attachOf s t m b))
-    × ((i : ℕ) → i < length (resulting s t)
-    → markCall (storeThen s t w list) (getD (resulting s t) i 0) m b ≡ reported 0 (attachOf (storeThen s t w list) (getD (resulting s t) i 0) m b))
+    × ((i : ℕ) → i < length (resulting how s t)
+    → markCall (storeThen how s t w list) (getD (resulting how s t) i 0) m b
+    ≡ reported 0 (attachOf (storeThen how s t w list) (getD (resulting how s t) i 0) m b))
 
 -- ---- 3: each table is written afresh
 
@@ -146,30 +151,33 @@ pub record AllAfresh (s : Store) (t : ℕ) (s′ : Store) (cs : List ℕ) : Type
   pub freshBytes : (j : ℕ) → j < length cs → bytesOf s′ (newNumber s perTable j) ≡ newTable (from cs j) (to (classesOf s t) cs j)
 
 abbrev pub WrittenAfresh : Type 0
-WrittenAfresh = (s : Store) (t : ℕ) (w : Scratch) (list : List ℕ) → Splits s t w list → AllAfresh s t (storeThen s t w list) (cutPlaces s t)
+WrittenAfresh =
+    (how : Settings) (s : Store) (t : ℕ) (w : Scratch) (list : List ℕ) → Splits how s t w list
+    → AllAfresh s t (storeThen how s t w list) (cutPlaces how s t)
 
 -- ---- 3: every other object in use keeps its place, its bytes and its links: "the old arrays keep their links"
 
 abbrev pub OthersKept : Type 0
 OthersKept =
-    (s : Store) (t : ℕ) (w : Scratch) (list : List ℕ) → Splits s t w list → (i : ℕ) → i < s .objectCount → (i ≡ t → ⊥)
-    → (headOf (storeThen s t w list) i ≡ headOf s i) × (tailOf (storeThen s t w list) i ≡ tailOf s i)
-    × (bytesOf (storeThen s t w list) i ≡ bytesOf s i) × ((q : ℕ) → childAt (storeThen s t w list) i q ≡ childAt s i q)
+    (how : Settings) (s : Store) (t : ℕ) (w : Scratch) (list : List ℕ) → Splits how s t w list → (i : ℕ) → i < s .objectCount → (i ≡ t → ⊥)
+    → (headOf (storeThen how s t w list) i ≡ headOf s i) × (tailOf (storeThen how s t w list) i ≡ tailOf s i)
+    × (bytesOf (storeThen how s t w list) i ≡ bytesOf s i) × ((q : ℕ) → childAt (storeThen how s t w list) i q ≡ childAt s i q)
 
--- ---- 3: splitting the kept table again, scratch being enough, adds and changes nothing
+-- ---- 3: "splitting again under the same edition", scratch being enough, adds and changes nothing
 
 abbrev pub AgainNothing : Type 0
 AgainNothing =
-    (s : Store) (t : ℕ) (w : Scratch) (list : List ℕ) → Splits s t w list
-    → (v : Scratch) (list′ : List ℕ) → scratchShort (storeThen s t w list) t v ≡ false
-    → (markSplitCall (storeThen s t w list) t v list′ .answer ≡ 0) × Unchanged (storeThen s t w list) v list′ (markSplitCall (storeThen s t w list) t v list′)
+    (how : Settings) (s : Store) (t : ℕ) (w : Scratch) (list : List ℕ) → Splits how s t w list
+    → (v : Scratch) (list′ : List ℕ) → scratchShort (storeThen how s t w list) t v ≡ false
+    → (markSplitCall how (storeThen how s t w list) t v list′ .answer ≡ 0)
+    × Unchanged (storeThen how s t w list) v list′ (markSplitCall how (storeThen how s t w list) t v list′)
 
 -- ---- what a split leaves can be lent again
 
 -- the store stays sound
 abbrev pub StaysSound : Type 0
-StaysSound = (s : Store) (t : ℕ) (w : Scratch) (list : List ℕ) → Splits s t w list → sound (storeThen s t w list) ≡ true
+StaysSound = (how : Settings) (s : Store) (t : ℕ) (w : Scratch) (list : List ℕ) → Splits how s t w list → sound (storeThen how s t w list) ≡ true
 
 -- the data stay bytes: every number that is written fits its two bytes
 abbrev pub StaysOctets : Type 0
-StaysOctets = (s : Store) (t : ℕ) (w : Scratch) (list : List ℕ) → Octets s → Splits s t w list → Octets (storeThen s t w list)
+StaysOctets = (how : Settings) (s : Store) (t : ℕ) (w : Scratch) (list : List ℕ) → Octets s → Splits how s t w list → Octets (storeThen how s t w list)

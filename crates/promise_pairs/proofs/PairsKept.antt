@@ -145,7 +145,7 @@ module _ (s : Store) (t : ℕ) (cs : List ℕ) (g : Ready s t cs) where
 
 -- `PairsKept`: "reading the kept table and then the new ones in order" gives what the old table gave
 pub pairs-kept : PairsKept
-pairs-kept s t w list p x y =
-    let cs = cutPlaces s t in
-    let (g, e) = splits-ready s t w list p in
-    rw (store-written s t w list p) (all-kept s t cs g x y, λ k m h l f. one-only s t cs g x y k m h (omega (arith, many-tables s t cs g)) f)
+pairs-kept how s t w list p x y =
+    let cs = cutPlaces how s t in
+    let (g, e) = splits-ready how s t w list p in
+    rw (store-written how s t w list p) (all-kept s t cs g x y, λ k m h l f. one-only s t cs g x y k m h (omega (arith, many-tables s t cs g)) f)

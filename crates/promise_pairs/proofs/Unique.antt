@@ -6,6 +6,7 @@ use mathlib.Core.Logic.{⊎-elim}
 use lib.ListN.{replicate}
 use lib.IntN.{pos}
 use Rattle.store_rules.specs.Store.{Store}
+use Rattle.call_rules.specs.declared.Settings.{Settings}
 use Rattle.call_rules.specs.Scratch.{Scratch}
 use Rattle.call_rules.specs.Outcomes.{Outcome}
 use Rattle.pair_rules.specs.Calls.{PairOutcome, splitCall, planCall, pairCall, splitCases, planCases, pairCases}
@@ -23,12 +24,12 @@ use Rattle.promise_pairs.proofs.Calls.{split-keeps, plan-keeps, pair-ke
 
 -- ---- the contracts
 
-module _ (s : Store) (t : ℕ) (w : Scratch) (list : List ℕ) (x y : Exit) where
-  pub one-split : outcomeOf x ≡ splitCall s t w list → outcomeOf y ≡ splitCall s t w list → Same x y
-  one-split p q = one-exit x y (splitCall s t w list) p q
+module _ (how : Settings) (s : Store) (t : ℕ) (w : Scratch) (list : List ℕ) (x y : Exit) where
+  pub one-split : outcomeOf x ≡ splitCall how s t w list → outcomeOf y ≡ splitCall how s t w list → Same x y
+  one-split p q = one-exit x y (splitCall how s t w list) p q
 
-  pub one-plan : outcomeOf x ≡ planCall s t w list → outcomeOf y ≡ planCall s t w list → Same x y
-  one-plan p q = one-exit x y (planCall s t w list) p q
+  pub one-plan : outcomeOf x ≡ planCall how s t w list → outcomeOf y ≡ planCall how s t w list → Same x y
+  one-plan p q = one-exit x y (planCall how s t w list) p q
 
 -- a pair reading's outcome is its answer, whether there is a pair, and the sixteen numbers, all that the function writes
 pub one-reading : (s : Store) (t a b : ℕ) (x y : PairOutcome) → x ≡ pairCall s t a b → y ≡ pairCall s t a b → x ≡ y
@@ -36,14 +37,14 @@ one-reading s t a b x y p q = p ∙ sym q
 
 -- ---- what is promised decides the outcome
 
-pub split-decided : (s : Store) (t : ℕ) (w : Scratch) (list : List ℕ) (x y : Outcome) → SplitKeeps s t w list x → SplitKeeps s t w list y → x ≡ y
-split-decided s t w list =
-    call-decided (splitCases s t w list) (MaySplit s t w list) (no-case-splits s t w list) (splits-no-case s t w list) (SplitLeaves s t list) s w list
+pub split-decided : (how : Settings) (s : Store) (t : ℕ) (w : Scratch) (list : List ℕ) (x y : Outcome) → SplitKeeps how s t w list x → SplitKeeps how s t w list y → x ≡ y
+split-decided how s t w list =
+    call-decided (splitCases how s t w list) (MaySplit how s t w list) (no-case-splits how s t w list) (splits-no-case how s t w list) (SplitLeaves how s t list) s w list
     (λ x y a b. (a .count ∙ sym (b .count), a .written ∙ sym (b .written), a .tables ∙ sym (b .tables)))
 
-pub plan-decided : (s : Store) (t : ℕ) (w : Scratch) (list : List ℕ) (x y : Outcome) → PlanKeeps s t w list x → PlanKeeps s t w list y → x ≡ y
-plan-decided s t w list =
-    call-decided (planCases s t w list) (MayPlan s t w list) (no-case-plans s t w list) (plans-no-case s t w list) (PlanLeaves s t list) s w list
+pub plan-decided : (how : Settings) (s : Store) (t : ℕ) (w : Scratch) (list : List ℕ) (x y : Outcome) → PlanKeeps how s t w list x → PlanKeeps how s t w list y → x ≡ y
+plan-decided how s t w list =
+    call-decided (planCases how s t w list) (MayPlan how s t w list) (no-case-plans how s t w list) (plans-no-case how s t w list) (PlanLeaves how s t list) s w list
     (λ x y a b. (a .count ∙ sym (b .count), a .reads ∙ sym (b .reads), a .places ∙ sym (b .places)))
 
 pub pair-decided : (s : Store) (t a b : ℕ) (x y : PairOutcome) → PairKeeps s t a b x → PairKeeps s t a b y → x ≡ y
@@ -59,11 +60,11 @@ pair-decided s t a b x y p q = ⊎-elim (λ r. p .pairs r ∙ sym (q .pairs r)) 
         λ i. record { answer = answer i; found = found i; values = values i }
 
 -- so an outcome that keeps what is promised is that of `splitCall`
-pub split-only : (s : Store) (t : ℕ) (w : Scratch) (list : List ℕ) (o : Outcome) → Octets s → SplitKeeps s t w list o → o ≡ splitCall s t w list
-split-only s t w list o bytes k = split-decided s t w list o (splitCall s t w list) k (split-keeps s t w list (splitCall s t w list) bytes refl)
+pub split-only : (how : Settings) (s : Store) (t : ℕ) (w : Scratch) (list : List ℕ) (o : Outcome) → Octets s → SplitKeeps how s t w list o → o ≡ splitCall how s t w list
+split-only how s t w list o bytes k = split-decided how s t w list o (splitCall how s t w list) k (split-keeps how s t w list (splitCall how s t w list) bytes refl)
 
-pub plan-only : (s : Store) (t : ℕ) (w : Scratch) (list : List ℕ) (o : Outcome) → PlanKeeps s t w list o → o ≡ planCall s t w list
-plan-only s t w list o k = plan-decided s t w list o (planCall s t w list) k (plan-keeps s t w list (planCall s t w list) refl)
+pub plan-only : (how : Settings) (s : Store) (t : ℕ) (w : Scratch) (list : List ℕ) (o : Outcome) → PlanKeeps how s t w list o → o ≡ planCall how s t w list
+plan-only how s t w list o k = plan-decided how s t w list o (planCall how s t w list) k (plan-keeps how s t w list (planCall how s t w list) refl)
 
 pub pair-only : (s : Store) (t a b : ℕ) (o : PairOutcome) → PairKeeps s t a b o → o ≡ pairCall s t a b
 pair-only s t a b o k = pair-decided s t a b o (pairCall s t a b) k (pair-keeps s t a b (pairCall s t a b) refl)

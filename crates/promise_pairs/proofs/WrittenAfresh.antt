@@ -27,7 +27,7 @@ use Rattle.pair_rules.proofs.NewCounts.{per-two}
 use Rattle.promise_calls.specs.Unchanged.{Octets}
 use Rattle.promise_pairs.specs.Demands.{Afresh, AllAfresh, WrittenAfresh}
 use Rattle.pair_after.proofs.Ready.{Ready, objects-then, new-used}
-use Rattle.promise_pairs.proofs.GoesAhead.{splits-ready, splits-sorted, store-written}
+use Rattle.promise_pairs.proofs.GoesAhead.{splits-may, splits-ready, store-written}
 use Rattle.pair_after.proofs.NewBytes.{kept-bytes}
 use Rattle.pair_after.proofs.View.{View, renumbered-up, view-glyphs, view-class}
 use Rattle.pair_after.proofs.KeptAndNew.{view-kept, view-new, bytes-new}
@@ -120,6 +120,6 @@ module _ (s : Store) (t : ℕ) (cs : List ℕ) (g : Ready s t cs) (octets : Octe
 
 -- "Each table with its own parts is what writing its range afresh would give", "by this section from the old table alone"
 pub written-afresh : WrittenAfresh
-written-afresh s t w list octets p =
-    let (g, e) = splits-ready s t w list p in
-    rw (store-written s t w list p) (all-afresh s t (cutPlaces s t) g octets (splits-sorted s t w list p))
+written-afresh how s t w list octets p =
+    let (g, e) = splits-ready how s t w list p in
+    rw (store-written how s t w list p) (all-afresh s t (cutPlaces how s t) g octets (splits-may how s t w list p .checked .sorted))

@@ -1,5 +1,5 @@
--- The demands, of what a call leaves in the caller's buffers: s, t, w and list are what it was lent, and o is what it answers and what then stands there.
--- Assumes nothing.
+-- The demands, of what a call leaves in the caller's buffers: it has the settings how, s, t, w and list are what it was lent, and o is what it answers and what
+-- then stands there. Assumes nothing.
 use Prim.Native.Nat.{ℕ, _<_}
 use mathlib.Core.Path.{_≡_}
 use mathlib.Core.Bool.{true, false}
@@ -12,6 +12,7 @@ use Rattle.pair_rules.specs.Table.{cutPlaces}
 use Rattle.pair_rules.specs.Written.{newTables, splitStore}
 use Rattle.pair_rules.specs.Reads.{ReadsPairs}
 use Rattle.pair_rules.specs.Pairs.{pairOf}
+use Rattle.call_rules.specs.declared.Settings.{Settings}
 use Rattle.call_rules.specs.Scratch.{Scratch}
 use Rattle.call_rules.specs.Outcomes.{Outcome}
 use Rattle.pair_rules.specs.Calls.{PairOutcome, splitCall, pairCall, splitCases, planCases, pairCases, reported, readInOrder, scratchShort}
@@ -26,42 +27,42 @@ abbrev pub keptThenNew : ℕ → Outcome → List ℕ
 keptThenNew t o = t ∷ part (o .list) 0 (o .count)
 
 -- after a split
-pub record SplitLeaves (s : Store) (t : ℕ) (list : List ℕ) (o : Outcome) : Type 0 where
+pub record SplitLeaves (how : Settings) (s : Store) (t : ℕ) (list : List ℕ) (o : Outcome) : Type 0 where
   pub answers : o .answer ≡ 0
   -- "The new-table count equals the cuts of the rule"
-  pub count : o .count ≡ length (cutPlaces s t)
-  pub tables : o .list ≡ put list 0 (newTables s t (cutPlaces s t))
+  pub count : o .count ≡ length (cutPlaces how s t)
+  pub tables : o .list ≡ put list 0 (newTables s t (cutPlaces how s t))
   -- "What is written", and that all else stays
-  pub written : o .store ≡ splitStore s t (cutPlaces s t)
+  pub written : o .store ≡ splitStore s t (cutPlaces how s t)
   -- "reading the kept table and then the new ones in order gives, for every two glyphs, what the old table gave"
   pub pairs : (a b : ℕ) → readInOrder (o .store) (keptThenNew t o) a b ≡ pairCall s t a b
   -- "Each table with its own parts is what writing its range afresh would give."
-  pub afresh : AllAfresh s t (o .store) (cutPlaces s t)
+  pub afresh : AllAfresh s t (o .store) (cutPlaces how s t)
   -- "Every other old object keeps its bytes and links."
   pub others : (i : ℕ) → i < s .objectCount → (i ≡ t → ⊥)
       → (headOf (o .store) i ≡ headOf s i) × (tailOf (o .store) i ≡ tailOf s i)
       × (bytesOf (o .store) i ≡ bytesOf s i) × ((q : ℕ) → childAt (o .store) i q ≡ childAt s i q)
-  -- "Splitting the kept table again adds and changes nothing."
+  -- "Splitting the kept table again adds and changes nothing.", "under the same edition"
   pub again : (v : Scratch) (list′ : List ℕ) → scratchShort (o .store) t v ≡ false
-      → (splitCall (o .store) t v list′ .answer ≡ 0) × Unchanged (o .store) v list′ (splitCall (o .store) t v list′)
+      → (splitCall how (o .store) t v list′ .answer ≡ 0) × Unchanged (o .store) v list′ (splitCall how (o .store) t v list′)
   -- the store can be lent again
   pub sounds : sound (o .store) ≡ true
   pub octets : Octets (o .store)
 
 -- a split
-abbrev pub SplitKeeps : Store → ℕ → Scratch → List ℕ → Outcome → Type 0
-SplitKeeps s t w list = CallKeeps (splitCases s t w list) (MaySplit s t w list) (SplitLeaves s t list) s w list
+abbrev pub SplitKeeps : Settings → Store → ℕ → Scratch → List ℕ → Outcome → Type 0
+SplitKeeps how s t w list = CallKeeps (splitCases how s t w list) (MaySplit how s t w list) (SplitLeaves how s t list) s w list
 
 -- where places are handed out, none or more: the store is read only
-pub record PlanLeaves (s : Store) (t : ℕ) (list : List ℕ) (o : Outcome) : Type 0 where
+pub record PlanLeaves (how : Settings) (s : Store) (t : ℕ) (list : List ℕ) (o : Outcome) : Type 0 where
   pub answers : o .answer ≡ 0
-  pub count : o .count ≡ length (cutPlaces s t)
-  pub places : o .list ≡ put list 0 (cutPlaces s t)
+  pub count : o .count ≡ length (cutPlaces how s t)
+  pub places : o .list ≡ put list 0 (cutPlaces how s t)
   pub reads : o .store ≡ s
 
 -- a cut plan
-abbrev pub PlanKeeps : Store → ℕ → Scratch → List ℕ → Outcome → Type 0
-PlanKeeps s t w list = CallKeeps (planCases s t w list) (MayPlan s t w list) (PlanLeaves s t list) s w list
+abbrev pub PlanKeeps : Settings → Store → ℕ → Scratch → List ℕ → Outcome → Type 0
+PlanKeeps how s t w list = CallKeeps (planCases how s t w list) (MayPlan how s t w list) (PlanLeaves how s t list) s w list
 
 -- a pair reading
 pub record PairKeeps (s : Store) (t a b : ℕ) (o : PairOutcome) : Type 0 where

@@ -1,5 +1,5 @@
--- What is promised of every call, as statements over its outcome in `pair_rules`: s is the store that is lent, t the table's number, w the scratch and list the
--- result list, or the plan's places. Assumes nothing.
+-- What is promised of every call, as statements over its outcome in `pair_rules`: it has the settings how, s is the store that is lent, t the table's number, w
+-- the scratch and list the result list, or the plan's places. Assumes nothing.
 use Prim.Native.Nat.{ℕ, _+_, _<_, _≤_}
 use mathlib.Core.Path.{_≡_}
 use mathlib.Core.Bool.{true, false}
@@ -20,6 +20,8 @@ use Rattle.pair_rules.specs.Table.{cutPlaces, entriesOf, glyphsOf, shape, ofIte
 use Rattle.pair_rules.specs.Written.{newTables, newTable, perTable}
 use Rattle.cut_rules.specs.Ranges.{from, to}
 use Rattle.pair_rules.specs.Pairs.{noPair, pairAmong, pairOf}
+use Rattle.call_rules.specs.declared.Settings.{Settings}
+use Rattle.call_rules.specs.Settings.{known}
 use Rattle.call_rules.specs.Scratch.{Scratch, cleared}
 use Rattle.pair_rules.specs.Calls.{splitCall, planCall, pairCall, reported, pairCases, scratchShort}
 use Rattle.call_rules.specs.Answers.{firstCase}
@@ -30,23 +32,24 @@ use Rattle.promise_calls.specs.Unchanged.{Unchanged, Octets}
 -- "Each number but 0 .. returns a count of 0 new tables and keeps store, counts and result list."
 abbrev pub Refusals : Type 0
 Refusals =
-    (s : Store) (t : ℕ) (w : Scratch) (list : List ℕ)
-    → ((splitCall s t w list .answer ≡ 0 → ⊥) → Unchanged s w list (splitCall s t w list))
-    × ((planCall s t w list .answer ≡ 0 → ⊥) → Unchanged s w list (planCall s t w list))
+    (how : Settings) (s : Store) (t : ℕ) (w : Scratch) (list : List ℕ)
+    → ((splitCall how s t w list .answer ≡ 0 → ⊥) → Unchanged s w list (splitCall how s t w list))
+    × ((planCall how s t w list .answer ≡ 0 → ⊥) → Unchanged s w list (planCall how s t w list))
 
 -- "With no cut, 0 also changes nothing."
 abbrev pub NoCutNothing : Type 0
 NoCutNothing =
-    (s : Store) (t : ℕ) (w : Scratch) (list : List ℕ) → cutPlaces s t ≡ []
-    → Unchanged s w list (splitCall s t w list) × Unchanged s w list (planCall s t w list)
+    (how : Settings) (s : Store) (t : ℕ) (w : Scratch) (list : List ℕ) → cutPlaces how s t ≡ []
+    → Unchanged s w list (splitCall how s t w list) × Unchanged s w list (planCall how s t w list)
 
 -- "A format other than 1 or 2 answers 0 with no new tables straight after check 3's first clause"; "another format is 0 and no pair"
 abbrev pub OtherFormats : Type 0
 OtherFormats =
-    (s : Store) (t : ℕ) (w : Scratch) (list : List ℕ) → sound s ≡ true → t < s .objectCount → 2 ≤ length (bytesOf s t)
+    (how : Settings) (s : Store) (t : ℕ) (w : Scratch) (list : List ℕ)
+    → known how ≡ true → sound s ≡ true → t < s .objectCount → 2 ≤ length (bytesOf s t)
     → (formatOf (bytesOf s t) ≡ 1 → ⊥) → (formatOf (bytesOf s t) ≡ 2 → ⊥)
-    → (splitCall s t w list .answer ≡ 0) × Unchanged s w list (splitCall s t w list)
-    × (planCall s t w list .answer ≡ 0) × Unchanged s w list (planCall s t w list)
+    → (splitCall how s t w list .answer ≡ 0) × Unchanged s w list (splitCall how s t w list)
+    × (planCall how s t w list .answer ≡ 0) × Unchanged s w list (planCall how s t w list)
     × ((a b : ℕ) → pairCall s t a b ≡ reported 0 noPair)
 
 -- "refuses by 1 to 5 in this order with no pair and sixteen zeros", and so by 11
@@ -57,29 +60,31 @@ PairRefusals =
 
 -- "All lent scratch is zero after every call."
 abbrev pub ScratchZero : Type 0
-ScratchZero = (s : Store) (t : ℕ) (w : Scratch) (list : List ℕ) → (splitCall s t w list .scratch ≡ cleared w) × (planCall s t w list .scratch ≡ cleared w)
+ScratchZero =
+    (how : Settings) (s : Store) (t : ℕ) (w : Scratch) (list : List ℕ)
+    → (splitCall how s t w list .scratch ≡ cleared w) × (planCall how s t w list .scratch ≡ cleared w)
 
 -- the plan's store is read only
 abbrev pub PlanReads : Type 0
-PlanReads = (s : Store) (t : ℕ) (w : Scratch) (list : List ℕ) → planCall s t w list .store ≡ s
+PlanReads = (how : Settings) (s : Store) (t : ℕ) (w : Scratch) (list : List ℕ) → planCall how s t w list .store ≡ s
 
 -- ---- after a split
 
 -- "'After a split' .. means with at least one cut": the call answers 0, and there are new tables
-pub record Splits (s : Store) (t : ℕ) (w : Scratch) (list : List ℕ) : Type 0 where
-  pub answers : splitCall s t w list .answer ≡ 0
-  pub cuts : 0 < splitCall s t w list .count
+pub record Splits (how : Settings) (s : Store) (t : ℕ) (w : Scratch) (list : List ℕ) : Type 0 where
+  pub answers : splitCall how s t w list .answer ≡ 0
+  pub cuts : 0 < splitCall how s t w list .count
 
 -- the store at exit
-abbrev pub storeThen : Store → ℕ → Scratch → List ℕ → Store
-storeThen s t w list = splitCall s t w list .store
+abbrev pub storeThen : Settings → Store → ℕ → Scratch → List ℕ → Store
+storeThen how s t w list = splitCall how s t w list .store
 
 -- ---- 2: "The new-table count equals the cuts of the rule", and the list starts with the new tables' numbers
 
 abbrev pub AsManyAsCuts : Type 0
 AsManyAsCuts =
-    (s : Store) (t : ℕ) (w : Scratch) (list : List ℕ) → Splits s t w list
-    → (splitCall s t w list .count ≡ length (cutPlaces s t)) × (splitCall s t w list .list ≡ put list 0 (newTables s t (cutPlaces s t)))
+    (how : Settings) (s : Store) (t : ℕ) (w : Scratch) (list : List ℕ) → Splits how s t w list
+    → (splitCall how s t w list .count ≡ length (cutPlaces how s t)) × (splitCall how s t w list .list ≡ put list 0 (newTables s t (cutPlaces how s t)))
 
 -- ---- 2: "S(i) is the summed length of all objects reachable from item i's links, each counted once, leaving out those counted since the last cut"
 
@@ -92,16 +97,16 @@ SizesBySentence =
 -- ---- 3: pairs are kept
 
 -- the resulting tables: the kept one, then the new ones
-abbrev pub resulting : Store → ℕ → List ℕ
-resulting s t = t ∷ newTables s t (cutPlaces s t)
+abbrev pub resulting : Settings → Store → ℕ → List ℕ
+resulting how s t = t ∷ newTables s t (cutPlaces how s t)
 
 -- "reading the kept table and then the new ones in order" gives each pair as the old table gave it, and no two of them have the same pair
 abbrev pub PairsKept : Type 0
 PairsKept =
-    (s : Store) (t : ℕ) (w : Scratch) (list : List ℕ) → Splits s t w list → (a b : ℕ)
-    → (pairAmong (storeThen s t w list) (resulting s t) a b ≡ pairOf s t a b)
-    × ((i j : ℕ) → i < j → j < length (resulting s t) → pairOf (storeThen s t w list) (getD (resulting s t) i 0) a b .found ≡ true
-    → pairOf (storeThen s t w list) (getD (resulting s t) j 0) a b .found ≡ false)
+    (how : Settings) (s : Store) (t : ℕ) (w : Scratch) (list : List ℕ) → Splits how s t w list → (a b : ℕ)
+    → (pairAmong (storeThen how s t w list) (resulting how s t) a b ≡ pairOf s t a b)
+    × ((i j : ℕ) → i < j → j < length (resulting how s t) → pairOf (storeThen how s t w list) (getD (resulting how s t) i 0) a b .found ≡ true
+    → pairOf (storeThen how s t w list) (getD (resulting how s t) j 0) a b .found ≡ false)
 
 -- ---- 3: each table is written afresh
 
@@ -137,38 +142,41 @@ pub record AllAfresh (s : Store) (t : ℕ) (s′ : Store) (cs : List ℕ) : Type
 
 abbrev pub WrittenAfresh : Type 0
 WrittenAfresh =
-    (s : Store) (t : ℕ) (w : Scratch) (list : List ℕ) → Octets s → Splits s t w list → AllAfresh s t (storeThen s t w list) (cutPlaces s t)
+    (how : Settings) (s : Store) (t : ℕ) (w : Scratch) (list : List ℕ) → Octets s → Splits how s t w list
+    → AllAfresh s t (storeThen how s t w list) (cutPlaces how s t)
 
 -- and the pair reading takes the old table and each resulting one: it answers 0 with the table's own pair, of which `PairsKept` speaks
 abbrev pub ReadingsKept : Type 0
 ReadingsKept =
-    (s : Store) (t : ℕ) (w : Scratch) (list : List ℕ) → Octets s → Splits s t w list → (a b : ℕ)
+    (how : Settings) (s : Store) (t : ℕ) (w : Scratch) (list : List ℕ) → Octets s → Splits how s t w list → (a b : ℕ)
     → (pairCall s t a b ≡ reported 0 (pairOf s t a b))
-    × ((i : ℕ) → i < length (resulting s t)
-    → pairCall (storeThen s t w list) (getD (resulting s t) i 0) a b ≡ reported 0 (pairOf (storeThen s t w list) (getD (resulting s t) i 0) a b))
+    × ((i : ℕ) → i < length (resulting how s t)
+    → pairCall (storeThen how s t w list) (getD (resulting how s t) i 0) a b
+    ≡ reported 0 (pairOf (storeThen how s t w list) (getD (resulting how s t) i 0) a b))
 
 -- ---- 3: every other object in use keeps its place, its bytes and its links
 
 abbrev pub OthersKept : Type 0
 OthersKept =
-    (s : Store) (t : ℕ) (w : Scratch) (list : List ℕ) → Splits s t w list → (i : ℕ) → i < s .objectCount → (i ≡ t → ⊥)
-    → (headOf (storeThen s t w list) i ≡ headOf s i) × (tailOf (storeThen s t w list) i ≡ tailOf s i)
-    × (bytesOf (storeThen s t w list) i ≡ bytesOf s i) × ((q : ℕ) → childAt (storeThen s t w list) i q ≡ childAt s i q)
+    (how : Settings) (s : Store) (t : ℕ) (w : Scratch) (list : List ℕ) → Splits how s t w list → (i : ℕ) → i < s .objectCount → (i ≡ t → ⊥)
+    → (headOf (storeThen how s t w list) i ≡ headOf s i) × (tailOf (storeThen how s t w list) i ≡ tailOf s i)
+    × (bytesOf (storeThen how s t w list) i ≡ bytesOf s i) × ((q : ℕ) → childAt (storeThen how s t w list) i q ≡ childAt s i q)
 
--- ---- 3: splitting the kept table again, scratch being enough, adds and changes nothing
+-- ---- 3: "splitting again under the same edition", scratch being enough, adds and changes nothing
 
 abbrev pub AgainNothing : Type 0
 AgainNothing =
-    (s : Store) (t : ℕ) (w : Scratch) (list : List ℕ) → Octets s → Splits s t w list
-    → (v : Scratch) (list′ : List ℕ) → scratchShort (storeThen s t w list) t v ≡ false
-    → (splitCall (storeThen s t w list) t v list′ .answer ≡ 0) × Unchanged (storeThen s t w list) v list′ (splitCall (storeThen s t w list) t v list′)
+    (how : Settings) (s : Store) (t : ℕ) (w : Scratch) (list : List ℕ) → Octets s → Splits how s t w list
+    → (v : Scratch) (list′ : List ℕ) → scratchShort (storeThen how s t w list) t v ≡ false
+    → (splitCall how (storeThen how s t w list) t v list′ .answer ≡ 0)
+    × Unchanged (storeThen how s t w list) v list′ (splitCall how (storeThen how s t w list) t v list′)
 
 -- ---- what a split leaves can be lent again
 
 -- the store stays sound
 abbrev pub StaysSound : Type 0
-StaysSound = (s : Store) (t : ℕ) (w : Scratch) (list : List ℕ) → Splits s t w list → sound (storeThen s t w list) ≡ true
+StaysSound = (how : Settings) (s : Store) (t : ℕ) (w : Scratch) (list : List ℕ) → Splits how s t w list → sound (storeThen how s t w list) ≡ true
 
 -- the data stay bytes: every number that is written fits its two bytes, 65,536 covered glyphs and as many runs of classes not excepted
 abbrev pub StaysOctets : Type 0
-StaysOctets = (s : Store) (t : ℕ) (w : Scratch) (list : List ℕ) → Octets s → Splits s t w list → Octets (storeThen s t w list)
+StaysOctets = (how : Settings) (s : Store) (t : ℕ) (w : Scratch) (list : List ℕ) → Octets s → Splits how s t w list → Octets (storeThen how s t w list)

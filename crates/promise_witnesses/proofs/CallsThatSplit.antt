@@ -1,4 +1,5 @@
--- The demands speak of something: a store of bytes with a table that a call splits. And bytes are needed: without them a new table may be unreadable. Assumes nothing.
+-- The demands speak of something under either edition: a store of bytes with a table that a call splits. And bytes are needed: without them a new table may be
+-- unreadable. Assumes nothing.
 use Prim.Native.Nat.{ℕ}
 use mathlib.Core.Path.{_≡_, refl}
 use mathlib.Core.Bool.{true}
@@ -16,6 +17,8 @@ use Rattle.folds.proofs.Bytes.{bytes-append, bytes-zeros}
 use Rattle.folds.specs.Lists.{Bytes}
 use Rattle.store_rules.specs.Store.{Store}
 use Rattle.pair_rules.specs.Table.{cutPlaces}
+use Rattle.call_rules.specs.declared.Settings.{Settings}
+use Rattle.call_rules.specs.Settings.{firstEdition, secondEdition, known}
 use Rattle.call_rules.specs.Scratch.{Scratch, scratchOf}
 use Rattle.call_rules.specs.Outcomes.{Outcome}
 use Rattle.pair_rules.specs.Calls.{splitCall, pairCases}
@@ -23,6 +26,8 @@ use Rattle.call_rules.specs.Answers.{firstCase}
 use Rattle.pair_rules.specs.Computing.{computes}
 use Rattle.promise_calls.specs.Unchanged.{Octets}
 use Rattle.promise_pairs.specs.Demands.{Splits, storeThen, AllAfresh}
+use Rattle.promise_witnesses.proofs.EitherEdition.{in-either}
+use Rattle.promise_witnesses.proofs.HeldToACall.{seenOf, answers, counts}
 
 -- each number was looked at
 pub small-bytes : (xs : List ℕ) → every (λ i x. ltb x 256) 0 xs ≡ true → Bytes xs
@@ -32,47 +37,55 @@ small-bytes xs e i =
     (λ ge. omega (arith, List·getD-eq-default xs 0 ge))
     (either i (length xs))
 
--- ---- a call that splits: under a coverage of 6 a set without records, which leads to an object; together they are as long as W9's set; with room
+-- ---- a call that splits in two, by either edition: three slots under a coverage of three glyphs, with room; each has a set without records that leads to 40,000
+-- bytes, the first and the last the same one
 
-unfoldable pub front : List ℕ
-front = words (1 ∷ 0 ∷ 0 ∷ 0 ∷ 1 ∷ 0 ∷ 1 ∷ 1 ∷ 10 ∷ [])
+unfoldable pub slotsFront : List ℕ
+slotsFront = words (1 ∷ 0 ∷ 0 ∷ 0 ∷ 3 ∷ 0 ∷ 0 ∷ 0 ∷ 1 ∷ 3 ∷ 10 ∷ 20 ∷ 30 ∷ 0 ∷ 0 ∷ [])
 
-unfoldable pub largeSet : Store
-largeSet =
+-- objects: table 16, coverage 10, two sets of 2, and two of 40,000
+unfoldable pub threeSlots : Store
+threeSlots =
     record {
-      bytes = front ++ replicate 65618 0;
-      objects = 0 ∷ 12 ∷ 12 ∷ 18 ∷ 18 ∷ 20 ∷ 20 ∷ 65536 ∷ replicate 6 0;
-      links = 0 ∷ 2 ∷ 2 ∷ 1 ∷ 0 ∷ 10 ∷ 2 ∷ 2 ∷ 2 ∷ 0 ∷ 2 ∷ 3 ∷ replicate 4 0;
-      byteCount = 65536;
-      objectCount = 4;
-      linkCount = 3;
+      bytes = slotsFront ++ replicate 80042 0;
+      objects = 0 ∷ 16 ∷ 16 ∷ 26 ∷ 26 ∷ 28 ∷ 28 ∷ 30 ∷ 30 ∷ 40030 ∷ 40030 ∷ 80030 ∷ replicate 10 0;
+      links = 0 ∷ 2 ∷ 2 ∷ 1 ∷ 0 ∷ 10 ∷ 2 ∷ 2 ∷ 0 ∷ 12 ∷ 2 ∷ 3 ∷ 0 ∷ 14 ∷ 2 ∷ 2 ∷ 2 ∷ 0 ∷ 2 ∷ 4 ∷ 3 ∷ 0 ∷ 2 ∷ 5 ∷ replicate 8 0;
+      byteCount = 80030;
+      objectCount = 6;
+      linkCount = 6;
     }
 
-unfoldable pub scratch : Scratch
-scratch = scratchOf (replicate 8 0) (replicate 8192 0) (0 ∷ []) (0 ∷ []) (0 ∷ [])
+unfoldable pub slotsScratch : Scratch
+slotsScratch = scratchOf (replicate 12 0) (replicate 8192 0) (replicate 3 0) (replicate 3 0) (replicate 3 0)
 
-pub large-octets : Octets largeSet
-unfolding largeSet front words be16
-large-octets = bytes-append front (replicate 65618 0) (small-bytes front refl) (bytes-zeros 65618)
+pub slots-octets : Octets threeSlots
+unfolding threeSlots slotsFront words be16
+slots-octets = bytes-append slotsFront (replicate 80042 0) (small-bytes slotsFront refl) (bytes-zeros 80042)
 
--- answer, count, and what a reading of table t then refuses by: in one list, so that the call is computed once
-unfoldable pub seen : ℕ → Outcome → List (Option ℕ)
-seen t o = some (o .answer) ∷ some (o .count) ∷ firstCase (pairCases (o .store) t) ∷ []
+abbrev pub twoList : List ℕ
+twoList = 0 ∷ 0 ∷ []
 
-splits-once :
-    (s : Store) (t : ℕ) (w : Scratch) (list : List ℕ) (refusal : Option ℕ)
-    → seen t (splitCall s t w list) ≡ some 0 ∷ some 1 ∷ refusal ∷ [] → Splits s t w list
-unfolding seen
-splits-once s t w list refusal e =
-    let answer : splitCall s t w list .answer ≡ 0 = cc in
-    let count : splitCall s t w list .count ≡ 1 = cc in record { answers = answer; cuts = omega arith }
+-- the call
+abbrev pub left : Settings → Outcome
+left how = splitCall how threeSlots 0 slotsScratch twoList
 
-large-seen : seen 0 (splitCall largeSet 0 scratch (0 ∷ [])) ≡ some 0 ∷ some 1 ∷ none ∷ []
-unfolding largeSet front scratch computes seen
-large-seen = refl
+first-seen : seenOf threeSlots (left firstEdition) ≡ 0 ∷ 2 ∷ 11 ∷ 1 ∷ 0 ∷ []
+unfolding threeSlots slotsFront slotsScratch computes seenOf
+first-seen = refl
 
-pub large-splits : Splits largeSet 0 scratch (0 ∷ [])
-large-splits = splits-once largeSet 0 scratch (0 ∷ []) none large-seen
+second-seen : seenOf threeSlots (left secondEdition) ≡ 0 ∷ 2 ∷ 11 ∷ 1 ∷ 0 ∷ []
+unfolding threeSlots slotsFront slotsScratch computes seenOf
+second-seen = refl
+
+pub slots-seen : (how : Settings) → known how ≡ true → seenOf threeSlots (left how) ≡ 0 ∷ 2 ∷ 11 ∷ 1 ∷ 0 ∷ []
+slots-seen = in-either (λ how. seenOf threeSlots (left how) ≡ 0 ∷ 2 ∷ 11 ∷ 1 ∷ 0 ∷ []) first-seen second-seen
+
+-- so there is something of which the demands speak
+pub slots-split : (how : Settings) → known how ≡ true → Splits how threeSlots 0 slotsScratch twoList
+slots-split how is-known =
+    let seen = slots-seen how is-known in
+    let count = counts threeSlots 0 slotsScratch twoList (left how) 11 seen in
+    record { answers = answers threeSlots 0 slotsScratch twoList (left how) 11 seen; cuts = omega arith }
 
 -- ---- no bytes, no promise: a table whose coverage has the one glyph 65,536, of class 1
 
@@ -94,14 +107,22 @@ wild =
 unfoldable pub wildScratch : Scratch
 wildScratch = scratchOf (replicate 8 0) (replicate 8192 0) (0 ∷ []) (0 ∷ []) (replicate 170 0)
 
--- the kept table's class definition 1 is unreadable
-wild-seen : seen 3 (splitCall wild 3 wildScratch (0 ∷ [])) ≡ some 0 ∷ some 1 ∷ some 4 ∷ []
+-- answer, count, and what a reading of the kept table then refuses by: in one list, so that the call is computed once
+unfoldable pub seen : Outcome → List (Option ℕ)
+seen o = some (o .answer) ∷ some (o .count) ∷ firstCase (pairCases (o .store) 3) ∷ []
+
+-- its class definition 1 is unreadable
+wild-seen : seen (splitCall firstEdition wild 3 wildScratch (0 ∷ [])) ≡ some 0 ∷ some 1 ∷ some 4 ∷ []
 unfolding wild wildFront wildScratch computes seen
 wild-seen = refl
 
-pub not-without-bytes : ((s : Store) (t : ℕ) (w : Scratch) (list : List ℕ) → Splits s t w list → AllAfresh s t (storeThen s t w list) (cutPlaces s t)) → ⊥
+pub not-without-bytes :
+    ((how : Settings) (s : Store) (t : ℕ) (w : Scratch) (list : List ℕ) → Splits how s t w list → AllAfresh s t (storeThen how s t w list) (cutPlaces how s t))
+    → ⊥
 unfolding seen
 not-without-bytes h =
-    let splits : Splits wild 3 wildScratch (0 ∷ []) = splits-once wild 3 wildScratch (0 ∷ []) (some 4) wild-seen in
-    let r : firstCase (pairCases (storeThen wild 3 wildScratch (0 ∷ [])) 3) ≡ none = h wild 3 wildScratch (0 ∷ []) splits .kept .readable in
+    let answer : splitCall firstEdition wild 3 wildScratch (0 ∷ []) .answer ≡ 0 = cc wild-seen in
+    let count : splitCall firstEdition wild 3 wildScratch (0 ∷ []) .count ≡ 1 = cc wild-seen in
+    let splits : Splits firstEdition wild 3 wildScratch (0 ∷ []) = record { answers = answer; cuts = omega arith } in
+    let r : firstCase (pairCases (storeThen firstEdition wild 3 wildScratch (0 ∷ [])) 3) ≡ none = h firstEdition wild 3 wildScratch (0 ∷ []) splits .kept .readable in
     let y : _≡_ {A = ℕ} 0 1 = cc wild-seen in omega arith

@@ -1,4 +1,5 @@
-pub mod CallsThatSplit
+pub mod EitherEdition
 pub mod HeldToACall
+pub mod CallsThatSplit
 pub mod UselessBuilds
 pub mod UselessMarkBuilds

@@ -1,74 +1,33 @@
--- None of the four useless builds keeps what is promised: each is held to a call that splits. Assumes nothing.
-use Prim.Native.Nat.{ℕ}
-use mathlib.Core.Path.{_≡_, refl}
-use mathlib.Core.List.{List, [], _∷_, _++_}
+-- None of the four useless builds keeps what is promised under either edition: each is held to a call that splits. Assumes nothing.
+use mathlib.Core.Path.{_≡_}
+use mathlib.Core.Bool.{true}
+use mathlib.Core.List.{[], _∷_}
 use native.Mathlib.Omega.{arith}
-use lib.ListN.{replicate}
-use Rattle.folds.proofs.Bytes.{bytes-append, bytes-zeros}
-use Rattle.ot_layouts.specs.Numbers.{words, be16}
-use Rattle.store_rules.specs.Store.{Store}
-use Rattle.call_rules.specs.Scratch.{Scratch, scratchOf}
-use Rattle.call_rules.specs.Outcomes.{Outcome}
-use Rattle.pair_rules.specs.Calls.{splitCall}
-use Rattle.pair_rules.specs.Computing.{computes}
-use Rattle.promise_calls.specs.Unchanged.{Octets}
+use Rattle.call_rules.specs.declared.Settings.{Settings}
+use Rattle.call_rules.specs.Settings.{known}
 use Rattle.promise_pairs.proofs.Unique.{split-only}
 use Rattle.promise_witnesses.specs.Builds.{Build, Keeps, RefusesEverything, NeverCuts, DoesNothing, NumbersTheRest}
 use Rattle.promise_witnesses.proofs.HeldToACall.{seenOf, refuses-not, cuts-once, does-something, writes-the-rest}
-use Rattle.promise_witnesses.proofs.CallsThatSplit.{small-bytes}
+use Rattle.promise_witnesses.proofs.CallsThatSplit.{threeSlots, slotsScratch, twoList, slots-octets, left, slots-seen}
 
--- ---- a call that splits in two: a set without records in two slots, which leads to an object; together they are 65,518 bytes; under a coverage of two
--- glyphs, with room
+-- the build leaves what the call leaves, so it is none of the four
+module _ (how : Settings) (is-known : known how ≡ true) (build : Build) (keeps : Keeps how build) where
+  seen : seenOf threeSlots (left how) ≡ 0 ∷ 2 ∷ 11 ∷ 1 ∷ 0 ∷ []
+  seen = slots-seen how is-known
 
-unfoldable pub twoFront : List ℕ
-twoFront = words (1 ∷ 0 ∷ 0 ∷ 0 ∷ 2 ∷ 0 ∷ 0 ∷ 1 ∷ 2 ∷ 10 ∷ 20 ∷ [])
-
--- objects: table 14, coverage 8, set 2, and 65,516
-unfoldable pub twoSlots : Store
-twoSlots =
-    record {
-      bytes = twoFront ++ replicate 65558 0;
-      objects = 0 ∷ 14 ∷ 14 ∷ 22 ∷ 22 ∷ 24 ∷ 24 ∷ 65540 ∷ replicate 10 0;
-      links = 0 ∷ 2 ∷ 2 ∷ 1 ∷ 0 ∷ 10 ∷ 2 ∷ 2 ∷ 0 ∷ 12 ∷ 2 ∷ 2 ∷ 2 ∷ 0 ∷ 2 ∷ 3 ∷ replicate 8 0;
-      byteCount = 65540;
-      objectCount = 4;
-      linkCount = 4;
-    }
-
-unfoldable pub twoScratch : Scratch
-twoScratch = scratchOf (replicate 8 0) (replicate 8192 0) (0 ∷ 0 ∷ []) (0 ∷ 0 ∷ []) (0 ∷ 0 ∷ [])
-
-two-octets : Octets twoSlots
-unfolding twoSlots twoFront words be16
-two-octets = bytes-append twoFront (replicate 65558 0) (small-bytes twoFront refl) (bytes-zeros 65558)
-
-abbrev twoList : List ℕ
-twoList = 0 ∷ 0 ∷ []
-
--- the call
-abbrev left : Outcome
-left = splitCall twoSlots 0 twoScratch twoList
-
-two-seen : seenOf twoSlots left ≡ 0 ∷ 2 ∷ 9 ∷ 1 ∷ 0 ∷ []
-unfolding twoSlots twoFront twoScratch computes seenOf
-two-seen = refl
-
--- ---- so none of the four does it
-
-module _ (build : Build) (keeps : Keeps build) where
   -- the build leaves what `splitCall` leaves
-  built : build twoSlots 0 twoScratch twoList ≡ left
-  built = split-only twoSlots 0 twoScratch twoList _ two-octets (keeps twoSlots 0 twoScratch twoList two-octets)
+  built : build threeSlots 0 slotsScratch twoList ≡ left how
+  built = split-only how threeSlots 0 slotsScratch twoList _ slots-octets (keeps threeSlots 0 slotsScratch twoList slots-octets)
 
   pub no-build-refuses-everything : RefusesEverything build → ⊥
-  no-build-refuses-everything = refuses-not twoSlots 0 twoScratch twoList left 9 two-seen build built
+  no-build-refuses-everything = refuses-not threeSlots 0 slotsScratch twoList (left how) 11 seen build built
 
   pub no-build-never-cuts : NeverCuts build → ⊥
-  no-build-never-cuts = cuts-once twoSlots 0 twoScratch twoList left 9 two-seen build built
+  no-build-never-cuts = cuts-once threeSlots 0 slotsScratch twoList (left how) 11 seen build built
 
   pub no-build-does-nothing : DoesNothing build → ⊥
-  unfolding twoSlots
-  no-build-does-nothing = does-something twoSlots 0 twoScratch twoList left 9 two-seen build built (omega arith)
+  unfolding threeSlots
+  no-build-does-nothing = does-something threeSlots 0 slotsScratch twoList (left how) 11 seen build built (omega arith)
 
   pub no-build-only-numbers-the-rest : NumbersTheRest build → ⊥
-  no-build-only-numbers-the-rest = writes-the-rest twoSlots 0 twoScratch twoList left 9 two-seen build built
+  no-build-only-numbers-the-rest = writes-the-rest threeSlots 0 slotsScratch twoList (left how) 11 seen build built

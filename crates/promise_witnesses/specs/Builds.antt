@@ -5,23 +5,24 @@ use mathlib.Core.List.{List}
 use lib.ListN.{getD}
 use Rattle.folds.specs.Lists.{part}
 use Rattle.store_rules.specs.Store.{Store, bytesOf, headOf, tailOf}
+use Rattle.call_rules.specs.declared.Settings.{Settings}
 use Rattle.call_rules.specs.Scratch.{Scratch}
 use Rattle.call_rules.specs.Outcomes.{Outcome}
 use Rattle.promise_calls.specs.Unchanged.{Octets}
 use Rattle.promise_pairs.specs.Calls.{SplitKeeps}
 use Rattle.promise_marks.specs.Calls as marks
 
--- a build of the split: what a call leaves, from what it is lent
+-- a build of the split under some settings: what a call leaves, from what it is lent
 abbrev pub Build : Type 0
 Build = Store → ℕ → Scratch → List ℕ → Outcome
 
--- it keeps what is promised of every split
-abbrev pub Keeps : Build → Type 0
-Keeps build = (s : Store) (t : ℕ) (w : Scratch) (list : List ℕ) → Octets s → SplitKeeps s t w list (build s t w list)
+-- it keeps what is promised of every split under these settings
+abbrev pub Keeps : Settings → Build → Type 0
+Keeps how build = (s : Store) (t : ℕ) (w : Scratch) (list : List ℕ) → Octets s → SplitKeeps how s t w list (build s t w list)
 
 -- the same, of a build of the split of mark-to-base tables
-abbrev pub KeepsMarks : Build → Type 0
-KeepsMarks build = (s : Store) (t : ℕ) (w : Scratch) (list : List ℕ) → marks.SplitKeeps s t w list (build s t w list)
+abbrev pub KeepsMarks : Settings → Build → Type 0
+KeepsMarks how build = (s : Store) (t : ℕ) (w : Scratch) (list : List ℕ) → marks.SplitKeeps how s t w list (build s t w list)
 
 -- "One that refuses everything"
 abbrev pub RefusesEverything : Build → Type 0

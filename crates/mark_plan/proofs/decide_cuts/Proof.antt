@@ -13,24 +13,24 @@ scratch c = let a = c .args in scratchOf (a .walk .now) (a .glyph-set .now) (a .
 begin-walk-requires : tie.Need-begin-walk-requires
 begin-walk-requires c κs =
     let start = c .before .before .before .before .before .before .before .before .before in
-    ((start .args .«data» .now, start .pre .opens .reads .sounds), can-begin (scratch start) (start .pre))
+    ((start .args .«data» .now, start .pre .1 .opens .reads .sounds), can-begin (scratch start) (start .pre .1))
 
 slice-read-if1 : tie.Need-slice-read-if1
 slice-read-if1 c =
     let start = c .before .before .before .before .before .before .before .before .before .before .before .before .before in
-    omega (arith, table-marked (scratch start) (start .pre), c .before .before .walk .given)
+    omega (arith, table-marked (scratch start) (start .pre .1), c .before .before .walk .given)
 
 returns : tie.Need-returns
 returns c =
     let begun = c .before .before .before .before in
     let start = begun .before .before .before .before .before .before .before .before .before .before in
-    decided-cycle (scratch start) (start .pre) (begun .begin-walk .ensures (start .args .«data» .now)) (c .if1 .taken)
+    decided-cycle (scratch start) (start .pre .1) (begun .begin-walk .ensures (start .args .«data» .now)) (start .pre .0) (c .if1 .taken)
 
 cut-table-requires : tie.Need-cut-table-requires
 cut-table-requires c κs =
     let begun = c .before .before .before .before .before .before .before .before .before in
     let start = begun .before .before .before .before .before .before .before .before .before .before in
-    (start .args .table, can-cut (scratch start) (start .pre) (begun .begin-walk .ensures (start .args .«data» .now)))
+    (start .args .table, can-cut (scratch start) (start .pre .1) (begun .begin-walk .ensures (start .args .«data» .now)))
 
 returns-2 : tie.Need-returns-2
 returns-2 c =
@@ -38,8 +38,8 @@ returns-2 c =
     let begun = cut .before .before .before .before .before .before .before .before .before .before in
     let start = begun .before .before .before .before .before .before .before .before .before .before in
     let walked = begun .begin-walk .ensures (start .args .«data» .now) in
-    decided-cut (scratch start) (start .pre) walked (cut .before .before .before .before .before .before .if1 .left)
-    (cut .cut-table .ensures (start .args .table) (can-cut (scratch start) (start .pre) walked))
+    decided-cut (scratch start) (start .pre .1) walked (start .pre .0) (cut .before .before .before .before .before .before .if1 .left)
+    (cut .cut-table .ensures (start .args .table) (can-cut (scratch start) (start .pre .1) walked))
 
 pub decide-cuts-spec : {M : Type 1} → statement M
 decide-cuts-spec =

@@ -1,5 +1,7 @@
--- `mark_split::split_any` meets its contract: refused by 1 to 7, or split as planned. Assumes nothing.
+-- `mark_split::split_any` meets its contract: refused by 12 or 1 to 7, or split as planned. Assumes nothing.
+use Prim.Native.Nat.{ℕ}
 use mathlib.Core.Path.{sym, ap, _∙_}
+use mathlib.Core.List.{List}
 use mathlib.Core.Option.{some}
 use borrow.Author.Needs.{needs}
 use Rattle.store_rules.specs.Store.{lent}
@@ -7,9 +9,9 @@ use Rattle.call_rules.specs.Scratch.{scratchOf}
 use Rattle.call_lists.proofs.Split.{call-settled, call-goes}
 use Rattle.mark_rules.specs.Table.{cutPlaces}
 use Rattle.mark_rules.specs.Written.{needed, splitStore, newTables}
-use Rattle.mark_rules.specs.Calls.{cutCases, lastCases, splitCases, markSplitCall}
+use Rattle.mark_rules.specs.Calls.{cutCases, lastCases, splitCases, splitUnless, markSplitCall}
 use Rattle.mark_plan.specs.Decided.{decidedAs}
-use Rattle.mark_split.proofs.Fronts.{none-applies, ready}
+use Rattle.mark_split.proofs.Fronts.{none-applies, places-planned, ready}
 use Rattle.mark_split.proofs.split_any.Statement.{statement}
 use Rattle.mark_split.proofs.split_any.Tie as tie
 
@@ -17,7 +19,7 @@ split-planned-requires : tie.Need-split-planned-requires
 split-planned-requires c κs =
     let cut = c .before .before .before .before .before .before .before .before .before .before .before in
     let decided = cut .before .before .before .before .before .before .before .before .before .before .before .before in
-    let kept = decided .decide .kept .1 .1 .1 .1 .1 .1 in
+    let kept = decided .decide .kept .1 .1 .1 .1 .1 .1 .1 in
     ready (decided .decide .ensures) (cut .decision2 .given .1) (λ i. decided .before .before .before .before .before .before .before .before .before .before .before .before .before .before .before .before .before .before .slice-known .given i .fits) (kept .0) (kept .1 .0) (kept .1 .1 .0)
 
 returns : tie.Need-returns
@@ -27,7 +29,8 @@ returns c =
     let a = decided .before .before .before .before .before .before .before .before .before .before .before .before .before .before .before .before .before .before .before .args in
     let s = lent (a .«data» .now) (a .objects .now) (a .links .now) (a .counts .now) in
     let w = scratchOf (a .walk .now) (a .glyph-set .now) (a .glyphs .now) (a .classes .now) (a .cuts .now) in
-    call-settled s (a .new-tables .now) (needed s (a .table)) (splitStore s (a .table)) (newTables s (a .table)) (cutPlaces s (a .table)) (cutCases s (a .table) w) w
+    call-settled s (a .new-tables .now) (needed s (a .table)) (splitStore s (a .table)) (newTables s (a .table)) (cutPlaces (a .settings) s (a .table))
+    (cutCases (a .settings) s (a .table) w) w
     (decided .decide .ensures .answers ∙ ap decidedAs (c .before .before .decision .given .1) ∙ ap some (sym (c .number-of .ensures)))
 
 same-walk : tie.Need-same-length-12
@@ -55,7 +58,10 @@ returns-2 c =
     let s = lent (a .«data» .now) (a .objects .now) (a .links .now) (a .counts .now) in
     let w = scratchOf (a .walk .now) (a .glyph-set .now) (a .glyphs .now) (a .classes .now) (a .cuts .now) in
     split .split-planned .ensures w
-    ∙ call-goes s (a .new-tables .now) (needed s (a .table)) (splitStore s (a .table)) (newTables s (a .table)) (cutPlaces s (a .table)) (cutCases s (a .table) w) w (none-applies (decided .decide .ensures) (cut .decision2 .given .1))
+    ∙ ap (λ (cs : List ℕ). splitUnless (lastCases s (a .table) cs (a .new-tables .now)) s (a .table) cs w (a .new-tables .now))
+    (places-planned (decided .decide .ensures) (cut .decision2 .given .1))
+    ∙ call-goes s (a .new-tables .now) (needed s (a .table)) (splitStore s (a .table)) (newTables s (a .table)) (cutPlaces (a .settings) s (a .table))
+    (cutCases (a .settings) s (a .table) w) w (none-applies (decided .decide .ensures) (cut .decision2 .given .1))
 
 pub split-any-spec : {M : Type 1} → statement M
 split-any-spec =

@@ -1,9 +1,10 @@
 -- `pair_sets::is_sorted` meets its contract: what is left behind the records passed decides. Assumes nothing.
 use borrow.Author.Needs.{needs}
-use Prim.Native.Nat.{_-_}
+use Prim.Native.Nat.{_+_, _-_}
 use native.Mathlib.Omega.{arith}
+use Rattle.pair_sets.specs.Passing.{Passing}
 use Rattle.pair_sets.proofs.Widths.{records-fit}
-use Rattle.pair_sets.proofs.Ascending.{Passing, too-short, not-long, start, glyph-within, turn, fail, stop}
+use Rattle.pair_sets.proofs.Ascending.{too-short, not-long, start, glyph-within, fail0, fail1, fail2, fail3, four}
 use Rattle.pair_sets.proofs.is_sorted.Statement.{statement}
 use Rattle.pair_sets.proofs.is_sorted.Tie as tie
 
@@ -28,23 +29,60 @@ returns-2 c = not-long _ _ (c .before .u16-at .ensures) (c .if2 .taken)
 loop-holds : tie.Need-loop-holds Inv-loop μ-loop
 loop-holds c = start _ _ (c .before .u16-at .ensures) (c .if2 .left)
 
-mul-u16-at : tie.Need-mul-u16-at Inv-loop μ-loop
-mul-u16-at c = omega (arith, glyph-within _ _ (c .before .loop .inv) (c .loop-test .taken))
+add-loop : tie.Need-add-loop Inv-loop μ-loop
+add-loop c = omega (arith, c .loop .inv .within)
 
-add-u16-at-2 : tie.Need-add-u16-at-2 Inv-loop μ-loop
-add-u16-at-2 c = omega (arith, glyph-within _ _ (c .before .loop .inv) (c .loop-test .taken))
+glyph-of-requires : tie.Need-glyph-of-requires Inv-loop μ-loop
+glyph-of-requires c κs = glyph-within _ _ (c .before .loop .inv) (c .before .loop .r) (omega arith)
 
-u16-at-requires-2 : tie.Need-u16-at-requires-2 Inv-loop μ-loop
-u16-at-requires-2 c κs = omega (arith, glyph-within _ _ (c .before .loop .inv) (c .loop-test .taken))
+glyph-of-requires-2 : tie.Need-glyph-of-requires-2 Inv-loop μ-loop
+glyph-of-requires-2 c κs = glyph-within _ _ (c .before .before .loop .inv) (c .before .before .loop .r + 1) (omega arith)
+
+glyph-of-requires-3 : tie.Need-glyph-of-requires-3 Inv-loop μ-loop
+glyph-of-requires-3 c κs = glyph-within _ _ (c .before .before .before .loop .inv) (c .before .before .before .loop .r + 2) (omega arith)
+
+glyph-of-requires-4 : tie.Need-glyph-of-requires-4 Inv-loop μ-loop
+glyph-of-requires-4 c κs = glyph-within _ _ (c .before .before .before .before .loop .inv) (c .before .before .before .before .loop .r + 3) (omega arith)
 
 returns-3 : tie.Need-returns-3 Inv-loop μ-loop
-returns-3 c = fail _ _ (c .before .before .before .loop .inv) (c .before .before .loop-test .taken) (c .before .u16-at2 .ensures) (c .if3 .taken)
-
-loop-again : tie.Need-loop-again Inv-loop μ-loop
-loop-again c = turn _ _ (c .before .before .before .loop .inv) (c .before .before .loop-test .taken) (c .before .u16-at2 .ensures) (c .if3 .left)
+returns-3 c =
+    let read = c .before in
+    let turn = read .before .before .before .before in
+    fail0 _ _ (turn .before .loop .inv) (turn .loop-test .taken)
+    (read .before .before .before .glyph-of .ensures) (read .before .before .glyph-of2 .ensures) (read .before .glyph-of3 .ensures) (read .glyph-of4 .ensures)
+    (c .if3 .taken)
 
 returns-4 : tie.Need-returns-4 Inv-loop μ-loop
-returns-4 c = stop _ _ (c .before .loop .inv) (c .loop-test .left)
+returns-4 c =
+    let read = c .before .before in
+    let turn = read .before .before .before .before in
+    fail1 _ _ (turn .before .loop .inv) (turn .loop-test .taken)
+    (read .before .before .before .glyph-of .ensures) (read .before .before .glyph-of2 .ensures) (read .before .glyph-of3 .ensures) (read .glyph-of4 .ensures)
+    (c .before .if3 .left) (c .if4 .taken)
+
+returns-5 : tie.Need-returns-5 Inv-loop μ-loop
+returns-5 c =
+    let read = c .before .before .before in
+    let turn = read .before .before .before .before in
+    fail2 _ _ (turn .before .loop .inv) (turn .loop-test .taken)
+    (read .before .before .before .glyph-of .ensures) (read .before .before .glyph-of2 .ensures) (read .before .glyph-of3 .ensures) (read .glyph-of4 .ensures)
+    (c .before .before .if3 .left) (c .before .if4 .left) (c .if5 .taken)
+
+returns-6 : tie.Need-returns-6 Inv-loop μ-loop
+returns-6 c =
+    let read = c .before .before .before .before in
+    let turn = read .before .before .before .before in
+    fail3 _ _ (turn .before .loop .inv) (turn .loop-test .taken)
+    (read .before .before .before .glyph-of .ensures) (read .before .before .glyph-of2 .ensures) (read .before .glyph-of3 .ensures) (read .glyph-of4 .ensures)
+    (c .before .before .before .if3 .left) (c .before .before .if4 .left) (c .before .if5 .left) (c .if6 .taken)
+
+loop-again : tie.Need-loop-again Inv-loop μ-loop
+loop-again c =
+    let read = c .before .before .before .before in
+    let turn = read .before .before .before .before in
+    four _ _ (turn .before .loop .inv) (turn .loop-test .taken)
+    (read .before .before .before .glyph-of .ensures) (read .before .before .glyph-of2 .ensures) (read .before .glyph-of3 .ensures) (read .glyph-of4 .ensures)
+    (c .before .before .before .if3 .left) (c .before .before .if4 .left) (c .before .if5 .left) (c .if6 .left)
 
 pub is-sorted-spec : {M : Type 1} → statement M
 is-sorted-spec =
@@ -60,14 +98,23 @@ is-sorted-spec =
     add-if2-2
     returns-2
     loop-holds
+    add-loop
+    glyph-of-requires
     (λ c. search needs)
-    mul-u16-at
-    add-u16-at-2
-    u16-at-requires-2
+    glyph-of-requires-2
+    (λ c. search needs)
+    glyph-of-requires-3
+    (λ c. search needs)
+    glyph-of-requires-4
     (λ c. search needs)
     returns-3
+    returns-4
+    returns-5
+    returns-6
+    (λ c. search needs)
     (λ c. search needs)
     (λ c. search needs)
     (λ c. search needs)
     loop-again
-    returns-4)
+    (λ c κs. search needs)
+    (λ c. search needs))

@@ -7,7 +7,7 @@ use Rattle.promise_callers.proofs.marks.plan.Tie as tie
 returns : tie.Need-returns
 returns c =
     let called = c .before .before .before .before .before .before .before .before .before .before .before .before in
-    plan-keeps _ _ _ _ _ (called .cut-plan-markbasepos .ensures)
+    plan-keeps _ _ _ _ _ _ (called .cut-plan-markbasepos .ensures)
 
 pub plan-spec : {M : Type 1} → statement M
 plan-spec =

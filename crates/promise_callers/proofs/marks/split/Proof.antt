@@ -7,7 +7,7 @@ use Rattle.promise_callers.proofs.marks.split.Tie as tie
 returns : tie.Need-returns
 returns c =
     let called = c .before .before .before .before .before .before .before .before .before .before .before .before .before .before .before .before .before .before in
-    split-keeps _ _ _ _ _ (called .split-markbasepos .ensures)
+    split-keeps _ _ _ _ _ _ (called .split-markbasepos .ensures)
 
 pub split-spec : {M : Type 1} → statement M
 split-spec =

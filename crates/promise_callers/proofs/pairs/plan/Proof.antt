@@ -7,7 +7,7 @@ use Rattle.promise_callers.proofs.pairs.plan.Tie as tie
 returns : tie.Need-returns
 returns c =
     let after-cut-plan = c .before .before .before .before .before .before .before .before .before .before .before .before in
-    plan-keeps _ _ _ _ _ (after-cut-plan .cut-plan .ensures)
+    plan-keeps _ _ _ _ _ _ (after-cut-plan .cut-plan .ensures)
 
 pub plan-spec : {M : Type 1} → statement M
 plan-spec =

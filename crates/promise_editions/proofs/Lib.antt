@@ -1,0 +1,2 @@
+pub mod OfPairs
+pub mod OfMarks
