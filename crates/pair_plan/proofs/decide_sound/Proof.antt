@@ -18,7 +18,7 @@ returns : tie.Need-returns
 returns c =
     let start = c .before .before .before .before .before .before .before .before .before .before .before .before in
     let a = start .args in
-    decided-settled (a .settings) (start .pre .0) (lent (a .«data» .now) (a .objects .now) (a .links .now) (a .counts)) (a .table)
+    decided-settled (start .pre .0) (lent (a .«data» .now) (a .objects .now) (a .links .now) (a .counts)) (a .table)
     (scratchOf (a .walk .now) (a .glyph-set .now) (a .glyphs .now) (a .classes .now) (a .cuts .now))
     (c .before .before .before .check-call .ensures) (c .before .checked .given .1)
 
