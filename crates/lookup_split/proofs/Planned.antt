@@ -1,6 +1,6 @@
 -- New tables entered as planned: nothing to cut, or what is left of the call at the plan's places and in the list's lookups. Assumes nothing.
 use Prim.Native.Nat.{ℕ, _+_, _≤_}
-use mathlib.Core.Path.{_≡_, sym, ap, ap₂, subst, _∙_}
+use mathlib.Core.Path.{_≡_, sym, ap, subst, _∙_}
 use mathlib.Core.Bool.{false, cond}
 use mathlib.Core.List.{List}
 use native.Mathlib.Omega.{arith}
@@ -15,7 +15,6 @@ use Rattle.call_rules.specs.Answers.{firstCase}
 use Rattle.call_rules.specs.Scratch.{Scratch, cleared}
 use Rattle.call_rules.specs.Outcomes.{settle, outcome}
 use Rattle.call_lists.proofs.Split.{is-empty, not-empty}
-use Rattle.pair_rules.specs.Table.{cutPlaces}
 use Rattle.pair_plan.specs.declared.Plan.{Plan}
 use Rattle.pair_split.proofs.Fronts.{fronts-lent}
 use Rattle.lookup_rules.specs.Listed.{rewritten}
@@ -31,17 +30,19 @@ module _ {s : Store} {l t : ℕ} {p : Plan} {gs ks cuts walk : List ℕ} (k : En
   abbrev cs : List ℕ
   cs = part cuts 0 (p .cuts)
 
-  pub nothing : p .cuts ≡ 0 → (list : List ℕ) (w : Scratch) → outcome 0 0 s list (cleared w) ≡ enteredThen s l t w list
+  long : length cs ≡ p .cuts
+  long = front-long cuts (p .cuts) (k .plan .cut-room)
+
+  pub nothing : p .cuts ≡ 0 → (list : List ℕ) (w : Scratch) → outcome 0 0 s list (cleared w) ≡ enteredThen s l t cs w list
   unfolding enterCases firstCase settle
-  nothing h list w = rw (is-empty (cutPlaces s t) (sym (k .plan .count) ∙ h))
+  nothing h list w = rw (is-empty cs (long ∙ h))
 
   module _ (some : p .cuts ≡ 0 → ⊥) where
-    some-cut : isEmpty (cutPlaces s t) ≡ false
-    some-cut = not-empty (cutPlaces s t) (λ z. some (k .plan .count ∙ z))
+    some-cut : isEmpty cs ≡ false
+    some-cut = not-empty cs (λ z. some (sym long ∙ z))
 
-    -- at the plan's places and in the list's lookups
-    last-cases : (list : List ℕ) (w : Scratch)
-        → enteredUnless (roomCases s t (cutPlaces s t) (rewritten s l t) list) s t (cutPlaces s t) (rewritten s l t) w list ≡ enteredThen s l t w list
+    -- in the list's lookups
+    last-cases : (list : List ℕ) (w : Scratch) → enteredUnless (roomCases s t cs (rewritten s l t) list) s t cs (rewritten s l t) w list ≡ enteredThen s l t cs w list
     unfolding enterCases firstCase lookupStore neededInAll
     last-cases list w = rw some-cut
 
@@ -66,10 +67,9 @@ module _ {s : Store} {l t : ℕ} {p : Plan} {gs ks cuts walk : List ℕ} (k : En
 
       pub placing : Placing s t (p .table) (part gs 0 (p .table .glyphs)) (part ks 0 (p .table .glyphs)) cs (take n walk′) (part walk′ n (n + found))
       placing =
-          let long = front-long cuts (p .cuts) (k .plan .cut-room) in
           record {
             arranging = fronts-lent (k .plan) some;
-            few = omega (arith, k .plan .few);
+            few = omega (arith, long, k .plan .few);
             linked = k .linked;
             found = record {
               list = l;
@@ -83,18 +83,17 @@ module _ {s : Store} {l t : ℕ} {p : Plan} {gs ks cuts walk : List ℕ} (k : En
       module _ (list : List ℕ) {r : ℕ} {s′ : Store} {list′ : List ℕ}
           (e : (w : Scratch) → outcome r (cond (eqb r 0) (length cs) 0) s′ list′ (cleared w)
           ≡ enteredUnless (roomCases s t cs (part walk′ n (n + found)) list) s t cs (part walk′ n (n + found)) w list) where
-        then : (w : Scratch) → outcome r (cond (eqb r 0) (length cs) 0) s′ list′ (cleared w) ≡ enteredThen s l t w list
+        then : (w : Scratch) → outcome r (cond (eqb r 0) (length cs) 0) s′ list′ (cleared w) ≡ enteredThen s l t cs w list
         then w =
             e w
-            ∙ ap₂ (λ (x y : List ℕ). enteredUnless (roomCases s t x y list) s t x y w list) (k .plan .places) (o .lookups)
+            ∙ ap (λ (ps : List ℕ). enteredUnless (roomCases s t cs ps list) s t cs ps w list) (o .lookups)
             ∙ last-cases list w
 
-        pub refused : (r ≡ 0 → ⊥) → (w : Scratch) → outcome r 0 s′ list′ (cleared w) ≡ enteredThen s l t w list
+        pub refused : (r ≡ 0 → ⊥) → (w : Scratch) → outcome r 0 s′ list′ (cleared w) ≡ enteredThen s l t cs w list
         refused ne w = ap (λ (count : ℕ). outcome r count s′ list′ (cleared w)) (sym (rw (ne-eqb r 0 ne))) ∙ then w
 
-        pub entered : r ≡ 0 → (w : Scratch) → outcome 0 (p .cuts) s′ list′ (cleared w) ≡ enteredThen s l t w list
+        pub entered : r ≡ 0 → (w : Scratch) → outcome 0 (p .cuts) s′ list′ (cleared w) ≡ enteredThen s l t cs w list
         entered z w =
-            let long = front-long cuts (p .cuts) (k .plan .cut-room) in
             ap (λ (count : ℕ). outcome 0 count s′ list′ (cleared w)) (sym long)
             ∙ sym (ap (λ (x : ℕ). outcome x (cond (eqb x 0) (length cs) 0) s′ list′ (cleared w)) z)
             ∙ then w

@@ -11,7 +11,7 @@ use Rattle.store_object_rows.specs.Objects.{Written}
 use Rattle.lookup_rules.specs.Written.{newLookups, newLookupLinks}
 use Rattle.lookup_links.specs.Entering.{Entering, EnteringLent}
 use Rattle.lookup_links.specs.Redirecting.{Redirecting}
-use Rattle.lookup_new_objects.specs.Written.{Writing}
+use Rattle.lookup_new_objects.specs.Written.{WritingLookups}
 use Rattle.lookup_split.specs.Lookups.{LookupsReady}
 use Rattle.lookup_split.proofs.Entered.{many-new}
 
@@ -23,7 +23,7 @@ module _ {d o ls : List ℕ} (c : List ℕ) {t : ℕ} {us marks ps : List ℕ} (
   abbrev n : ℕ
   n = getD c 1 0
 
-  pub write-asked : Writing s t (length us) ps
+  pub write-asked : WritingLookups s t (length us) ps
   write-asked =
       record {
         sound-is = k .sounds;

@@ -4,6 +4,7 @@ use mathlib.Core.Path.{_≡_}
 use mathlib.Core.List.{List, _++_}
 use mathlib.Core.Option.{Option, some, none}
 use Rattle.store_rules.specs.Store.{Store}
+use Rattle.call_rules.specs.declared.Settings.{Settings}
 use Rattle.call_rules.specs.Scratch.{Scratch}
 use Rattle.call_rules.specs.Answers.{number, firstCase}
 use Rattle.pair_rules.specs.Calls.{cutCases}
@@ -20,7 +21,7 @@ abbrev pub listingAs : Listing → Option ℕ
 listingAs Good = none
 listingAs (Settled a) = some (number a)
 
--- the first of 1, 2, 9 and of what a split asks that applies decides; where none does, the table is decided as for a split
-pub record ListDecided (s : Store) (l t : ℕ) (w : Scratch) (d : Decision) (gs ks cuts : List ℕ) : Type 0 where
-  pub answers : firstCase (listCases s l t ++ cutCases s t w) ≡ decidedAs d
-  pub decided : (p : Plan) → d ≡ Cut p → Decided s t w d gs ks cuts
+-- the first of 12, 1, 2, 9 and of what a split asks that applies decides; where none does, the table is decided as for a split
+pub record ListDecided (how : Settings) (s : Store) (l t : ℕ) (w : Scratch) (d : Decision) (gs ks cuts : List ℕ) : Type 0 where
+  pub answers : firstCase (listCases how s l t ++ cutCases how s t w) ≡ decidedAs d
+  pub decided : (p : Plan) → d ≡ Cut p → Decided how s t w d gs ks cuts

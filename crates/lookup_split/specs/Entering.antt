@@ -48,9 +48,9 @@ roomCases s t cs ps list =
 abbrev pub enteredUnless : List Case → Store → ℕ → List ℕ → List ℕ → Scratch → List ℕ → Outcome
 enteredUnless cases s t cs ps w list = settle (firstCase cases) s list w (done (storeEnteredAt s t cs ps) (newTables s t cs) list w)
 
--- what is left of the call over list l once 1 to 9 do not apply
-abbrev pub enteredThen : Store → ℕ → ℕ → Scratch → List ℕ → Outcome
-enteredThen s l t w list = settle (firstCase (enterCases s l t list)) s list w (enterAhead s l t w list)
+-- what is left of the call over list l once its checks do not apply
+abbrev pub enteredThen : Store → ℕ → ℕ → List ℕ → Scratch → List ℕ → Outcome
+enteredThen s l t cs w list = settle (firstCase (enterCases s l t cs list)) s list w (enterAhead s l t cs w list)
 
 -- ---- what is known of the table and the lookups
 

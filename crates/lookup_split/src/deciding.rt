@@ -1,5 +1,7 @@
-// What is decided before anything is written: the checks 1, 2 and 9 of a lookup list and a table, and then all that a split asks of the table.
+// What is decided before anything is written: the checks 12, 1, 2 and 9 of a lookup list and a table, and then all that a split asks of the table.
 use call_rules::Answer;
+use call_rules::Settings;
+use call_rules::is_known;
 use lookup_checks::check_list;
 use pair_plan::Decision;
 use pair_plan::decide_sound;
@@ -18,7 +20,7 @@ pub enum Listing {
     Settled(Answer),
 }
 
-// The checks 1, 2 of the table and of the list, and 9. The walk may be of any length, and hold anything.
+// The checks 12, 1, 2 of the table and of the list, and 9. The walk may be of any length, and hold anything.
 fn ask_list(
     data: &[u8],
     objects: &[u32],
@@ -26,10 +28,14 @@ fn ask_list(
     counts: [u32; 3],
     list: u32,
     table: u32,
+    settings: Settings,
     walk: &mut [u32],
 ) -> Listing
-    ensures { λ r. ⌜ listingAs r ≡ firstCase (listCases (storeCameWith «data» objects links counts) list table) ⌝ }
+    ensures { λ r. ⌜ listingAs r ≡ firstCase (listCases settings (storeCameWith «data» objects links counts) list table) ⌝ }
 {
+    if !is_known(settings) {
+        return Listing::Settled(Answer::BadEdition);
+    }
     if !is_sound(data, objects, links, counts) {
         return Listing::Settled(Answer::Unsound);
     }
@@ -45,7 +51,7 @@ fn ask_list(
     Listing::Good
 }
 
-// Decides for a list and a table of any store, with any scratch.
+// Decides for a list and a table of any store, by any settings and with any scratch.
 pub fn decide(
     data: &[u8],
     objects: &[u32],
@@ -53,6 +59,7 @@ pub fn decide(
     counts: [u32; 3],
     list: u32,
     table: u32,
+    settings: Settings,
     walk: &mut [u32],
     glyph_set: &mut [u8],
     glyphs: &mut [u16],
@@ -60,11 +67,11 @@ pub fn decide(
     cuts: &mut [u16],
 ) -> Decision
     ensures { λ r. ⌜
-        ListDecided (storeCameWith «data» objects links counts) list table (scratchCame walk «glyph_set» glyphs classes cuts) r
+        ListDecided settings (storeCameWith «data» objects links counts) list table (scratchCame walk «glyph_set» glyphs classes cuts) r
         (left glyphs) (left classes) (left cuts)
         ⌝ }
 {
-    let listing = ask_list(data, objects, links, counts, list, table, walk);
+    let listing = ask_list(data, objects, links, counts, list, table, settings, walk);
     match listing {
         Listing::Settled(answer) => Decision::Settled(answer),
         Listing::Good => decide_sound(
@@ -73,6 +80,7 @@ pub fn decide(
             links,
             counts,
             table,
+            settings,
             walk,
             glyph_set,
             glyphs,

@@ -7,6 +7,7 @@ pub mod measuring;
 use call_room::is_short_for_both;
 use call_rules::Answer;
 use call_rules::Lent;
+use call_rules::Settings;
 use call_rules::number_of;
 use call_scratch::clear_scratch;
 use carrying::carry_all;
@@ -20,6 +21,7 @@ ghost use mathlib.Core.Path.{_≡_};
 ghost use mathlib.Core.Bool.{cond};
 ghost use lib.ListN.{length};
 ghost use lib.Dec.{eqb};
+ghost use Rattle.folds.specs.Lists.{part};
 ghost use Rattle.folds.specs.Moments.{came, left};
 ghost use Rattle.store_rules.specs.Moments.{storeCame, storeLeft, storeNow};
 ghost use Rattle.call_rules.specs.Scratch.{Scratch, cleared};
@@ -98,7 +100,7 @@ fn enter_at(
     0
 }
 
-// Enters the new tables of a table as planned: nothing to cut, too many subtables, no room, or the split.
+// Enters the new tables of a table at the places of a plan, whatever they come from: nothing to cut, too many subtables, no room, or the split.
 fn enter_planned(
     data: &mut [u8],
     objects: &mut [u32],
@@ -120,7 +122,7 @@ fn enter_planned(
     ensures { λ r. ⌜
         ((w : Scratch)
         → outcome r (left «new_count») (storeLeft «data» objects links counts) (left «new_tables») (cleared w)
-        ≡ enteredThen (storeCame «data» objects links counts) list table w (came «new_tables»))
+        ≡ enteredThen (storeCame «data» objects links counts) list table (part (came cuts) 0 (plan .cuts)) w (came «new_tables»))
         ⌝ }
 {
     *new_count = 0;
@@ -162,6 +164,7 @@ fn enter_any(
     counts: &mut [u32; 3],
     list: u32,
     table: u32,
+    settings: Settings,
     walk: &mut [u32],
     glyph_set: &mut [u8],
     glyphs: &mut [u16],
@@ -173,7 +176,8 @@ fn enter_any(
     ensures { λ r. ⌜
         outcome r (left «new_count») (storeLeft «data» objects links counts) (left «new_tables»)
         (cleared (scratchCame walk «glyph_set» glyphs classes cuts))
-        ≡ lookupCall (storeCame «data» objects links counts) list table (scratchCame walk «glyph_set» glyphs classes cuts) (came «new_tables»)
+        ≡ lookupCall settings (storeCame «data» objects links counts) list table (scratchCame walk «glyph_set» glyphs classes cuts)
+        (came «new_tables»)
         ⌝ }
 {
     let decision = decide(
@@ -183,6 +187,7 @@ fn enter_any(
         *counts,
         list,
         table,
+        settings,
         walk,
         glyph_set,
         glyphs,
@@ -221,6 +226,7 @@ pub fn split_in_lookups(
     counts: &mut [u32; 3],
     list: u32,
     table: u32,
+    settings: Settings,
     walk: &mut [u32],
     glyph_set: &mut [u8],
     glyphs: &mut [u16],
@@ -232,7 +238,8 @@ pub fn split_in_lookups(
     ensures { λ r. ⌜
         outcome r (left «new_count») (storeLeft «data» objects links counts) (left «new_tables»)
         (scratchLeft walk «glyph_set» glyphs classes cuts)
-        ≡ lookupCall (storeCame «data» objects links counts) list table (scratchCame walk «glyph_set» glyphs classes cuts) (came «new_tables»)
+        ≡ lookupCall settings (storeCame «data» objects links counts) list table (scratchCame walk «glyph_set» glyphs classes cuts)
+        (came «new_tables»)
         ⌝ }
 {
     let answer = enter_any(
@@ -242,6 +249,7 @@ pub fn split_in_lookups(
         counts,
         list,
         table,
+        settings,
         walk,
         glyph_set,
         glyphs,

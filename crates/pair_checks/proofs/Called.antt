@@ -2,7 +2,7 @@
 use Prim.Native.Nat.{ℕ, _<_}
 use mathlib.Core.Path.{_≡_, refl, sym, ap, ap₂, _∙_}
 use mathlib.Core.Bool.{Bool, true, false, cond, not, _||_}
-use mathlib.Core.List.{List, [], _∷_}
+use mathlib.Core.List.{List, [], _∷_, _++_}
 use mathlib.Core.Logic.{_⊎_, inl, inr}
 use mathlib.Core.Option.{Option, some, none}
 use native.Mathlib.Omega.{arith}
@@ -14,15 +14,18 @@ use Rattle.ot_pairpos.specs.declared.Layout.{Layout}
 use Rattle.ot_pairpos.specs.Layout.{layoutOf}
 use Rattle.call_rules.specs.declared.Answer.{Answer}
 use Rattle.call_rules.specs.declared.Answer.the-variants.{Unsound, ShortScratch, BadLinks, UnsortedSets}
+use Rattle.call_rules.specs.declared.Settings.{Settings}
 use Rattle.store_rules.specs.Store.{Store, lent, sound}
 use Rattle.store_rules.specs.Reach.{onCycle}
 use Rattle.pair_rules.specs.Table.{allAtSlots, setsSorted}
 use Rattle.call_rules.specs.Scratch.{Scratch}
 use Rattle.call_rules.specs.Answers.{number, firstCase, case}
+use Rattle.call_rules.specs.Settings.{known, settingsCases}
 use Rattle.pair_rules.specs.Calls.{readCases, unsortedCase, scratchShort, cutCases}
 use Rattle.store_rules.proofs.Sound.{sound-fits}
 use Rattle.call_rules.proofs.Scratch.{LongEnough, long-enough}
 use Rattle.call_rules.proofs.Cases.{first-skip, first-stands}
+use Rattle.call_rules.proofs.KnownSettings.{known-pass}
 use Rattle.pair_checks.specs.declared.PairTable.{PairTable}
 use Rattle.pair_checks.specs.declared.Checked.{Checked}
 use Rattle.pair_checks.specs.declared.Checked.the-variants.{Open, Settled}
@@ -103,13 +106,17 @@ module _ (s : Store) (t : ℕ) (w : Scratch) where
       go false true cycle = refl
       go false false cycle = refl
 
-  pub called : firstCase (cutCases s t w) ≡ lookedLast (calledOf s t (lengthsOf w)) (onCycle s t) (setsSorted s t)
+  -- by settings that are known
+  pub called : (how : Settings) → known how ≡ true → firstCase (cutCases how s t w) ≡ lookedLast (calledOf s t (lengthsOf w)) (onCycle s t) (setsSorted s t)
   unfolding cutCases calledOf
-  called = go (checkedOf s t) refl
+  called how h = go (checkedOf s t) refl
     where
-      go : (x : ℕ ⊎ PairTable) → checkedOf s t ≡ x → firstCase (cutCases s t w) ≡ lookedLast (calledBy s t (lengthsOf w) x) (onCycle s t) (setsSorted s t)
-      go (inr p) e = first-skip (readCases s t) _ (refusals s t ∙ ap settledAs e) ∙ lent-cases p (opens s t p e)
-      go (inl n) e = first-stands (readCases s t) _ n (refusals s t ∙ ap settledAs e)
+      first : firstCase (settingsCases how ++ readCases s t) ≡ settledAs (checkedOf s t)
+      first = first-skip (settingsCases how) (readCases s t) (known-pass how h) ∙ refusals s t
+
+      go : (x : ℕ ⊎ PairTable) → checkedOf s t ≡ x → firstCase (cutCases how s t w) ≡ lookedLast (calledBy s t (lengthsOf w) x) (onCycle s t) (setsSorted s t)
+      go (inr p) e = first-skip (settingsCases how ++ readCases s t) _ (first ∙ ap settledAs e) ∙ lent-cases p (opens s t p e)
+      go (inl n) e = first-stands (settingsCases how ++ readCases s t) _ n (first ∙ ap settledAs e)
 
 -- ---- a table to which neither 1 to 6 nor the slots of 7 apply
 

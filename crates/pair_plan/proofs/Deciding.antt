@@ -2,20 +2,24 @@
 use Prim.Native.Nat.{ℕ, _*_, _≤_, _<_}
 use mathlib.Core.Path.{_≡_, sym, ap, subst, _∙_}
 use mathlib.Core.Bool.{Bool, true, false, cond, not}
-use mathlib.Core.List.{List}
+use mathlib.Core.List.{List, _++_}
 use mathlib.Core.Logic.{_⊎_, inr}
 use mathlib.Core.Option.{some}
 use native.Mathlib.Omega.{arith}
 use lib.ListN.{length, getD}
 use borrow.Author.Tests.{lt-ltb, le-ltb, not-true, not-false}
 use Rattle.call_rules.specs.declared.Answer.{Answer}
-use Rattle.call_rules.specs.declared.Answer.the-variants.{BadLinks, UnsortedSets}
+use Rattle.call_rules.specs.declared.Answer.the-variants.{BadEdition, BadLinks, UnsortedSets}
+use Rattle.call_rules.specs.declared.Settings.{Settings}
 use Rattle.store_rules.specs.Store.{Store, lent, sound}
 use Rattle.store_rules.specs.Reach.{onCycle}
 use Rattle.call_rules.specs.Scratch.{Scratch}
 use Rattle.call_rules.specs.Answers.{number, firstCase}
+use Rattle.call_rules.specs.Settings.{known, settingsCases}
+use Rattle.call_rules.proofs.Cases.{first-stands}
+use Rattle.call_rules.proofs.KnownSettings.{unknown-refused}
 use Rattle.pair_rules.specs.Table.{setsSorted}
-use Rattle.pair_rules.specs.Calls.{cutCases}
+use Rattle.pair_rules.specs.Calls.{readCases, cutCases}
 use Rattle.store_walk.specs.Marks.{Begun}
 use Rattle.pair_points.specs.Filled.{TellsCycle}
 use Rattle.pair_checks.specs.declared.PairTable.{PairTable}
@@ -35,11 +39,18 @@ use Rattle.pair_checks.proofs.Called.{lookedLast, called, Passed, passed}
 
 -- ---- the call has its answer
 
-settles : (s : Store) (t : ℕ) (w : Scratch) (a : Answer) {gs ks cuts : List ℕ} → firstCase (cutCases s t w) ≡ some (number a) → Decided s t w (Settled a) gs ks cuts
-settles s t w a e = record { answers = e; plans = λ p x. let z : _≡_ {A = ℕ} 0 1 = cc in absurd (omega arith) }
+settles : (how : Settings) (s : Store) (t : ℕ) (w : Scratch) (a : Answer) {gs ks cuts : List ℕ} → firstCase (cutCases how s t w) ≡ some (number a) → Decided how s t w (Settled a) gs ks cuts
+settles how s t w a e = record { answers = e; plans = λ p x. let z : _≡_ {A = ℕ} 0 1 = cc in absurd (omega arith) }
 
-pub decided-settled : (s : Store) (t : ℕ) (w : Scratch) {x : Checked} {a : Answer} {gs ks cuts : List ℕ} → checkedAs x ≡ calledOf s t (lengthsOf w) → x ≡ Checked.Settled a → Decided s t w (Settled a) gs ks cuts
-decided-settled s t w {a = a} e y = settles s t w a (called s t w ∙ ap (λ (x : ℕ ⊎ PairTable). lookedLast x (onCycle s t) (setsSorted s t)) (sym e ∙ ap checkedAs y))
+pub decided-unknown : {how : Settings} {s : Store} {t : ℕ} {w : Scratch} {gs ks cuts : List ℕ} → known how ≡ false → Decided how s t w (Settled BadEdition) gs ks cuts
+unfolding cutCases
+decided-unknown {how} {s} {t} {w} h =
+    settles how s t w BadEdition
+    (first-stands (settingsCases how ++ readCases s t) _ 12 (first-stands (settingsCases how) (readCases s t) 12 (unknown-refused how h)))
+
+pub decided-settled : {how : Settings} → known how ≡ true → (s : Store) (t : ℕ) (w : Scratch) {x : Checked} {a : Answer} {gs ks cuts : List ℕ}
+    → checkedAs x ≡ calledOf s t (lengthsOf w) → x ≡ Checked.Settled a → Decided how s t w (Settled a) gs ks cuts
+decided-settled {how} h s t w {a = a} e y = settles how s t w a (called s t w how h ∙ ap (λ (x : ℕ ⊎ PairTable). lookedLast x (onCycle s t) (setsSorted s t)) (sym e ∙ ap checkedAs y))
 
 -- ---- the cuts, and what is asked behind them
 
@@ -72,22 +83,22 @@ module _ (b o l c : List ℕ) (t : ℕ) (w : Scratch) (p : PairTable) (e : calle
       }
 
   -- what is settled once the places are found
-  pub decided-cut : {d : Decision} {gs ks cuts : List ℕ} {n : ℕ} → CutsTable (lent b o l c) t p (w .glyphs) (w .classes) (w .cuts) gs ks cuts n
-      → d ≡ settledBy (lent b o l c) t (record { table = p; cuts = n }) → Decided (lent b o l c) t w d gs ks cuts
+  pub decided-cut : {how : Settings} {d : Decision} {gs ks cuts : List ℕ} {n : ℕ} → known how ≡ true → CutsTable how (lent b o l c) t p (w .glyphs) (w .classes) (w .cuts) gs ks cuts n
+      → d ≡ settledBy (lent b o l c) t (record { table = p; cuts = n }) → Decided how (lent b o l c) t w d gs ks cuts
   unfolding settledBy
-  decided-cut {d} {gs} {ks} {cuts} {n} x is =
+  decided-cut {how} {d} {gs} {ks} {cuts} {n} h x is =
       rw is
       (go (onCycle (lent b o l c) t) (setsSorted (lent b o l c) t)
-      (called (lent b o l c) t w ∙ ap (λ (y : ℕ ⊎ PairTable). lookedLast y (onCycle (lent b o l c) t) (setsSorted (lent b o l c) t)) e))
+      (called (lent b o l c) t w how h ∙ ap (λ (y : ℕ ⊎ PairTable). lookedLast y (onCycle (lent b o l c) t) (setsSorted (lent b o l c) t)) e))
     where
-      go : (cycle sorted : Bool) → firstCase (cutCases (lent b o l c) t w) ≡ lookedLast (inr p) cycle sorted
-          → Decided (lent b o l c) t w (cond cycle (Settled BadLinks) (cond sorted (Cut (record { table = p; cuts = n })) (Settled UnsortedSets))) gs ks cuts
-      go true sorted f = settles (lent b o l c) t w BadLinks f
-      go false false f = settles (lent b o l c) t w UnsortedSets f
+      go : (cycle sorted : Bool) → firstCase (cutCases how (lent b o l c) t w) ≡ lookedLast (inr p) cycle sorted
+          → Decided how (lent b o l c) t w (cond cycle (Settled BadLinks) (cond sorted (Cut (record { table = p; cuts = n })) (Settled UnsortedSets))) gs ks cuts
+      go true sorted f = settles how (lent b o l c) t w BadLinks f
+      go false false f = settles how (lent b o l c) t w UnsortedSets f
       go false true f =
           record {
             answers = f;
-            plans = λ q y. let same : record { table = p; cuts = n } ≡ q = cc in subst (λ (r : Plan). Planned (lent b o l c) t w r gs ks cuts) same (record { opens = pass .opens; cut = x });
+            plans = λ q y. let same : record { table = p; cuts = n } ≡ q = cc in subst (λ (r : Plan). Planned how (lent b o l c) t w r gs ks cuts) same (record { opens = pass .opens; cut = x });
           }
 
 -- ---- the rest of 7, and 11

@@ -7,6 +7,7 @@ use lib.ListN.{length}
 use Rattle.folds.specs.Lists.{put, part, Bytes}
 use Rattle.folds.proofs.Fronts.{front-long, back, front-back, front-again}
 use Rattle.store_rules.specs.Store.{Store}
+use Rattle.call_rules.specs.declared.Settings.{Settings}
 use Rattle.pair_rules.specs.Table.{entriesOf, cutPlaces}
 use Rattle.pair_checks.specs.declared.PairTable.{PairTable}
 use Rattle.cut_filling.specs.Filling.{Placed}
@@ -36,7 +37,7 @@ module _ {s : Store} {t : ℕ} {p : PairTable} {w set gs ks cuts : List ℕ} (k 
           long = omega (arith, k .long);
         }
 
-    pub fronts-cut : {set′ : List ℕ} → length set′ ≡ length set → {cuts′ : List ℕ} {r : ℕ} → (Looked2 s t p (part gs″ 0 (p .glyphs)) (part ks″ 0 (p .glyphs)) w set′ cuts → Placed (cutPlaces s t) cuts cuts′ r) → CutsByClass s t gs ks cuts gs″ ks″ cuts′ r
+    pub fronts-cut : {how : Settings} {set′ : List ℕ} → length set′ ≡ length set → {cuts′ : List ℕ} {r : ℕ} → (Looked2 s t p (part gs″ 0 (p .glyphs)) (part ks″ 0 (p .glyphs)) w set′ cuts → Placed (cutPlaces how s t) cuts cuts′ r) → CutsByClass how s t gs ks cuts gs″ ks″ cuts′ r
     fronts-cut e places =
         let d = gathers fronts-lent .byClass in
         record {

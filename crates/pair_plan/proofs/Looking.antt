@@ -15,6 +15,7 @@ use Rattle.ot_layouts.proofs.Shapes.{items-rise}
 use Rattle.ot_pairpos.specs.declared.Layout.{Layout}
 use Rattle.ot_pairpos.specs.Layout.{layoutOf}
 use Rattle.store_rules.specs.Store.{Store, bytesOf, sizeOf, linkedAt}
+use Rattle.call_rules.specs.declared.Settings.{Settings}
 use Rattle.pair_rules.specs.Table.{shape, cutPlaces}
 use Rattle.store_rules.proofs.Sound.{Fits, sound-fits, size-bytes}
 use Rattle.pair_rules.proofs.Checks.{count-bits}
@@ -100,8 +101,8 @@ module _ {s : Store} {t : ℕ} {p : PairTable} {w cuts : List ℕ} (k : Looked1 
     pub sets-ready : Ready1 s x w cuts
     sets-ready = subst (λ (y : TableInfo). Ready1 s y w cuts) (sym e) ready1
 
-    pub sets-placed : {cuts′ : List ℕ} {r : ℕ} → (Ready1 s x w cuts → Placed (cutPlaces s (x .table)) cuts cuts′ r) → Placed (cutPlaces s t) cuts cuts′ r
-    sets-placed {cuts′} {r} f = subst (λ (y : TableInfo). Placed (cutPlaces s (y .table)) cuts cuts′ r) e (f sets-ready)
+    pub sets-placed : (how : Settings) {cuts′ : List ℕ} {r : ℕ} → (Ready1 s x w cuts → Placed (cutPlaces how s (x .table)) cuts cuts′ r) → Placed (cutPlaces how s t) cuts cuts′ r
+    sets-placed how {cuts′} {r} f = subst (λ (y : TableInfo). Placed (cutPlaces how s (y .table)) cuts cuts′ r) e (f sets-ready)
 
     pub sets-tell : {w′ : List ℕ} → (Ready1 s x w cuts → TellsCycle s (x .table) w′) → TellsCycle s t w′
     sets-tell {w′} f = subst (λ (y : TableInfo). TellsCycle s (y .table) w′) e (f sets-ready)
@@ -131,8 +132,8 @@ module _ {s : Store} {t : ℕ} {p : PairTable} {gs ks w set cuts : List ℕ} (k 
     pub rows-ready : Ready2 s x gs ks w set′ cuts
     rows-ready = subst (λ (y : TableInfo). Ready2 s y gs ks w set′ cuts) (sym e) (subst (λ (y : List ℕ). Ready2 s (infoOf (s .objects) t p (p .class2 .object)) gs ks w y cuts) (sym z) ready2)
 
-    pub rows-placed : {cuts′ : List ℕ} {r : ℕ} → (Ready2 s x gs ks w set′ cuts → Placed (cutPlaces s (x .table)) cuts cuts′ r) → Placed (cutPlaces s t) cuts cuts′ r
-    rows-placed {cuts′} {r} f = subst (λ (y : TableInfo). Placed (cutPlaces s (y .table)) cuts cuts′ r) e (f rows-ready)
+    pub rows-placed : (how : Settings) {cuts′ : List ℕ} {r : ℕ} → (Ready2 s x gs ks w set′ cuts → Placed (cutPlaces how s (x .table)) cuts cuts′ r) → Placed (cutPlaces how s t) cuts cuts′ r
+    rows-placed how {cuts′} {r} f = subst (λ (y : TableInfo). Placed (cutPlaces how s (y .table)) cuts cuts′ r) e (f rows-ready)
 
     pub rows-tell : {w′ : List ℕ} → (Ready2 s x gs ks w set′ cuts → TellsCycle s (x .table) w′) → TellsCycle s t w′
     rows-tell {w′} f = subst (λ (y : TableInfo). TellsCycle s (y .table) w′) e (f rows-ready)

@@ -10,6 +10,7 @@ use Rattle.cut_filling.proofs.Turns.{placed-front}
 use Rattle.pair_rules.specs.Table.{cutPlaces}
 use Rattle.pair_rules.specs.Calls.{cutCases, planCases, planCall}
 use Rattle.call_rules.specs.declared.Answer.{Answer}
+use Rattle.call_rules.specs.declared.Settings.{Settings}
 use Rattle.call_rules.specs.Answers.{number}
 use Rattle.call_rules.specs.Scratch.{Scratch, cleared}
 use Rattle.call_rules.specs.Outcomes.{outcome}
@@ -30,13 +31,13 @@ module _ (cuts list : List ℕ) {d : Decision} where
   unfolding handedBy
   out-places p y e = rw y e
 
-module _ (s : Store) (t : ℕ) (w : Scratch) (list : List ℕ) where
-  cuts-are : {gs ks cuts : List ℕ} (d : Decision) → Decided s t w d gs ks cuts → decidedAs d ≡ none → plannedCuts d cuts ≡ cutPlaces s t
+module _ (how : Settings) (s : Store) (t : ℕ) (w : Scratch) (list : List ℕ) where
+  cuts-are : {gs ks cuts : List ℕ} (d : Decision) → Decided how s t w d gs ks cuts → decidedAs d ≡ none → plannedCuts d cuts ≡ cutPlaces how s t
   cuts-are (Cut p) x e = placed-front (x .plans p refl .cut .placed)
   cuts-are (Settled a) x e = let z : _≡_ {A = ℕ} 0 1 = cc in absurd (omega arith)
 
-  pub plan-called : {w′ w″ : Scratch} {d : Decision} {gs ks cuts list′ : List ℕ} {n k : ℕ} → Decided s t w d gs ks cuts
+  pub plan-called : {w′ w″ : Scratch} {d : Decision} {gs ks cuts list′ : List ℕ} {n k : ℕ} → Decided how s t w d gs ks cuts
       → handed n k list′ ≡ handedBy (decidedAs d) (plannedCuts d cuts) list
-      → SameLengths w w′ → w″ ≡ cleared w′ → outcome n k s list′ w″ ≡ planCall s t w list
+      → SameLengths w w′ → w″ ≡ cleared w′ → outcome n k s list′ w″ ≡ planCall how s t w list
   unfolding planCall planCases
-  plan-called {d = d} x h = leaves-handed (cutCases s t w) (cutPlaces s t) s w list (x .answers) (cuts-are d x) h
+  plan-called {d = d} x h = leaves-handed (cutCases how s t w) (cutPlaces how s t) s w list (x .answers) (cuts-are d x) h

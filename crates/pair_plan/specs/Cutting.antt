@@ -6,6 +6,7 @@ use mathlib.Core.List.{List}
 use lib.ListN.{length, getD}
 use Rattle.folds.specs.Lists.{put, Bytes}
 use Rattle.store_rules.specs.Store.{Store, lent}
+use Rattle.call_rules.specs.declared.Settings.{Settings}
 use Rattle.pair_rules.specs.Table.{entriesOf, allAtSlots, cutPlaces}
 use Rattle.glyph_sort.specs.Pairs.{keysOf, besideOf}
 use Rattle.store_walk.specs.Marks.{Begun}
@@ -43,8 +44,8 @@ pub record Looked1 (s : Store) (t : ℕ) (p : PairTable) (w cuts : List ℕ) : T
   pub one : p .layout .format ≡ 1
 
 -- its places are found, whatever the bytes of the store
-abbrev pub CutsSets : List ℕ → List ℕ → List ℕ → ℕ → PairTable → List ℕ → List ℕ → List ℕ → ℕ → Type 0
-CutsSets o l c t p w cuts cuts′ r = (b : List ℕ) → Looked1 (lent b o l c) t p w cuts → Placed (cutPlaces (lent b o l c) t) cuts cuts′ r
+abbrev pub CutsSets : Settings → List ℕ → List ℕ → List ℕ → ℕ → PairTable → List ℕ → List ℕ → List ℕ → ℕ → Type 0
+CutsSets how o l c t p w cuts cuts′ r = (b : List ℕ) → Looked1 (lent b o l c) t p w cuts → Placed (cutPlaces how (lent b o l c) t) cuts cuts′ r
 
 -- and the walk tells of a cycle
 abbrev pub SetsTell : List ℕ → List ℕ → List ℕ → ℕ → PairTable → List ℕ → List ℕ → List ℕ → Type 0
@@ -72,8 +73,8 @@ pub record Looked2 (s : Store) (t : ℕ) (p : PairTable) (gs ks w set cuts : Lis
   pub long : 8192 ≤ length set
 
 -- its places are found, whatever the bytes of the store
-abbrev pub CutsRows : List ℕ → List ℕ → List ℕ → ℕ → PairTable → List ℕ → List ℕ → List ℕ → List ℕ → List ℕ → List ℕ → ℕ → Type 0
-CutsRows o l c t p gs ks w set cuts cuts′ r = (b : List ℕ) → Looked2 (lent b o l c) t p gs ks w set cuts → Placed (cutPlaces (lent b o l c) t) cuts cuts′ r
+abbrev pub CutsRows : Settings → List ℕ → List ℕ → List ℕ → ℕ → PairTable → List ℕ → List ℕ → List ℕ → List ℕ → List ℕ → List ℕ → ℕ → Type 0
+CutsRows how o l c t p gs ks w set cuts cuts′ r = (b : List ℕ) → Looked2 (lent b o l c) t p gs ks w set cuts → Placed (cutPlaces how (lent b o l c) t) cuts cuts′ r
 
 -- and the walk tells of a cycle
 abbrev pub RowsTell : List ℕ → List ℕ → List ℕ → ℕ → PairTable → List ℕ → List ℕ → List ℕ → List ℕ → List ℕ → List ℕ → Type 0
@@ -94,11 +95,11 @@ pub record Fronted (s : Store) (t : ℕ) (gs ks gs′ ks′ : List ℕ) : Type 0
   pub classes : ks′ ≡ put ks 0 (keysOf (classPairs (entriesOf s t)))
 
 -- format 2: places and glyphs
-pub record CutsByClass (s : Store) (t : ℕ) (gs ks cuts gs′ ks′ cuts′ : List ℕ) (r : ℕ) : Type 0 where
-  pub placed : Placed (cutPlaces s t) cuts cuts′ r
+pub record CutsByClass (how : Settings) (s : Store) (t : ℕ) (gs ks cuts gs′ ks′ cuts′ : List ℕ) (r : ℕ) : Type 0 where
+  pub placed : Placed (cutPlaces how s t) cuts cuts′ r
   pub fronted : Fronted s t gs ks gs′ ks′
 
 -- both formats
-pub record CutsTable (s : Store) (t : ℕ) (p : PairTable) (gs ks cuts gs′ ks′ cuts′ : List ℕ) (r : ℕ) : Type 0 where
-  pub placed : Placed (cutPlaces s t) cuts cuts′ r
+pub record CutsTable (how : Settings) (s : Store) (t : ℕ) (p : PairTable) (gs ks cuts gs′ ks′ cuts′ : List ℕ) (r : ℕ) : Type 0 where
+  pub placed : Placed (cutPlaces how s t) cuts cuts′ r
   pub fronted : (p .layout .format ≡ 1 → ⊥) → Fronted s t gs ks gs′ ks′

@@ -9,6 +9,7 @@ use Rattle.folds.specs.Lists.{part}
 use Rattle.store_rules.specs.Store.{Store}
 use Rattle.store_rules.specs.Reach.{onCycle}
 use Rattle.call_rules.specs.declared.Answer.the-variants.{BadLinks, UnsortedSets}
+use Rattle.call_rules.specs.declared.Settings.{Settings}
 use Rattle.call_rules.specs.Scratch.{Scratch}
 use Rattle.call_rules.specs.Answers.{number, firstCase}
 use Rattle.pair_rules.specs.Table.{setsSorted}
@@ -29,14 +30,14 @@ unfoldable pub settledBy : Store → ℕ → Plan → Decision
 settledBy s t p = cond (onCycle s t) (Settled BadLinks) (cond (setsSorted s t) (Cut p) (Settled UnsortedSets))
 
 -- the plan that is to be carried out: the table is open, and its cuts, and in format 2 its covered glyphs by class, stand at the front of the scratch
-pub record Planned (s : Store) (t : ℕ) (w : Scratch) (p : Plan) (gs ks cuts : List ℕ) : Type 0 where
+pub record Planned (how : Settings) (s : Store) (t : ℕ) (w : Scratch) (p : Plan) (gs ks cuts : List ℕ) : Type 0 where
   pub opens : Opens s t (p .table)
-  pub cut : CutsTable s t (p .table) (w .glyphs) (w .classes) (w .cuts) gs ks cuts (p .cuts)
+  pub cut : CutsTable how s t (p .table) (w .glyphs) (w .classes) (w .cuts) gs ks cuts (p .cuts)
 
--- the first of the cases 1 to 7 and 11 that applies decides; where none does, there is a plan
-pub record Decided (s : Store) (t : ℕ) (w : Scratch) (d : Decision) (gs ks cuts : List ℕ) : Type 0 where
-  pub answers : firstCase (cutCases s t w) ≡ decidedAs d
-  pub plans : (p : Plan) → d ≡ Cut p → Planned s t w p gs ks cuts
+-- the first of the cases 12, 1 to 7 and 11 that applies decides; where none does, there is a plan
+pub record Decided (how : Settings) (s : Store) (t : ℕ) (w : Scratch) (d : Decision) (gs ks cuts : List ℕ) : Type 0 where
+  pub answers : firstCase (cutCases how s t w) ≡ decidedAs d
+  pub plans : (p : Plan) → d ≡ Cut p → Planned how s t w p gs ks cuts
 
 -- ---- what a cut plan hands out
 

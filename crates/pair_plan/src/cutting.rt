@@ -44,17 +44,17 @@ fn cut_sets(
     links: &[u32],
     counts: [u32; 3],
     table: u32,
+    settings: Settings,
     opened: PairTable,
     walk: &mut [u32],
     cuts: &mut [u16],
 ) -> usize
     requires { ⌜ ((b : List ℕ) × Looked1 (lent b (now objects) (now links) counts) table opened (now walk) (now cuts)) ⌝ }
-    ensures { λ r. ⌜ CutsSets (came objects) (came links) counts table opened (came walk) (came cuts) (left cuts) r ⌝ }
+    ensures { λ r. ⌜ CutsSets settings (came objects) (came links) counts table opened (came walk) (came cuts) (left cuts) r ⌝ }
     ensures { λ _. ⌜ SetsTell (came objects) (came links) counts table opened (came walk) (came cuts) (left walk) ⌝ }
 {
     let coverage = opened.coverage;
     let info = info_of(objects, table, opened, coverage.object);
-    let settings = Settings { edition: 1 };
     compute_format1_split_points(objects, links, counts, info, settings, walk, cuts)
 }
 
@@ -93,6 +93,7 @@ fn cut_rows(
     links: &[u32],
     counts: [u32; 3],
     table: u32,
+    settings: Settings,
     opened: PairTable,
     glyphs: &[u16],
     classes: &[u16],
@@ -106,7 +107,7 @@ fn cut_rows(
         (now cuts))
         ⌝ }
     ensures { λ r. ⌜
-        CutsRows (came objects) (came links) counts table opened (came glyphs) (came classes) (came walk) (came «glyph_set»)
+        CutsRows settings (came objects) (came links) counts table opened (came glyphs) (came classes) (came walk) (came «glyph_set»)
         (came cuts) (left cuts) r
         ⌝ }
     ensures { λ _. ⌜
@@ -116,7 +117,6 @@ fn cut_rows(
 {
     let class2 = opened.class2;
     let info = info_of(objects, table, opened, class2.object);
-    let settings = Settings { edition: 1 };
     clear_u8(glyph_set);
     compute_format2_split_points(
         objects,
@@ -139,6 +139,7 @@ fn cut_by_class(
     links: &[u32],
     counts: [u32; 3],
     table: u32,
+    settings: Settings,
     opened: PairTable,
     walk: &mut [u32],
     glyph_set: &mut [u8],
@@ -151,8 +152,8 @@ fn cut_by_class(
         ⌝ }
     requires { ⌜ (opened .layout .format ≡ 1 → ⊥) ⌝ }
     ensures { λ r. ⌜
-        CutsByClass (storeCameWith «data» objects links counts) table (came glyphs) (came classes) (came cuts) (left glyphs) (left classes)
-        (left cuts) r
+        CutsByClass settings (storeCameWith «data» objects links counts) table (came glyphs) (came classes) (came cuts) (left glyphs)
+        (left classes) (left cuts) r
         ⌝ }
     ensures { λ _. ⌜ TellsCycle (storeCameWith «data» objects links counts) table (left walk) ⌝ }
 {
@@ -170,6 +171,7 @@ fn cut_by_class(
         links,
         counts,
         table,
+        settings,
         opened,
         &glyphs[0..count],
         &classes[0..count],
@@ -186,6 +188,7 @@ pub fn cut_table(
     links: &[u32],
     counts: [u32; 3],
     table: u32,
+    settings: Settings,
     opened: PairTable,
     walk: &mut [u32],
     glyph_set: &mut [u8],
@@ -197,14 +200,14 @@ pub fn cut_table(
         Looked (storeNowWith «data» objects links counts) table opened (now walk) (now «glyph_set») (now glyphs) (now classes) (now cuts)
         ⌝ }
     ensures { λ r. ⌜
-        CutsTable (storeCameWith «data» objects links counts) table opened (came glyphs) (came classes) (came cuts) (left glyphs) (left classes)
-        (left cuts) r
+        CutsTable settings (storeCameWith «data» objects links counts) table opened (came glyphs) (came classes) (came cuts) (left glyphs)
+        (left classes) (left cuts) r
         ⌝ }
     ensures { λ _. ⌜ TellsCycle (storeCameWith «data» objects links counts) table (left walk) ⌝ }
 {
     let layout = opened.layout;
     if layout.format == 1 {
-        return cut_sets(objects, links, counts, table, opened, walk, cuts);
+        return cut_sets(objects, links, counts, table, settings, opened, walk, cuts);
     }
     cut_by_class(
         data,
@@ -212,6 +215,7 @@ pub fn cut_table(
         links,
         counts,
         table,
+        settings,
         opened,
         walk,
         glyph_set,

@@ -5,6 +5,8 @@ pub mod cutting;
 use call_lists::list_places;
 use call_rules::Answer;
 use call_rules::Lengths;
+use call_rules::Settings;
+use call_rules::is_known;
 use call_rules::number_of;
 use call_scratch::clear_scratch;
 use cutting::cut_table;
@@ -19,6 +21,7 @@ ghost use mathlib.Core.Bool.{true};
 ghost use Prim.Native.Nat.{_<_};
 ghost use lib.ListN.{length};
 ghost use Rattle.call_rules.specs.Outcomes.{outcome};
+ghost use Rattle.call_rules.specs.Settings.{known};
 ghost use Rattle.pair_rules.specs.Calls.{planCall};
 ghost use Rattle.call_rules.specs.Scratch.{lengthsOf};
 ghost use Rattle.folds.specs.Moments.{came, left};
@@ -77,6 +80,7 @@ pub fn decide_cuts(
     links: &[u32],
     counts: [u32; 3],
     table: u32,
+    settings: Settings,
     opened: PairTable,
     walk: &mut [u32],
     glyph_set: &mut [u8],
@@ -84,13 +88,14 @@ pub fn decide_cuts(
     classes: &mut [u16],
     cuts: &mut [u16],
 ) -> Decision
+    requires { ⌜ known settings ≡ true ⌝ }
     requires { ⌜
         calledOf (storeNowWith «data» objects links counts) table (lengthsOf (scratchNow walk «glyph_set» glyphs classes cuts)) ≡ checkedAs
         (Checked.Open opened)
         ⌝ }
     ensures { λ r. ⌜
-        Decided (storeCameWith «data» objects links counts) table (scratchCame walk «glyph_set» glyphs classes cuts) r (left glyphs)
-        (left classes) (left cuts)
+        Decided settings (storeCameWith «data» objects links counts) table (scratchCame walk «glyph_set» glyphs classes cuts) r
+        (left glyphs) (left classes) (left cuts)
         ⌝ }
 {
     let layout = opened.layout;
@@ -101,6 +106,7 @@ pub fn decide_cuts(
         links,
         counts,
         table,
+        settings,
         opened,
         walk,
         glyph_set,
@@ -115,23 +121,25 @@ pub fn decide_cuts(
     settle_cuts(data, objects, links, counts, table, plan, walk)
 }
 
-// Decides for a table of a store that is known to be sound, with any scratch.
+// Decides for a table of a store that is known to be sound, by known settings and with any scratch.
 pub fn decide_sound(
     data: &[u8],
     objects: &[u32],
     links: &[u32],
     counts: [u32; 3],
     table: u32,
+    settings: Settings,
     walk: &mut [u32],
     glyph_set: &mut [u8],
     glyphs: &mut [u16],
     classes: &mut [u16],
     cuts: &mut [u16],
 ) -> Decision
+    requires { ⌜ known settings ≡ true ⌝ }
     requires { ⌜ sound (storeNowWith «data» objects links counts) ≡ true ⌝ }
     ensures { λ r. ⌜
-        Decided (storeCameWith «data» objects links counts) table (scratchCame walk «glyph_set» glyphs classes cuts) r (left glyphs)
-        (left classes) (left cuts)
+        Decided settings (storeCameWith «data» objects links counts) table (scratchCame walk «glyph_set» glyphs classes cuts) r
+        (left glyphs) (left classes) (left cuts)
         ⌝ }
 {
     let lengths = Lengths {
@@ -150,6 +158,7 @@ pub fn decide_sound(
             links,
             counts,
             table,
+            settings,
             opened,
             walk,
             glyph_set,
@@ -160,13 +169,14 @@ pub fn decide_sound(
     }
 }
 
-// Decides for a table of any store, with any scratch.
+// Decides for a table of any store, by any settings and with any scratch.
 pub fn decide(
     data: &[u8],
     objects: &[u32],
     links: &[u32],
     counts: [u32; 3],
     table: u32,
+    settings: Settings,
     walk: &mut [u32],
     glyph_set: &mut [u8],
     glyphs: &mut [u16],
@@ -174,10 +184,13 @@ pub fn decide(
     cuts: &mut [u16],
 ) -> Decision
     ensures { λ r. ⌜
-        Decided (storeCameWith «data» objects links counts) table (scratchCame walk «glyph_set» glyphs classes cuts) r (left glyphs)
-        (left classes) (left cuts)
+        Decided settings (storeCameWith «data» objects links counts) table (scratchCame walk «glyph_set» glyphs classes cuts) r
+        (left glyphs) (left classes) (left cuts)
         ⌝ }
 {
+    if !is_known(settings) {
+        return Decision::Settled(Answer::BadEdition);
+    }
     if !is_sound(data, objects, links, counts) {
         return Decision::Settled(Answer::Unsound);
     }
@@ -187,6 +200,7 @@ pub fn decide(
         links,
         counts,
         table,
+        settings,
         walk,
         glyph_set,
         glyphs,
@@ -219,6 +233,7 @@ pub fn cut_plan(
     links: &[u32],
     counts: [u32; 3],
     table: u32,
+    settings: Settings,
     walk: &mut [u32],
     glyph_set: &mut [u8],
     glyphs: &mut [u16],
@@ -230,7 +245,7 @@ pub fn cut_plan(
     ensures { λ r. ⌜
         outcome r (left «place_count») (storeCameWith «data» objects links counts) (left places)
         (scratchLeft walk «glyph_set» glyphs classes cuts)
-        ≡ planCall (storeCameWith «data» objects links counts) table (scratchCame walk «glyph_set» glyphs classes cuts) (came places)
+        ≡ planCall settings (storeCameWith «data» objects links counts) table (scratchCame walk «glyph_set» glyphs classes cuts) (came places)
         ⌝ }
 {
     let decision = decide(
@@ -239,6 +254,7 @@ pub fn cut_plan(
         links,
         counts,
         table,
+        settings,
         walk,
         glyph_set,
         glyphs,

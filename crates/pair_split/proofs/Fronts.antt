@@ -1,7 +1,7 @@
 -- A plan's cuts, and in format 2 the covered glyphs by class, at the front of the scratch: what deciding leaves there, and what is lent on. Assumes nothing.
 use Prim.Native.Nat.{ℕ, _-_}
 use mathlib.Core.Path.{_≡_, sym, ap, ap₂, subst, _∙_}
-use mathlib.Core.List.{List, map}
+use mathlib.Core.List.{List, map, _++_}
 use mathlib.Core.Option.{none}
 use native.Mathlib.Omega.{arith}
 use lib.ListN.{length, take, drop, length-map}
@@ -12,9 +12,11 @@ use Rattle.folds.proofs.Fronts.{front-long}
 use Rattle.ot_layouts.specs.Coverage.{Entry}
 use Rattle.store_rules.specs.Store.{Store}
 use Rattle.cut_filling.proofs.Turns.{placed-front}
-use Rattle.pair_rules.specs.Table.{shape, entriesOf, glyphsOf}
+use Rattle.pair_rules.specs.Table.{shape, entriesOf, glyphsOf, cutPlaces}
+use Rattle.call_rules.specs.declared.Settings.{Settings}
 use Rattle.call_rules.specs.Scratch.{Scratch, lengthsOf}
 use Rattle.call_rules.specs.Answers.{firstCase}
+use Rattle.call_rules.specs.Settings.{settingsCases}
 use Rattle.pair_rules.specs.Calls.{readCases, scratchShort, cutCases}
 use Rattle.call_rules.proofs.Scratch.{LongEnough, long-enough}
 use Rattle.call_rules.proofs.Cases.{first-append, first-head}
@@ -50,19 +52,23 @@ entries-long : (s : Store) (t : ℕ) → length (entriesOf s t) ≡ length (glyp
 entries-long s t = sym (length-map (entriesOf s t) (λ e. e .glyph)) ∙ ap length (entries-glyphs s t)
 
 -- 6 does not apply
-pub scratch-long : (s : Store) (t : ℕ) (w : Scratch) → firstCase (cutCases s t w) ≡ none
+pub scratch-long : (how : Settings) (s : Store) (t : ℕ) (w : Scratch) → firstCase (cutCases how s t w) ≡ none
     → LongEnough (lengthsOf w) (s .objectCount) (length (glyphsOf s t)) (shape s t .count)
 unfolding cutCases scratchShort
-scratch-long s t w h =
-    let (read, rest) = first-append (readCases s t) _ h in
+scratch-long how s t w h =
+    let (read, rest) = first-append (settingsCases how ++ readCases s t) _ h in
     long-enough (lengthsOf w) (s .objectCount) (length (glyphsOf s t)) (shape s t .count) (first-head _ _ rest .0)
 
-module _ {s : Store} {t : ℕ} {w : Scratch} {d : Decision} {gs ks cuts : List ℕ} (x : Decided s t w d gs ks cuts) {p : Plan} (y : d ≡ Cut p) where
-  abbrev k : Planned s t w p gs ks cuts
+module _ {how : Settings} {s : Store} {t : ℕ} {w : Scratch} {d : Decision} {gs ks cuts : List ℕ} (x : Decided how s t w d gs ks cuts) {p : Plan} (y : d ≡ Cut p) where
+  abbrev k : Planned how s t w p gs ks cuts
   k = x .plans p y
 
-  pub none-applies : firstCase (cutCases s t w) ≡ none
+  pub none-applies : firstCase (cutCases how s t w) ≡ none
   none-applies = x .answers ∙ ap decidedAs y
+
+  -- the plan's cuts are the table's places
+  pub places-planned : part cuts 0 (p .cuts) ≡ cutPlaces how s t
+  places-planned = placed-front (k .cut .placed)
 
   many : p .table .glyphs ≡ length (glyphsOf s t)
   many = k .opens .glyphs
@@ -82,14 +88,13 @@ module _ {s : Store} {t : ℕ} {w : Scratch} {d : Decision} {gs ks cuts : List �
 
   pub ready : Bytes (s .bytes) → length gs ≡ length (w .glyphs) → length ks ≡ length (w .classes) → PlanReady s t p gs ks cuts
   ready octets a b =
-      let long = scratch-long s t w none-applies in
+      let long = scratch-long how s t w none-applies in
       let (room, few) = planned-few octets k in
       record {
         opens = k .opens;
-        count = k .cut .placed .count;
+        places = subst (Places (shape s t .count)) (sym places-planned) (table-cuts how s t);
         few = few;
         cut-room = room;
-        places = placed-front (k .cut .placed);
         glyph-room = omega (arith, many, long .glyphs);
         class-room = omega (arith, many, long .classes);
         byClass = by-class;
@@ -99,10 +104,10 @@ module _ {s : Store} {t : ℕ} {w : Scratch} {d : Decision} {gs ks cuts : List �
 
 pub fronts-lent : {s : Store} {t : ℕ} {p : Plan} {gs ks cuts : List ℕ} → PlanReady s t p gs ks cuts → (p .cuts ≡ 0 → ⊥)
     → Arranging s t (p .table) (part gs 0 (p .table .glyphs)) (part ks 0 (p .table .glyphs)) (part cuts 0 (p .cuts))
-fronts-lent {s = s} {t = t} {p = p} {gs = gs} {ks = ks} {cuts = cuts} k some =
+fronts-lent {p = p} {gs = gs} {ks = ks} {cuts = cuts} k some =
     record {
       opens = k .opens;
-      places = subst (Places (shape s t .count)) (sym (k .places)) (table-cuts s t);
+      places = k .places;
       some = let n = front-long cuts (p .cuts) (k .cut-room) in omega arith;
       glyphs = front-long gs (p .table .glyphs) (k .glyph-room);
       classes = front-long ks (p .table .glyphs) (k .class-room);

@@ -7,6 +7,7 @@ pub mod measuring;
 use call_room::is_short;
 use call_rules::Answer;
 use call_rules::Lent;
+use call_rules::Settings;
 use call_rules::number_of;
 use call_scratch::clear_scratch;
 use carrying::carry_out;
@@ -19,6 +20,7 @@ ghost use mathlib.Core.Path.{_≡_};
 ghost use Rattle.call_rules.specs.Scratch.{Scratch, cleared};
 ghost use Rattle.call_rules.specs.Outcomes.{outcome};
 ghost use Rattle.pair_rules.specs.Calls.{lastCases, splitUnless, splitCall};
+ghost use Rattle.folds.specs.Lists.{part};
 ghost use Rattle.folds.specs.Moments.{came, left};
 ghost use Rattle.store_rules.specs.Moments.{storeCame, storeLeft, storeNow};
 ghost use Rattle.call_rules.specs.Moments.{scratchCame, scratchLeft};
@@ -70,7 +72,7 @@ pub fn split_at(
     true
 }
 
-// Splits a table as planned: nothing to cut, no room, or the split.
+// Splits a table at the places of a plan, whatever they come from: nothing to cut, no room, or the split.
 fn split_planned(
     data: &mut [u8],
     objects: &mut [u32],
@@ -88,8 +90,9 @@ fn split_planned(
     ensures { λ r. ⌜
         ((w : Scratch)
         → outcome r (left «new_count») (storeLeft «data» objects links counts) (left «new_tables») (cleared w)
-        ≡ splitUnless (lastCases (storeCame «data» objects links counts) table (came «new_tables»)) (storeCame «data» objects links counts)
-        table w (came «new_tables»))
+        ≡ splitUnless
+        (lastCases (storeCame «data» objects links counts) table (part (came cuts) 0 (plan .cuts)) (came «new_tables»))
+        (storeCame «data» objects links counts) table (part (came cuts) 0 (plan .cuts)) w (came «new_tables»))
         ⌝ }
 {
     *new_count = 0;
@@ -125,6 +128,7 @@ fn split_any(
     links: &mut [u32],
     counts: &mut [u32; 3],
     table: u32,
+    settings: Settings,
     walk: &mut [u32],
     glyph_set: &mut [u8],
     glyphs: &mut [u16],
@@ -136,7 +140,7 @@ fn split_any(
     ensures { λ r. ⌜
         outcome r (left «new_count») (storeLeft «data» objects links counts) (left «new_tables»)
         (cleared (scratchCame walk «glyph_set» glyphs classes cuts))
-        ≡ splitCall (storeCame «data» objects links counts) table (scratchCame walk «glyph_set» glyphs classes cuts) (came «new_tables»)
+        ≡ splitCall settings (storeCame «data» objects links counts) table (scratchCame walk «glyph_set» glyphs classes cuts) (came «new_tables»)
         ⌝ }
 {
     let decision = decide(
@@ -145,6 +149,7 @@ fn split_any(
         links,
         *counts,
         table,
+        settings,
         walk,
         glyph_set,
         glyphs,
@@ -179,6 +184,7 @@ pub fn split_pairpos(
     links: &mut [u32],
     counts: &mut [u32; 3],
     table: u32,
+    settings: Settings,
     walk: &mut [u32],
     glyph_set: &mut [u8],
     glyphs: &mut [u16],
@@ -190,7 +196,7 @@ pub fn split_pairpos(
     ensures { λ r. ⌜
         outcome r (left «new_count») (storeLeft «data» objects links counts) (left «new_tables»)
         (scratchLeft walk «glyph_set» glyphs classes cuts)
-        ≡ splitCall (storeCame «data» objects links counts) table (scratchCame walk «glyph_set» glyphs classes cuts) (came «new_tables»)
+        ≡ splitCall settings (storeCame «data» objects links counts) table (scratchCame walk «glyph_set» glyphs classes cuts) (came «new_tables»)
         ⌝ }
 {
     let answer = split_any(
@@ -199,6 +205,7 @@ pub fn split_pairpos(
         links,
         counts,
         table,
+        settings,
         walk,
         glyph_set,
         glyphs,

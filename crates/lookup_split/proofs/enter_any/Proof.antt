@@ -1,11 +1,11 @@
--- `lookup_split::enter_any` meets its contract: refused by 1 to 9, or entered as planned. Assumes nothing.
+-- `lookup_split::enter_any` meets its contract: refused by one of the checks, or entered as planned. Assumes nothing.
 use mathlib.Core.Path.{sym, ap, _∙_}
 use mathlib.Core.Option.{some}
 use borrow.Author.Needs.{needs}
 use Rattle.store_rules.specs.Store.{Store, lent}
 use Rattle.call_rules.specs.Scratch.{Scratch, scratchOf}
 use Rattle.pair_plan.specs.Decided.{decidedAs}
-use Rattle.lookup_split.proofs.WholeCall.{none-decided, enter-ready, call-settled, call-goes}
+use Rattle.lookup_split.proofs.WholeCall.{enter-ready, call-goes, call-settled}
 use Rattle.lookup_split.proofs.enter_any.Statement.{statement}
 use Rattle.lookup_split.proofs.enter_any.Tie as tie
 
@@ -21,7 +21,7 @@ enter-planned-requires c κs =
     let planned = c .before .before .before .before .before .before .before .before .before .before .before in
     let decided = planned .before .before .before .before .before .before .before .before .before .before .before .before in
     let «data» = decided .before .before .before .before .before .before .before .before .before .before .before .before .before .before .before .before .before .before in
-    let kept = decided .decide .kept .1 .1 .1 .1 .1 .1 in
+    let kept = decided .decide .kept .1 .1 .1 .1 .1 .1 .1 in
     enter-ready (decided .decide .ensures) (planned .decision2 .given .1) (λ i. «data» .slice-known .given i .fits) (kept .1 .1 .0) (kept .1 .1 .1 .0) (kept .0)
 
 returns : tie.Need-returns
@@ -29,7 +29,7 @@ returns c =
     let decided = c .before .before .before .before .before .before .before .before .before .before .before .before .before .before in
     let start = decided .before .before .before .before .before .before .before .before .before .before .before .before .before .before .before .before .before .before .before in
     let a = start .args in
-    call-settled (store start) (a .list) (a .table) (scratch start) (a .new-tables .now)
+    call-settled (a .settings) (store start) (a .list) (a .table) (scratch start) (a .new-tables .now)
     (decided .decide .ensures .answers ∙ ap decidedAs (c .before .before .decision .given .1) ∙ ap some (sym (c .number-of .ensures)))
 
 same-length-12 : tie.Need-same-length-12
@@ -62,10 +62,9 @@ returns-2 c =
     let planned = c .before .before .before .before .before .before .before .before .before .before .before .before .before .before in
     let decided = planned .before .before .before .before .before .before .before .before .before .before .before .before .before .before .before .before .before .before .before .before .before .before .before .before in
     let start = decided .before .before .before .before .before .before .before .before .before .before .before .before .before .before .before .before .before .before .before in
-    let a = start .args in
+    let plan = planned .before .before .before .before .before .before .before .before .before .before .before .before in
     planned .enter-planned .ensures (scratch start)
-    ∙ call-goes (store start) (a .list) (a .table) (scratch start) (a .new-tables .now)
-    (none-decided (decided .decide .ensures) (planned .before .before .before .before .before .before .before .before .before .before .before .before .decision2 .given .1))
+    ∙ call-goes (decided .decide .ensures) (plan .decision2 .given .1) (start .args .new-tables .now)
 
 pub enter-any-spec : {M : Type 1} → statement M
 enter-any-spec =

@@ -11,7 +11,7 @@ returns c =
     let entered = zeroed .before .before .before .before .before .before .before .before .before .before .before .before .before .before .before .before .before .before .before .before .before .before .before .before in
     let start = entered .before .before .before .before .before .before .before .before .before .before .before .before .before .before .before .before .before .before .before .before .before in
     let a = start .args in
-    let kept = entered .enter-any .kept .1 .1 .1 .1 .1 .1 in
+    let kept = entered .enter-any .kept .1 .1 .1 .1 .1 .1 .1 in
     then-cleared {w = scratchOf (a .walk .now) (a .glyph-set .now) (a .glyphs .now) (a .classes .now) (a .cuts .now)}
     (record { walk = kept .0; set = kept .1 .0; glyphs = kept .1 .1 .0; classes = kept .1 .1 .1 .0; cuts = kept .1 .1 .1 .1 .0 })
     (zeroed .clear-scratch .ensures) (entered .enter-any .ensures)

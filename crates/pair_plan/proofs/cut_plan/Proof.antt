@@ -21,8 +21,8 @@ returns c =
     let handed = zeroed .before .before .before .before .before .before .before .before in
     let decided = handed .before .before .before .before .before .before .before .before .before .before .before .before .before .before in
     let a = decided .before .before .before .before .before .before .before .before .before .before .before .before .before .before .before .args in
-    let kept = decided .decide .kept .1 .1 .1 .1 .1 in
-    plan-called (lent (a .«data» .now) (a .objects .now) (a .links .now) (a .counts)) (a .table)
+    let kept = decided .decide .kept .1 .1 .1 .1 .1 .1 in
+    plan-called (a .settings) (lent (a .«data» .now) (a .objects .now) (a .links .now) (a .counts)) (a .table)
     (scratchOf (a .walk .now) (a .glyph-set .now) (a .glyphs .now) (a .classes .now) (a .cuts .now)) (a .places .now)
     (decided .decide .ensures) (handed .hand-out .ensures)
     (record { walk = kept .0; set = kept .1 .0; glyphs = kept .1 .1 .0; classes = kept .1 .1 .1 .0; cuts = kept .1 .1 .1 .1 .0 })

@@ -14,13 +14,13 @@ cast-begin-walk : tie.Need-cast-begin-walk
 cast-begin-walk c =
     let start = c .before .before .before .before .before .before .before .before .before .before in
     let a = start .args in
-    omega (arith, header-fits (a .«data» .now) (a .objects .now) (a .links .now) (a .counts) (a .table) (scratch start) (a .opened) (start .pre))
+    omega (arith, header-fits (a .«data» .now) (a .objects .now) (a .links .now) (a .counts) (a .table) (scratch start) (a .opened) (start .pre .1))
 
 begin-walk-requires : tie.Need-begin-walk-requires
 begin-walk-requires c κs =
     let start = c .before .before .before .before .before .before .before .before .before .before .before in
     let a = start .args in
-    let ready = can-begin (a .«data» .now) (a .objects .now) (a .links .now) (a .counts) (a .table) (scratch start) (a .opened) (start .pre) in
+    let ready = can-begin (a .«data» .now) (a .objects .now) (a .links .now) (a .counts) (a .table) (scratch start) (a .opened) (start .pre .1) in
     (ready .0, (ready .1, ready .2))
 
 cut-table-requires : tie.Need-cut-table-requires
@@ -28,7 +28,7 @@ cut-table-requires c κs =
     let begun = c .before .before .before .before .before .before .before in
     let start = begun .before .before .before .before .before .before .before .before .before .before .before .before in
     let a = start .args in
-    can-cut (a .«data» .now) (a .objects .now) (a .links .now) (a .counts) (a .table) (scratch start) (a .opened) (start .pre) (begun .begin-walk .ensures (a .«data» .now))
+    can-cut (a .«data» .now) (a .objects .now) (a .links .now) (a .counts) (a .table) (scratch start) (a .opened) (start .pre .1) (begun .begin-walk .ensures (a .«data» .now))
 
 settle-cuts-requires : tie.Need-settle-cuts-requires
 settle-cuts-requires c κs =
@@ -36,12 +36,12 @@ settle-cuts-requires c κs =
     let begun = walked .before .before .before .before .before .before .before .before in
     let start = begun .before .before .before .before .before .before .before .before .before .before .before .before .before in
     let a = start .args in (
-      is-open (a .«data» .now) (a .objects .now) (a .links .now) (a .counts) (a .table) (scratch start) (a .opened) (start .pre),
+      is-open (a .«data» .now) (a .objects .now) (a .links .now) (a .counts) (a .table) (scratch start) (a .opened) (start .pre .1),
       (
         walked .before .cut-table .ensures .1,
         omega (
           arith,
-          table-marked (a .«data» .now) (a .objects .now) (a .links .now) (a .counts) (a .table) (scratch start) (a .opened) (start .pre),
+          table-marked (a .«data» .now) (a .objects .now) (a .links .now) (a .counts) (a .table) (scratch start) (a .opened) (start .pre .1),
           begun .walk .given,
           walked .walk2 .given,
         ),
@@ -53,8 +53,8 @@ returns c =
     let cut = c .before .before .before .before .before .before .before .before .before .before .before .before .before .before in
     let start = cut .before .before .before .before .before .before .before .before .before .before .before .before .before .before .before .before .before .before .before .before in
     let a = start .args in
-    decided-cut (a .«data» .now) (a .objects .now) (a .links .now) (a .counts) (a .table) (scratch start) (a .opened) (start .pre)
-    (cut .cut-table .ensures .0) (c .before .before .settle-cuts .ensures)
+    decided-cut (a .«data» .now) (a .objects .now) (a .links .now) (a .counts) (a .table) (scratch start) (a .opened) (start .pre .1)
+    (start .pre .0) (cut .cut-table .ensures .0) (c .before .before .settle-cuts .ensures)
 
 pub decide-cuts-spec : {M : Type 1} → statement M
 decide-cuts-spec =

@@ -11,13 +11,14 @@ use Rattle.pair_plan.proofs.decide_sound.Tie as tie
 decide-cuts-requires : tie.Need-decide-cuts-requires
 decide-cuts-requires c κs =
     let after-check-call = c .before .before .before .before .before .before .before .before in
-    sym (after-check-call .check-call .ensures) ∙ ap checkedAs (c .before .before .before .before .before .before .checked2 .given .1)
+    let start = after-check-call .before .before .before .before .before .before .before .before .before in
+    (start .pre .0, sym (after-check-call .check-call .ensures) ∙ ap checkedAs (c .before .before .before .before .before .before .checked2 .given .1))
 
 returns : tie.Need-returns
 returns c =
     let start = c .before .before .before .before .before .before .before .before .before .before .before .before in
     let a = start .args in
-    decided-settled (lent (a .«data» .now) (a .objects .now) (a .links .now) (a .counts)) (a .table)
+    decided-settled (start .pre .0) (lent (a .«data» .now) (a .objects .now) (a .links .now) (a .counts)) (a .table)
     (scratchOf (a .walk .now) (a .glyph-set .now) (a .glyphs .now) (a .classes .now) (a .cuts .now))
     (c .before .before .before .check-call .ensures) (c .before .checked .given .1)
 

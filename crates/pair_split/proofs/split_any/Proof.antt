@@ -1,15 +1,17 @@
--- `pair_split::split_any` meets its contract: refused by 1 to 7, or split as planned. Assumes nothing.
+-- `pair_split::split_any` meets its contract: refused by one of the first cases, or split as planned. Assumes nothing.
 use mathlib.Core.Path.{sym, ap, _∙_}
+use mathlib.Core.List.{List}
 use mathlib.Core.Option.{some}
+use Prim.Native.Nat.{ℕ}
 use borrow.Author.Needs.{needs}
 use Rattle.store_rules.specs.Store.{lent}
 use Rattle.call_rules.specs.Scratch.{scratchOf}
 use Rattle.call_lists.proofs.Split.{call-settled, call-goes}
 use Rattle.pair_rules.specs.Table.{cutPlaces}
 use Rattle.pair_rules.specs.Written.{needed, splitStore, newTables}
-use Rattle.pair_rules.specs.Calls.{cutCases, lastCases, splitCases, splitCall}
+use Rattle.pair_rules.specs.Calls.{cutCases, lastCases, splitCases, splitUnless, splitCall}
 use Rattle.pair_plan.specs.Decided.{decidedAs}
-use Rattle.pair_split.proofs.Fronts.{none-applies, ready}
+use Rattle.pair_split.proofs.Fronts.{none-applies, places-planned, ready}
 use Rattle.pair_split.proofs.split_any.Statement.{statement}
 use Rattle.pair_split.proofs.split_any.Tie as tie
 
@@ -17,7 +19,7 @@ split-planned-requires : tie.Need-split-planned-requires
 split-planned-requires c κs =
     let after-decision2 = c .before .before .before .before .before .before .before .before .before .before in
     let decided = after-decision2 .before .before .before .before .before .before .before .before .before .before .before .before in
-    let kept = decided .decide .kept .1 .1 .1 .1 .1 .1 .1 in
+    let kept = decided .decide .kept .1 .1 .1 .1 .1 .1 .1 .1 in
     ready (decided .decide .ensures) (after-decision2 .decision2 .given .1) (λ i. decided .before .before .before .before .before .before .before .before .before .before .before .before .before .before .before .before .before .before .slice-known .given i .fits) (kept .0) (kept .1 .0)
 
 returns : tie.Need-returns
@@ -27,21 +29,21 @@ returns c =
     let a = decided .before .before .before .before .before .before .before .before .before .before .before .before .before .before .before .before .before .before .before .args in
     let s = lent (a .«data» .now) (a .objects .now) (a .links .now) (a .counts .now) in
     let w = scratchOf (a .walk .now) (a .glyph-set .now) (a .glyphs .now) (a .classes .now) (a .cuts .now) in
-    call-settled s (a .new-tables .now) (needed s (a .table)) (splitStore s (a .table)) (newTables s (a .table)) (cutPlaces s (a .table))
-    (cutCases s (a .table) w) w
+    call-settled s (a .new-tables .now) (needed s (a .table)) (splitStore s (a .table)) (newTables s (a .table)) (cutPlaces (a .settings) s (a .table))
+    (cutCases (a .settings) s (a .table) w) w
     (decided .decide .ensures .answers ∙ ap decidedAs (c .before .before .decision .given .1) ∙ ap some (sym (c .number-of .ensures)))
 
 same-length-12 : tie.Need-same-length-12
 same-length-12 c =
     let split = c .before .before .before .before .before .before .before .before .before .before .before .before in
     let decided = split .before .before .before .before .before .before .before .before .before .before .before .before .before .before .before .before .before .before .before .before .before .before .before in
-    decided .decide .kept .1 .1 .1 .1 .1 .0
+    decided .decide .kept .1 .1 .1 .1 .1 .1 .0
 
 same-length-13 : tie.Need-same-length-13
 same-length-13 c =
     let split = c .before .before .before .before .before .before .before .before .before .before .before .before in
     let decided = split .before .before .before .before .before .before .before .before .before .before .before .before .before .before .before .before .before .before .before .before .before .before .before in
-    decided .decide .kept .1 .1 .1 .1 .1 .1 .0
+    decided .decide .kept .1 .1 .1 .1 .1 .1 .1 .0
 
 same-length-14 : tie.Need-same-length-14
 same-length-14 c =
@@ -66,9 +68,11 @@ returns-2 c =
     let a = decided .before .before .before .before .before .before .before .before .before .before .before .before .before .before .before .before .before .before .before .args in
     let w = scratchOf (a .walk .now) (a .glyph-set .now) (a .glyphs .now) (a .classes .now) (a .cuts .now) in
     let s = lent (a .«data» .now) (a .objects .now) (a .links .now) (a .counts .now) in
+    let planned = split .before .before .before .before .before .before .before .before .before .before .before .decision2 .given .1 in
     split .split-planned .ensures w
-    ∙ call-goes s (a .new-tables .now) (needed s (a .table)) (splitStore s (a .table)) (newTables s (a .table)) (cutPlaces s (a .table)) (cutCases s (a .table) w) w
-    (none-applies (decided .decide .ensures) (split .before .before .before .before .before .before .before .before .before .before .before .decision2 .given .1))
+    ∙ ap (λ (cs : List ℕ). splitUnless (lastCases s (a .table) cs (a .new-tables .now)) s (a .table) cs w (a .new-tables .now)) (places-planned (decided .decide .ensures) planned)
+    ∙ call-goes s (a .new-tables .now) (needed s (a .table)) (splitStore s (a .table)) (newTables s (a .table)) (cutPlaces (a .settings) s (a .table)) (cutCases (a .settings) s (a .table) w) w
+    (none-applies (decided .decide .ensures) planned)
 
 pub split-any-spec : {M : Type 1} → statement M
 split-any-spec =

@@ -10,7 +10,7 @@ returns c =
     let zeroed = c .before .before .before .before .before .before .before .before .before .before in
     let split = zeroed .before .before .before .before .before .before .before .before .before .before .before .before .before .before .before .before .before .before .before .before .before .before .before .before in
     let a = split .before .before .before .before .before .before .before .before .before .before .before .before .before .before .before .before .before .before .before .before .before .args in
-    let kept = split .split-any .kept .1 .1 .1 .1 .1 in
+    let kept = split .split-any .kept .1 .1 .1 .1 .1 .1 in
     then-cleared {w = scratchOf (a .walk .now) (a .glyph-set .now) (a .glyphs .now) (a .classes .now) (a .cuts .now)}
     (record { walk = kept .0; set = kept .1 .0; glyphs = kept .1 .1 .0; classes = kept .1 .1 .1 .0; cuts = kept .1 .1 .1 .1 .0 })
     (zeroed .clear-scratch .ensures) (split .split-any .ensures)

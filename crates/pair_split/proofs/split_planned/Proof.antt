@@ -1,9 +1,14 @@
 -- `pair_split::split_planned` meets its contract: nothing to cut, no room, or the split. Assumes nothing.
 use borrow.Author.Tests.{not-true, not-false}
 use borrow.Author.Needs.{needs}
+use mathlib.Core.Path.{_≡_, refl, sym}
+use mathlib.Core.List.{List}
+use Prim.Native.Nat.{ℕ}
+use lib.ListN.{length}
+use Rattle.folds.specs.Lists.{part}
+use Rattle.folds.proofs.Fronts.{front-long}
 use Rattle.store_rules.specs.Store.{Store, lent}
 use Rattle.call_lists.proofs.Split.{nothing, refused, carried}
-use Rattle.pair_rules.specs.Table.{cutPlaces}
 use Rattle.pair_rules.specs.Written.{needed, splitStore, newTables}
 use Rattle.pair_rules.specs.Calls.{lastCases}
 use Rattle.pair_split.proofs.Fronts.{fronts-lent}
@@ -15,13 +20,20 @@ use Rattle.pair_split.proofs.split_planned.Tie as tie
 abbrev store : tie.Start → Store
 store c = let a = c .args in lent (a .«data» .now) (a .objects .now) (a .links .now) (a .counts .now)
 
+-- the plan's cuts, and how many they are
+abbrev places : tie.Start → List ℕ
+places c = part (c .args .cuts .now) 0 (c .args .plan .cuts)
+
+count : (c : tie.Start) → c .args .plan .cuts ≡ length (places c)
+count c = sym (front-long (c .args .cuts .now) (c .args .plan .cuts) (c .pre .cut-room))
+
 returns : tie.Need-returns
 unfolding lastCases
 returns c =
     let start = c .before .before .before .before .before .before .before .before in
     let a = start .args in
     let s = store start in
-    nothing s (a .new-tables .now) (needed s (a .table)) (splitStore s (a .table)) (newTables s (a .table)) (cutPlaces s (a .table)) (start .pre .count) (c .if1 .taken)
+    nothing s (a .new-tables .now) (needed s (a .table)) (splitStore s (a .table)) (newTables s (a .table)) (places start) (count start) (c .if1 .taken)
 
 split-at-requires : tie.Need-split-at-requires
 split-at-requires c κs =
@@ -37,7 +49,7 @@ returns-2 c =
     let start = some .before .before .before .before .before .before .before .before in
     let a = start .args in
     let s = store start in
-    refused s (a .new-tables .now) (needed s (a .table)) (splitStore s (a .table)) (newTables s (a .table)) (cutPlaces s (a .table)) (start .pre .count) (some .if1 .left) (start .pre .places) (split .split-at .ensures)
+    refused s (a .new-tables .now) (needed s (a .table)) (splitStore s (a .table)) (newTables s (a .table)) (places start) (count start) (some .if1 .left) refl (split .split-at .ensures)
     (not-true _ (c .before .if2 .taken)) (c .number-of .ensures)
 
 returns-3 : tie.Need-returns-3
@@ -48,8 +60,8 @@ returns-3 c =
     let start = some .before .before .before .before .before .before .before .before in
     let a = start .args in
     let s = store start in
-    carried s (a .new-tables .now) (needed s (a .table)) (splitStore s (a .table)) (newTables s (a .table)) (cutPlaces s (a .table)) (start .pre .count) (some .if1 .left) (start .pre .places) (split .split-at .ensures)
-    (not-false _ (c .if2 .left)) (tables-many s (a .table) (cutPlaces s (a .table)))
+    carried s (a .new-tables .now) (needed s (a .table)) (splitStore s (a .table)) (newTables s (a .table)) (places start) (count start) (some .if1 .left) refl (split .split-at .ensures)
+    (not-false _ (c .if2 .left)) (tables-many s (a .table) (places start))
 
 pub split-planned-spec : {M : Type 1} → statement M
 split-planned-spec =

@@ -18,13 +18,13 @@ decide-sound-requires c κs =
     let told = c .before .before .before .before .before in
     let asked = told .before .before .before .before in
     let start = asked .before .before .before .before .before .before .before .before .before .before in
-    known-sound (store start) (start .args .list) (start .args .table) (asked .ask-list .ensures) (told .enum-told .given .1)
+    known-sound (start .args .settings) (store start) (start .args .list) (start .args .table) (asked .ask-list .ensures) (told .enum-told .given .1)
 
 returns : tie.Need-returns
 returns c =
     let asked = c .before .before .before .before .before in
     let start = asked .before .before .before .before .before .before .before .before .before .before in
-    list-settled (store start) (start .args .list) (start .args .table) (asked .ask-list .ensures) (c .before .listing .given .1) (scratch start)
+    list-settled (start .args .settings) (store start) (start .args .list) (start .args .table) (asked .ask-list .ensures) (c .before .listing .given .1) (scratch start)
 
 returns-2 : tie.Need-returns-2
 returns-2 c =
@@ -33,8 +33,8 @@ returns-2 c =
     let asked = told .before .before .before .before in
     let start = asked .before .before .before .before .before .before .before .before .before .before in
     let a = start .args in
-    list-good (store start) (a .list) (a .table) (asked .ask-list .ensures) (told .enum-told .given .1) (a .walk .now) _ (a .glyph-set .now) (a .glyphs .now)
-    (a .classes .now) (a .cuts .now) (asked .ask-list .kept .1 .1 .1 .1 .1 .1 .0) (decided .decide-sound .ensures)
+    list-good (a .settings) (store start) (a .list) (a .table) (asked .ask-list .ensures) (told .enum-told .given .1) (a .walk .now) _ (a .glyph-set .now) (a .glyphs .now)
+    (a .classes .now) (a .cuts .now) (asked .ask-list .kept .1 .1 .1 .1 .1 .1 .1 .0) (decided .decide-sound .ensures)
 
 pub decide-spec : {M : Type 1} → statement M
 decide-spec =

@@ -21,9 +21,10 @@ returns c =
     let places = c .before .before .before .before .before .before in
     let cleared = places .before .before .before .before .before .before in
     let info = cleared .before .before in
+    let settings = info .before .before .before .before .before .before .before .before .before .args .settings in
     let found = places .compute-format2-split-points .ensures in
     let empty = cleared .clear-u8 .ensures in
-    (λ b k. rows-placed k (info .info-of .ensures) empty (found .0 b), λ b k. rows-tell k (info .info-of .ensures) empty (found .1 b))
+    (λ b k. rows-placed k (info .info-of .ensures) empty settings (found .0 b), λ b k. rows-tell k (info .info-of .ensures) empty (found .1 b))
 
 pub cut-rows-spec : {M : Type 1} → statement M
 cut-rows-spec =

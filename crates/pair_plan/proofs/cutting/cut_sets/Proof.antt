@@ -17,8 +17,9 @@ returns : tie.Need-returns
 returns c =
     let places = c .before .before .before .before in
     let info = places .before .before .before in
+    let settings = info .before .before .before .before .before .before .args .settings in
     let found = places .compute-format1-split-points .ensures in
-    (λ b k. sets-placed k (info .info-of .ensures) (found .0 b), λ b k. sets-tell k (info .info-of .ensures) (found .1 b))
+    (λ b k. sets-placed k (info .info-of .ensures) settings (found .0 b), λ b k. sets-tell k (info .info-of .ensures) (found .1 b))
 
 pub cut-sets-spec : {M : Type 1} → statement M
 cut-sets-spec =
