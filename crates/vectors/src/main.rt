@@ -36,11 +36,11 @@ fn replay(text: &[u8]) {
         return;
     }
     let count = read_number(text, length.at);
-    let mut tally = [0u64; 14];
+    let mut tally = [0u64; 15];
     let differing = replay_cases(text, count.at, count.value, &mut tally);
     print_kinds(&tally);
     print_line(b"cases", count.value as u64);
-    print_line(b"cases of marks", tally[13]);
+    print_line(b"cases of marks", tally[14]);
     print_line(b"not as stored", differing as u64);
 }
 
@@ -50,7 +50,7 @@ fn is_whole(text: &[u8], length: u32) -> bool {
 }
 
 // Replays case after case; answers how many are not as stored, or not there.
-fn replay_cases(text: &[u8], from: usize, count: u32, tally: &mut [u64; 14]) -> u32 {
+fn replay_cases(text: &[u8], from: usize, count: u32, tally: &mut [u64; 15]) -> u32 {
     let mut at = from;
     let mut differing: u32 = 0;
     let mut k: u32 = 0;
@@ -78,7 +78,8 @@ fn replay_case(text: &[u8], from: usize, case: u64) -> Outcome {
     let lookup_type = read_number(text, from);
     let marks = lookup_type.value == 4;
     let table = read_number(text, lookup_type.at);
-    let a = lay_u32(text, table.at, &mut counts);
+    let edition = read_number(text, table.at);
+    let a = lay_u32(text, edition.at, &mut counts);
     let b = lay_u8(text, a.at, &mut data);
     let c = lay_u32(text, b.at, &mut objects);
     let d = lay_u32(text, c.at, &mut links);
@@ -95,6 +96,7 @@ fn replay_case(text: &[u8], from: usize, case: u64) -> Outcome {
         &mut links[..link_count],
         &mut counts,
         table.value,
+        edition.value,
     )
 }
 
@@ -109,6 +111,7 @@ fn replay_calls(
     links: &mut [u32],
     counts: &mut [u32; 3],
     table: u32,
+    edition: u32,
 ) -> Outcome {
     let before = readings_agree(
         text,
@@ -133,6 +136,7 @@ fn replay_calls(
         links,
         counts,
         table,
+        edition,
     );
     let split = split_agrees(
         text,
@@ -145,6 +149,7 @@ fn replay_calls(
         links,
         counts,
         table,
+        edition,
     );
     let agrees = both(both(before.agrees, plan.agrees), split.agrees);
     Outcome {

@@ -25,6 +25,7 @@ pub fn plan_agrees(
     links: &[u32],
     counts: &[u32; 3],
     table: u32,
+    edition: u32,
 ) -> Seen {
     let mut places = [0u16; 8192];
     let laid = lay_u16(text, from, &mut places);
@@ -38,6 +39,7 @@ pub fn plan_agrees(
         links,
         counts,
         table,
+        edition,
         &mut places[..room],
     );
     places_agree(text, case, called, &places)
@@ -53,6 +55,7 @@ fn plan_with_walk(
     links: &[u32],
     counts: &[u32; 3],
     table: u32,
+    edition: u32,
     places: &mut [u16],
 ) -> Called {
     let mut walk = [0u32; 8192];
@@ -70,6 +73,7 @@ fn plan_with_walk(
         links,
         counts,
         table,
+        edition,
         &mut walk[..walk_count],
         &mut glyph_set[..set_count],
         places,
@@ -86,6 +90,7 @@ fn plan_with_glyphs(
     links: &[u32],
     counts: &[u32; 3],
     table: u32,
+    edition: u32,
     walk: &mut [u32],
     glyph_set: &mut [u8],
     places: &mut [u16],
@@ -107,6 +112,7 @@ fn plan_with_glyphs(
         links,
         counts,
         table,
+        edition,
         walk,
         glyph_set,
         &mut glyphs[..glyph_count],
@@ -124,6 +130,7 @@ fn call_plan(
     links: &[u32],
     counts: &[u32; 3],
     table: u32,
+    edition: u32,
     walk: &mut [u32],
     glyph_set: &mut [u8],
     glyphs: &mut [u16],
@@ -139,6 +146,7 @@ fn call_plan(
         links,
         counts,
         table,
+        edition,
         walk,
         glyph_set,
         glyphs,
@@ -165,6 +173,7 @@ fn either_plan(
     links: &[u32],
     counts: &[u32; 3],
     table: u32,
+    edition: u32,
     walk: &mut [u32],
     glyph_set: &mut [u8],
     glyphs: &mut [u16],
@@ -180,6 +189,7 @@ fn either_plan(
             links,
             counts,
             table,
+            edition,
             walk,
             glyph_set,
             glyphs,
@@ -195,6 +205,7 @@ fn either_plan(
         links,
         counts,
         table,
+        edition,
         walk,
         glyph_set,
         glyphs,

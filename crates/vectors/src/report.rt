@@ -60,16 +60,16 @@ pub fn same(case: u64, call: &[u8], what: &[u8], agrees: bool) -> bool {
     false
 }
 
-// Adds a case to its kind: 0 where the table was cut, the answer where the split was refused, 12 where there was nothing to cut; and one of marks to 13.
-pub fn add_case(tally: &mut [u64; 14], answer: u32, count: u32, marks: bool) {
+// Adds a case to its kind: 0 where the table was cut, the answer where the split was refused, 13 where there was nothing to cut; and one of marks to 14.
+pub fn add_case(tally: &mut [u64; 15], answer: u32, count: u32, marks: bool) {
     add_one(tally, kind_of(answer, count));
     if marks {
-        add_one(tally, 13);
+        add_one(tally, 14);
     }
 }
 
-fn add_one(tally: &mut [u64; 14], kind: usize)
-    requires { ⌜ kind < 14 ⌝ }
+fn add_one(tally: &mut [u64; 15], kind: usize)
+    requires { ⌜ kind < 15 ⌝ }
 {
     if tally[kind] < u64::MAX {
         tally[kind] += 1;
@@ -77,26 +77,26 @@ fn add_one(tally: &mut [u64; 14], kind: usize)
 }
 
 fn kind_of(answer: u32, count: u32) -> usize
-    ensures { λ r. ⌜ r < 13 ⌝ }
+    ensures { λ r. ⌜ r < 14 ⌝ }
 {
     if count > 0 {
         return 0;
     }
     if answer == 0 {
-        return 12;
+        return 13;
     }
-    if answer > 11 {
-        return 11;
+    if answer > 12 {
+        return 12;
     }
     answer as usize
 }
 
 // Says how many cases of each kind there are.
-pub fn print_kinds(tally: &[u64; 14]) {
+pub fn print_kinds(tally: &[u64; 15]) {
     print_line(b"cut", tally[0]);
-    print_line(b"nothing to cut", tally[12]);
+    print_line(b"nothing to cut", tally[13]);
     let mut k: usize = 1;
-    while k < 12 {
+    while k < 13 {
         io::write_all(STDOUT_FILENO, b"refused by ");
         io::print_decimal(STDOUT_FILENO, k as u64);
         print_line(b"", tally[k]);

@@ -37,6 +37,7 @@ pub fn split_agrees(
     links: &mut [u32],
     counts: &mut [u32; 3],
     table: u32,
+    edition: u32,
 ) -> Outcome {
     let mut new_tables = [0u32; 8192];
     let laid = lay_u32(text, from, &mut new_tables);
@@ -50,6 +51,7 @@ pub fn split_agrees(
         links,
         counts,
         table,
+        edition,
         &mut new_tables[..room],
     );
     let split = tables_agree(text, case, called, &new_tables);
@@ -85,6 +87,7 @@ fn split_with_walk(
     links: &mut [u32],
     counts: &mut [u32; 3],
     table: u32,
+    edition: u32,
     new_tables: &mut [u32],
 ) -> Called {
     let mut walk = [0u32; 8192];
@@ -102,6 +105,7 @@ fn split_with_walk(
         links,
         counts,
         table,
+        edition,
         &mut walk[..walk_count],
         &mut glyph_set[..set_count],
         new_tables,
@@ -118,6 +122,7 @@ fn split_with_glyphs(
     links: &mut [u32],
     counts: &mut [u32; 3],
     table: u32,
+    edition: u32,
     walk: &mut [u32],
     glyph_set: &mut [u8],
     new_tables: &mut [u32],
@@ -139,6 +144,7 @@ fn split_with_glyphs(
         links,
         counts,
         table,
+        edition,
         walk,
         glyph_set,
         &mut glyphs[..glyph_count],
@@ -156,6 +162,7 @@ fn call_split(
     links: &mut [u32],
     counts: &mut [u32; 3],
     table: u32,
+    edition: u32,
     walk: &mut [u32],
     glyph_set: &mut [u8],
     glyphs: &mut [u16],
@@ -171,6 +178,7 @@ fn call_split(
         links,
         counts,
         table,
+        edition,
         walk,
         glyph_set,
         glyphs,
@@ -198,6 +206,7 @@ fn either_split(
     links: &mut [u32],
     counts: &mut [u32; 3],
     table: u32,
+    edition: u32,
     walk: &mut [u32],
     glyph_set: &mut [u8],
     glyphs: &mut [u16],
@@ -213,6 +222,7 @@ fn either_split(
             links,
             counts,
             table,
+            edition,
             walk,
             glyph_set,
             glyphs,
@@ -228,6 +238,7 @@ fn either_split(
         links,
         counts,
         table,
+        edition,
         walk,
         glyph_set,
         glyphs,
