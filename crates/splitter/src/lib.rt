@@ -1,6 +1,8 @@
 // The functions that are exported: on numbers and slices of numbers, on any input. They only call.
+use call_rules::Settings;
 ghost use mathlib.Core.Path.{_≡_};
 ghost use Rattle.call_rules.specs.Outcomes.{outcome};
+ghost use Rattle.call_rules.specs.Settings.{settingsOf};
 ghost use Rattle.pair_rules.specs.Calls.{splitCall, planCall, pairCall};
 ghost use Rattle.pair_reading.specs.Reading.{pairOutcome};
 ghost use Rattle.mark_rules.specs.Calls.{markSplitCall, markPlanCall, markCall};
@@ -18,6 +20,7 @@ pub extern "C" fn split_pairpos(
     links: &mut [u32],
     counts: &mut [u32; 3],
     table: u32,
+    edition: u32,
     walk: &mut [u32],
     glyph_set: &mut [u8],
     glyphs: &mut [u16],
@@ -29,7 +32,8 @@ pub extern "C" fn split_pairpos(
     ensures { λ r. ⌜
         outcome r (left «new_count») (storeLeft «data» objects links counts) (left «new_tables»)
         (scratchLeft walk «glyph_set» glyphs classes cuts)
-        ≡ splitCall (storeCame «data» objects links counts) table (scratchCame walk «glyph_set» glyphs classes cuts) (came «new_tables»)
+        ≡ splitCall (settingsOf edition) (storeCame «data» objects links counts) table (scratchCame walk «glyph_set» glyphs classes cuts)
+        (came «new_tables»)
         ⌝ }
 {
     pair_split::split_pairpos(
@@ -38,6 +42,7 @@ pub extern "C" fn split_pairpos(
         links,
         counts,
         table,
+        Settings { edition },
         walk,
         glyph_set,
         glyphs,
@@ -56,6 +61,7 @@ pub extern "C" fn cut_plan(
     links: &[u32],
     counts: &[u32; 3],
     table: u32,
+    edition: u32,
     walk: &mut [u32],
     glyph_set: &mut [u8],
     glyphs: &mut [u16],
@@ -67,7 +73,8 @@ pub extern "C" fn cut_plan(
     ensures { λ r. ⌜
         outcome r (left «place_count») (storeCame «data» objects links counts) (left places)
         (scratchLeft walk «glyph_set» glyphs classes cuts)
-        ≡ planCall (storeCame «data» objects links counts) table (scratchCame walk «glyph_set» glyphs classes cuts) (came places)
+        ≡ planCall (settingsOf edition) (storeCame «data» objects links counts) table (scratchCame walk «glyph_set» glyphs classes cuts)
+        (came places)
         ⌝ }
 {
     pair_plan::cut_plan(
@@ -76,6 +83,7 @@ pub extern "C" fn cut_plan(
         links,
         *counts,
         table,
+        Settings { edition },
         walk,
         glyph_set,
         glyphs,
@@ -122,6 +130,7 @@ pub extern "C" fn split_markbasepos(
     links: &mut [u32],
     counts: &mut [u32; 3],
     table: u32,
+    edition: u32,
     walk: &mut [u32],
     glyph_set: &mut [u8],
     glyphs: &mut [u16],
@@ -133,7 +142,8 @@ pub extern "C" fn split_markbasepos(
     ensures { λ r. ⌜
         outcome r (left «new_count») (storeLeft «data» objects links counts) (left «new_tables»)
         (scratchLeft walk «glyph_set» glyphs classes cuts)
-        ≡ markSplitCall (storeCame «data» objects links counts) table (scratchCame walk «glyph_set» glyphs classes cuts) (came «new_tables»)
+        ≡ markSplitCall (settingsOf edition) (storeCame «data» objects links counts) table (scratchCame walk «glyph_set» glyphs classes cuts)
+        (came «new_tables»)
         ⌝ }
 {
     mark_split::split_markbasepos(
@@ -142,6 +152,7 @@ pub extern "C" fn split_markbasepos(
         links,
         counts,
         table,
+        Settings { edition },
         walk,
         glyph_set,
         glyphs,
@@ -160,6 +171,7 @@ pub extern "C" fn cut_plan_markbasepos(
     links: &[u32],
     counts: &[u32; 3],
     table: u32,
+    edition: u32,
     walk: &mut [u32],
     glyph_set: &mut [u8],
     glyphs: &mut [u16],
@@ -171,7 +183,8 @@ pub extern "C" fn cut_plan_markbasepos(
     ensures { λ r. ⌜
         outcome r (left «place_count») (storeCame «data» objects links counts) (left places)
         (scratchLeft walk «glyph_set» glyphs classes cuts)
-        ≡ markPlanCall (storeCame «data» objects links counts) table (scratchCame walk «glyph_set» glyphs classes cuts) (came places)
+        ≡ markPlanCall (settingsOf edition) (storeCame «data» objects links counts) table (scratchCame walk «glyph_set» glyphs classes cuts)
+        (came places)
         ⌝ }
 {
     mark_plan::cut_plan_markbasepos(
@@ -180,6 +193,7 @@ pub extern "C" fn cut_plan_markbasepos(
         links,
         *counts,
         table,
+        Settings { edition },
         walk,
         glyph_set,
         glyphs,
@@ -229,6 +243,7 @@ pub extern "C" fn split_in_lookups(
     counts: &mut [u32; 3],
     list: u32,
     table: u32,
+    edition: u32,
     walk: &mut [u32],
     glyph_set: &mut [u8],
     glyphs: &mut [u16],
@@ -240,7 +255,8 @@ pub extern "C" fn split_in_lookups(
     ensures { λ r. ⌜
         outcome r (left «new_count») (storeLeft «data» objects links counts) (left «new_tables»)
         (scratchLeft walk «glyph_set» glyphs classes cuts)
-        ≡ lookupCall (storeCame «data» objects links counts) list table (scratchCame walk «glyph_set» glyphs classes cuts) (came «new_tables»)
+        ≡ lookupCall (settingsOf edition) (storeCame «data» objects links counts) list table (scratchCame walk «glyph_set» glyphs classes cuts)
+        (came «new_tables»)
         ⌝ }
 {
     lookup_split::split_in_lookups(
@@ -250,6 +266,7 @@ pub extern "C" fn split_in_lookups(
         counts,
         list,
         table,
+        Settings { edition },
         walk,
         glyph_set,
         glyphs,
