@@ -3,8 +3,7 @@
  * A table that is too large is cut into several that fit: for which the rule counts at most 65,535
  * bytes, of the table, all that its items lead to, each object once, and its coverage and class
  * definitions, of which in PairPos format 2 the largest is left out. It is a count and no layout. An item
- * that is too large by itself stays so, and what the item at a cut shares with those before it is not
- * counted for the new table.
+ * that is too large by itself stays so.
  *
  * The archive to link is libsplitter.a of a release folder; or `rt staticlib splitter`, at the top of
  * the repository, proves the functions and writes it to target/staticlib. It needs nothing else,
@@ -24,6 +23,20 @@
  *   aligned as C aligns them. No two buffers overlap, except where both are only read. A buffer of
  *   length 0 may be a null pointer. The contents may be anything: no input is an error of the caller,
  *   and each has its answer.
+ *
+ * Editions
+ *   The rule that says where a table is cut has two editions, and every call that cuts takes the number of
+ *   one, directly behind the table's.
+ *     1  the cuts of the crate skera 0.6.0, for fonts that are fielded and have to stay as they are. The
+ *        item at a cut costs what was measured before the cut, so what it shares with those before it is
+ *        not counted for the new table; an empty pair set slot costs nothing, and is no place for a cut;
+ *        item 0 is cut off if it is too large by itself.
+ *     2  the item at a cut is measured again, an empty slot costs its 2 bytes and its 2 of coverage and is
+ *        tested as any other, and there is never a cut at item 0. Each table of two or more items that a
+ *        split leaves is within the limit, and no table that it leaves is cut again. New hosts want this
+ *        one.
+ *   In both, the tables of a split say what the old table said, and splitting the kept one again under the
+ *   same edition changes nothing.
  *
  * What is left to the host
  *   The lookup must list the new tables directly behind the old one, in order: split_in_lookups sees to
@@ -49,12 +62,18 @@
 #include <stdint.h>
 
 /* The version of this interface. It grows where the parameters of a function change; a function more
- * changes none. */
-#define SPLITTER_INTERFACE 1
+ * changes none. With 2 came the edition. */
+#define SPLITTER_INTERFACE 2
 
 #ifdef __cplusplus
 extern "C" {
 #endif
+
+/* The editions of the rule. */
+enum {
+    SPLITTER_EDITION_1 = 1,
+    SPLITTER_EDITION_2 = 2
+};
 
 enum {
     /* it is done, or there is nothing to do */
@@ -89,7 +108,9 @@ enum {
     SPLITTER_MANY_SUBTABLES = 10,
     /* PairPos format 1: a linked pair set has not exactly the length that its count asks for, or its second
      * glyphs do not ascend; asked directly behind SPLITTER_BAD_LINKS, in a reading last */
-    SPLITTER_UNSORTED_SETS = 11
+    SPLITTER_UNSORTED_SETS = 11,
+    /* the edition is not 1 or 2; asked before all others */
+    SPLITTER_BAD_EDITION = 12
 };
 
 /* The most that a store has in use. Room beyond is not used. */
@@ -110,7 +131,7 @@ enum {
     SPLITTER_CUTS = 65535
 };
 
-/* Splits a PairPos table at the cut places of the rule.
+/* Splits a PairPos table at the cut places of an edition of the rule.
  *
  * The table keeps its number and the items before the first cut; each cut starts a new table.
  * new_tables takes their numbers in order, from its first entry on, and *new_count becomes how many
@@ -127,6 +148,7 @@ uint32_t split_pairpos(
     uint32_t *links, size_t links_len,
     uint32_t counts[3],
     uint32_t table,
+    uint32_t edition,
     uint32_t *walk, size_t walk_len,
     uint8_t *glyph_set, size_t glyph_set_len,
     uint16_t *glyphs, size_t glyphs_len,
@@ -135,7 +157,7 @@ uint32_t split_pairpos(
     uint32_t *new_tables, size_t new_tables_len,
     uint32_t *new_count);
 
-/* Says where a PairPos table would be cut. The store is only read.
+/* Says where a PairPos table would be cut by an edition of the rule. The store is only read.
  *
  * places takes the cut places in order, from its first entry on: numbers of pair sets in format 1, of
  * rows in format 2. *place_count becomes how many there are. The refusals are those of a split, but
@@ -148,6 +170,7 @@ uint32_t cut_plan(
     const uint32_t *links, size_t links_len,
     const uint32_t counts[3],
     uint32_t table,
+    uint32_t edition,
     uint32_t *walk, size_t walk_len,
     uint8_t *glyph_set, size_t glyph_set_len,
     uint16_t *glyphs, size_t glyphs_len,
@@ -173,7 +196,7 @@ uint32_t read_pair(
     int32_t values[16],
     uint32_t *found);
 
-/* Splits a MarkBasePos table at the cut places of the rule, between mark classes.
+/* Splits a MarkBasePos table at the cut places of an edition of the rule, between mark classes.
  *
  * It does as split_pairpos does, with mark classes for items; a format other than 1 is nothing to
  * split. The kept table gets a mark coverage, a mark array and a base array of its own, as each new
@@ -187,6 +210,7 @@ uint32_t split_markbasepos(
     uint32_t *links, size_t links_len,
     uint32_t counts[3],
     uint32_t table,
+    uint32_t edition,
     uint32_t *walk, size_t walk_len,
     uint8_t *glyph_set, size_t glyph_set_len,
     uint16_t *glyphs, size_t glyphs_len,
@@ -202,6 +226,7 @@ uint32_t cut_plan_markbasepos(
     const uint32_t *links, size_t links_len,
     const uint32_t counts[3],
     uint32_t table,
+    uint32_t edition,
     uint32_t *walk, size_t walk_len,
     uint8_t *glyph_set, size_t glyph_set_len,
     uint16_t *glyphs, size_t glyphs_len,
@@ -251,6 +276,7 @@ uint32_t split_in_lookups(
     uint32_t counts[3],
     uint32_t list,
     uint32_t table,
+    uint32_t edition,
     uint32_t *walk, size_t walk_len,
     uint8_t *glyph_set, size_t glyph_set_len,
     uint16_t *glyphs, size_t glyphs_len,

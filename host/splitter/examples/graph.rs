@@ -2,20 +2,21 @@
 //!
 //! ```text
 //! - use skera::graph::{markbasepos_graph::split_markbase_pos, pairpos_graph::split_pairpos};
-//! + use splitter::{split_graph, split_marks_graph};
+//! + use splitter::{split_graph, split_marks_graph, Edition};
 //!
 //!   let new_tables = match lookup_type {
 //! -     2 => split_pairpos(&mut graph, subtable)?,
 //! -     4 => split_markbase_pos(&mut graph, subtable)?,
-//! +     2 => split_graph(&mut graph, subtable)?,
-//! +     4 => split_marks_graph(&mut graph, subtable)?,
+//! +     2 => split_graph(&mut graph, subtable, Edition::First)?,
+//! +     4 => split_marks_graph(&mut graph, subtable, Edition::First)?,
 //!       _ => Vec::new(),
 //!   };
 //! ```
 //!
-//! Beside these two lines it implements [`ObjectGraph`] for its graph.
+//! Beside these two lines it implements [`ObjectGraph`] for its graph. The first edition of the rule cuts as
+//! the crate does; a packer that need not keep to what it made before takes the second.
 
-use splitter::{split_graph, split_marks_graph, ObjectGraph, Refusal};
+use splitter::{split_graph, split_marks_graph, Edition, ObjectGraph, Refusal};
 use std::collections::BTreeMap;
 
 /// The packer's graph: vertices with bytes, and links by their positions.
@@ -67,8 +68,8 @@ fn split_lookup(
 ) -> Result<(), Refusal> {
     for place in (0..subtables.len()).rev() {
         let new_tables = match lookup_type {
-            2 => split_graph(graph, subtables[place])?,
-            4 => split_marks_graph(graph, subtables[place])?,
+            2 => split_graph(graph, subtables[place], Edition::First)?,
+            4 => split_marks_graph(graph, subtables[place], Edition::First)?,
             _ => Vec::new(),
         };
         subtables.splice(place + 1..place + 1, new_tables);
@@ -77,14 +78,14 @@ fn split_lookup(
 }
 
 fn main() -> Result<(), Refusal> {
-    // Five pair sets of 25,000 bytes.
+    // Five pair sets of 6,250 records, which ascend by second glyph.
     let mut graph = Graph::default();
     let table = graph.add_object(&words(&[1, 0, 4, 0, 5, 0, 0, 0, 0, 0]));
     let mut links = vec![(2, graph.add_object(&words(&[1, 5, 10, 11, 12, 13, 14])))];
     for slot in [10, 12, 14, 16, 18] {
-        let mut bytes = words(&[1, 70, 100]);
-        bytes.resize(25_000, 0);
-        links.push((slot, graph.add_object(&bytes)));
+        let pairs = (0..6_250).flat_map(|second| [second, 100]);
+        let pair_set: Vec<u16> = [6_250].into_iter().chain(pairs).collect();
+        links.push((slot, graph.add_object(&words(&pair_set))));
     }
     graph.set_links(table, &links);
 
@@ -99,4 +100,9 @@ fn main() -> Result<(), Refusal> {
 
 fn words(words: &[u16]) -> Vec<u8> {
     words.iter().flat_map(|word| word.to_be_bytes()).collect()
+}
+
+#[test]
+fn it_ends_well() {
+    assert_eq!(main(), Ok(()));
 }

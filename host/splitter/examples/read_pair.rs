@@ -30,3 +30,8 @@ fn main() -> Result<(), Refusal> {
 fn words(words: &[u16]) -> Vec<u8> {
     words.iter().flat_map(|word| word.to_be_bytes()).collect()
 }
+
+#[test]
+fn it_ends_well() {
+    assert_eq!(main(), Ok(()));
+}

@@ -1,6 +1,6 @@
 //! Splits a table of five pair sets that is too large, and shows what it became.
 
-use splitter::{cut_plan, read_pair, split, Refusal, Scratch, Store};
+use splitter::{cut_plan, read_pair, split, Edition, Refusal, Scratch, Store};
 
 /// The second glyphs of each set: those below this.
 const SECONDS: u16 = 6_250;
@@ -20,9 +20,10 @@ fn main() -> Result<(), Refusal> {
         store.add_link(table, 10 + 2 * u32::from(set), pair_set)?;
     }
 
-    let mut scratch = Scratch::new();
-    println!("cut at {:?}", cut_plan(&store, table, &mut scratch)?);
-    let new_tables = split(&mut store, table, &mut scratch)?;
+    let (edition, mut scratch) = (Edition::Second, Scratch::new());
+    let places = cut_plan(&store, table, edition, &mut scratch)?;
+    println!("cut at {places:?}");
+    let new_tables = split(&mut store, table, edition, &mut scratch)?;
     for piece in [table].into_iter().chain(new_tables) {
         let view = store.view();
         let bytes = view.object(piece).map_or(0, <[u8]>::len);
@@ -41,4 +42,9 @@ fn main() -> Result<(), Refusal> {
 
 fn words(words: &[u16]) -> Vec<u8> {
     words.iter().flat_map(|word| word.to_be_bytes()).collect()
+}
+
+#[test]
+fn it_ends_well() {
+    assert_eq!(main(), Ok(()));
 }

@@ -17,6 +17,7 @@ mod files;
 mod font;
 mod help;
 mod json;
+mod limits;
 mod look;
 mod lookups;
 mod mark;

@@ -4,7 +4,6 @@
 //! Rust and by the same documents; tests hold it to the proved functions.
 
 mod fault;
-mod glyphs;
 mod lent;
 mod links;
 mod parts;
@@ -16,8 +15,11 @@ mod table;
 pub use fault::{Fault, LinkRow, Part, Place, Wanted};
 pub use lent::{Call, Lent};
 
-use crate::{Kind, Refusal, StoreRef};
-use std::fmt::{self, Display, Formatter};
+use crate::{table::TableRef, Edition, Kind, Refusal, StoreRef};
+use std::{
+    fmt::{self, Display, Formatter},
+    ops::Deref,
+};
 
 /// The answer to a call, and what is at fault where it is refused.
 ///
@@ -79,36 +81,54 @@ pub fn explain_marks<'a>(store: impl Into<StoreRef<'a>>, table: u32) -> Explanat
 }
 
 impl Kind {
-    /// Explains what [`Kind::cut_plan`] answers for a table. A split of it is refused alike, but for
-    /// room.
+    /// Explains what [`Kind::cut_plan`] answers for a table, in either edition. A split of it is refused
+    /// alike, but for room.
     pub fn explain<'a>(self, store: impl Into<StoreRef<'a>>, table: u32) -> Explanation {
-        self.explain_call(Call::Plan(Lent::ENOUGH), store, table)
+        let call = Call::Plan {
+            edition: Edition::First.number(),
+            lent: Lent::ENOUGH,
+        };
+        self.explain_call(call, store, table)
     }
 
     /// Explains what a call answers that is lent these buffers.
+    ///
+    /// ```
+    /// use splitter::{explain::{Call, Lent}, Kind, Refusal, Store};
+    ///
+    /// let call = Call::Plan { edition: 3, lent: Lent::ENOUGH };
+    /// let explanation = Kind::Pairs.explain_call(call, &Store::new(), 0);
+    /// assert_eq!(explanation.refusal(), Some(Refusal::BadEdition));
+    /// assert_eq!(explanation.to_string(), "the edition is 3; it must be 1 or 2");
+    /// ```
     pub fn explain_call<'a>(
         self,
         call: Call,
         store: impl Into<StoreRef<'a>>,
         table: u32,
     ) -> Explanation {
-        Asked {
+        let of = TableRef {
             kind: self,
-            call,
             store: store.into(),
             table,
-        }
-        .explain()
+        };
+        Asked { call, of }.explain()
     }
 }
 
 /// A call, and what it is asked of.
 #[derive(Clone, Copy)]
 struct Asked<'a> {
-    kind: Kind,
     call: Call,
-    store: StoreRef<'a>,
-    table: u32,
+    of: TableRef<'a>,
+}
+
+impl<'a> Deref for Asked<'a> {
+    type Target = TableRef<'a>;
+
+    fn deref(&self) -> &TableRef<'a> {
+        &self.of
+    }
 }
 
 /// A check: by what it refuses, and what it finds.
@@ -116,17 +136,21 @@ type Check = (Refusal, fn(&Asked) -> Option<Fault>);
 
 /// The checks up to the table's format, in order.
 const BEFORE_FORMAT: &[Check] = &[
+    (Refusal::BadEdition, lent::bad_edition),
     (Refusal::Unsound, |asked| soundness::fault(asked.store)),
     (Refusal::NoTable, table::not_in_use),
     (Refusal::BadTable, table::without_format),
 ];
 
-/// The checks of a table whose format is split, in order. A later answer is a line in its place, and what
-/// finds its fault.
-const OF_FORMAT: &[Check] = &[
+/// The checks of a table whose format is split, in order: first, whether it can be read.
+const TO_READ: &[Check] = &[
     (Refusal::BadTable, table::length),
     (Refusal::BadParts, parts::fault),
     (Refusal::FewGlyphs, parts::few_glyphs),
+];
+
+/// Then, whether it can be cut. A later answer is a line in its place, and what finds its fault.
+const TO_CUT: &[Check] = &[
     (Refusal::ShortScratch, lent::short_scratch),
     (Refusal::BadLinks, links::at_no_slot),
     (Refusal::BadLinks, links::way_back),
@@ -134,11 +158,17 @@ const OF_FORMAT: &[Check] = &[
     (Refusal::NoRoom, room::short),
 ];
 
+/// Whether a table has a format that is split, and it and its parts can be read.
+pub(crate) fn is_readable(of: TableRef) -> bool {
+    let call = Call::Reading;
+    of.is_split() && Asked { call, of }.first(TO_READ).is_none()
+}
+
 impl Asked<'_> {
     fn explain(&self) -> Explanation {
         let before = self.first(BEFORE_FORMAT);
         Explanation(match before {
-            None if self.is_split() => self.first(OF_FORMAT),
+            None if self.is_split() => self.first(TO_READ).or_else(|| self.first(TO_CUT)),
             before => before,
         })
     }
@@ -149,46 +179,5 @@ impl Asked<'_> {
         asked
             .map(|(by, check)| Some((*by, check(self)?)))
             .find_map(|found| found)
-    }
-
-    /// The table's bytes.
-    fn bytes(&self) -> &[u8] {
-        self.store.object(self.table).unwrap_or_default()
-    }
-
-    fn format(&self) -> usize {
-        word(self.bytes(), 0)
-    }
-
-    /// Whether the table has a format that is split.
-    fn is_split(&self) -> bool {
-        match self.kind {
-            Kind::Pairs => matches!(self.format(), 1 | 2),
-            Kind::Marks => self.format() == 1,
-        }
-    }
-
-    /// How many pair sets, rows or mark classes the header counts.
-    fn items(&self) -> usize {
-        let place = match (self.kind, self.format()) {
-            (Kind::Pairs, 1) => 8,
-            (Kind::Pairs, _) => 12,
-            (Kind::Marks, _) => 6,
-        };
-        word(self.bytes(), place)
-    }
-
-    /// The object that is a part, and its bytes, if it is linked.
-    fn part(&self, part: Part) -> Option<(u32, &[u8])> {
-        let object = self.store.child(self.table, part.position(self.kind)?)?;
-        Some((object, self.store.object(object)?))
-    }
-}
-
-/// The number at a place, or 0 where there is none.
-fn word(bytes: &[u8], place: usize) -> usize {
-    match bytes.get(place..place + 2) {
-        Some(&[high, low]) => u16::from_be_bytes([high, low]).into(),
-        _ => 0,
     }
 }

@@ -6,13 +6,14 @@
 //!
 //! ```
 //! use splitter::font::{FontError, FontTables, TABLE};
-//! use splitter::Scratch;
+//! use splitter::{Edition, Scratch};
 //!
 //! fn show_cuts(file: &[u8]) -> Result<(), FontError> {
 //!     let font = FontTables::read(file)?;
 //!     for table in &font.tables {
 //!         let store = font.load(table)?;
-//!         let cuts = table.kind.cut_plan(&store, TABLE, &mut Scratch::new())?;
+//!         let (kind, edition) = (table.kind, Edition::Second);
+//!         let cuts = kind.cut_plan(&store, TABLE, edition, &mut Scratch::new())?;
 //!         println!("lookup {}: {cuts:?}", table.listed[0].lookup);
 //!     }
 //!     Ok(())

@@ -1,6 +1,6 @@
 //! Tables of a graph of the host's own.
 
-use crate::{Kind, Link, Refusal, Scratch, Store};
+use crate::{Edition, Kind, Link, Refusal, Scratch, Store};
 use std::{collections::HashMap, hash::Hash};
 
 /// A graph of objects with bytes, and links between them, as those have it who pack fonts.
@@ -103,8 +103,12 @@ impl<Id: Copy + Eq + Hash> GraphStore<Id> {
 /// # Errors
 ///
 /// Those of [`Kind::split_graph`].
-pub fn split_graph<G: ObjectGraph>(graph: &mut G, table: G::Id) -> Result<Vec<G::Id>, Refusal> {
-    Kind::Pairs.split_graph(graph, table, &mut Scratch::new())
+pub fn split_graph<G: ObjectGraph>(
+    graph: &mut G,
+    table: G::Id,
+    edition: Edition,
+) -> Result<Vec<G::Id>, Refusal> {
+    Kind::Pairs.split_graph(graph, table, edition, &mut Scratch::new())
 }
 
 /// Splits a MarkBasePos table of a graph, and gives the new tables in order.
@@ -117,8 +121,9 @@ pub fn split_graph<G: ObjectGraph>(graph: &mut G, table: G::Id) -> Result<Vec<G:
 pub fn split_marks_graph<G: ObjectGraph>(
     graph: &mut G,
     table: G::Id,
+    edition: Edition,
 ) -> Result<Vec<G::Id>, Refusal> {
-    Kind::Marks.split_graph(graph, table, &mut Scratch::new())
+    Kind::Marks.split_graph(graph, table, edition, &mut Scratch::new())
 }
 
 impl Kind {
@@ -135,10 +140,11 @@ impl Kind {
         self,
         graph: &mut G,
         table: G::Id,
+        edition: Edition,
         scratch: &mut Scratch,
     ) -> Result<Vec<G::Id>, Refusal> {
         let mut loaded = GraphStore::load(graph, table)?;
-        let new_tables = self.split(&mut loaded.store, TABLE, scratch)?;
+        let new_tables = self.split(&mut loaded.store, TABLE, edition, scratch)?;
         if new_tables.is_empty() {
             return Ok(Vec::new());
         }

@@ -6,12 +6,12 @@
 /// here too.
 ///
 /// ```
-/// use splitter::{Kind, Refusal, Scratch, Store};
+/// use splitter::{Edition, Kind, Refusal, Scratch, Store};
 ///
 /// /// Splits a subtable of a GPOS lookup, if it is one that is split.
 /// fn split_subtable(lookup_type: u16, store: &mut Store, table: u32) -> Result<Vec<u32>, Refusal> {
 ///     match Kind::of_lookup(lookup_type) {
-///         Some(kind) => kind.split(store, table, &mut Scratch::new()),
+///         Some(kind) => kind.split(store, table, Edition::Second, &mut Scratch::new()),
 ///         None => Ok(Vec::new()),
 ///     }
 /// }

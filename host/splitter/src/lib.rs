@@ -2,9 +2,13 @@
 //!
 //! A table that is too large is cut into several that fit: for which the rule counts at most 65,535
 //! bytes, of the table, all that its items lead to, each object once, and its coverage and class
-//! definitions, of which in format 2 of pairs the largest is left out. It is a count and no layout. An item
-//! that is too large by itself stays so, and what the item at a cut shares with those before it is not
-//! counted for the new table.
+//! definitions, of which in format 2 of pairs the largest is left out. It is a count and no layout, and
+//! [`Fit`] makes it. An item that is too large by itself stays so.
+//!
+//! The rule has two [editions](Edition), and every call that cuts is told which one. [`Edition::First`] cuts
+//! as the crate skera 0.6.0 does, for fonts that are fielded: what the item at a cut shares with those before
+//! it, and an empty slot, it does not count. [`Edition::Second`] counts both, and each table of two or more
+//! items that it leaves is within the limit: new hosts want this one.
 //!
 //! A font's objects and the links between them stand in a [`Store`], or in buffers of the host's own
 //! as a [`StoreRef`] or [`StoreMut`]. Every call answers any input; where it cannot do what it is
@@ -27,6 +31,7 @@
 //! | to | see |
 //! |---|---|
 //! | know why a table is refused: what is at fault, where, and what should be there | [`explain()`] |
+//! | know whether a table is within the limit, or those that a split would leave | [`Kind::fit`], [`Kind::fits_at`] |
 //! | split tables of a graph of the host's own | [`split_graph`] |
 //! | read what a lookup says of two glyphs, by its subtables in order | [`apply_lookup`] |
 //! | keep a store in a file, for the command `splitter` | [`store_file`] |
@@ -45,7 +50,7 @@
 //! - The old coverage, class definition 1 or arrays stay, and may be left with nothing that leads to them.
 //!
 //! ```
-//! use splitter::{cut_plan, read_pair, split, Refusal, Scratch, Store};
+//! use splitter::{cut_plan, read_pair, split, Edition, Refusal, Scratch, Store};
 //!
 //! // Format 1, glyphs 10, 20 and 30, and a pair set of 7,500 records for each: more than 65,535 bytes.
 //! let mut store = Store::new();
@@ -60,12 +65,12 @@
 //!     store.add_link(table, slot, pair_set)?;
 //! }
 //!
-//! let mut scratch = Scratch::new();
-//! assert_eq!(cut_plan(&store, table, &mut scratch)?, [2]);
+//! let (edition, mut scratch) = (Edition::Second, Scratch::new());
+//! assert_eq!(cut_plan(&store, table, edition, &mut scratch)?, [2]);
 //! let before = read_pair(&store, table, 30, 70)?;
 //! assert_eq!(before.unwrap().first.x_advance, -30);
 //!
-//! let new_tables = split(&mut store, table, &mut scratch)?;
+//! let new_tables = split(&mut store, table, edition, &mut scratch)?;
 //! assert_eq!(new_tables.len(), 1);
 //! assert_eq!(read_pair(&store, table, 30, 70)?, None);
 //! assert_eq!(read_pair(&store, new_tables[0], 30, 70)?, before);
@@ -74,31 +79,40 @@
 
 #![deny(missing_docs, unsafe_code)]
 
+mod edition;
 pub mod explain;
+mod fit;
 pub mod font;
+mod glyphs;
 mod graph;
 mod kind;
 mod lookup;
 mod mark;
 mod need;
 mod pair;
+mod pieces;
 mod plan;
 pub mod provenance;
 pub mod raw;
+mod reach;
 mod refusal;
 mod scratch;
 mod split;
 mod split_in_lookups;
 mod store;
 pub mod store_file;
+mod table;
 
+pub use edition::Edition;
 pub use explain::{explain, explain_marks, Explanation};
+pub use fit::{Fit, Past};
 pub use graph::{split_graph, split_marks_graph, GraphStore, ObjectGraph};
 pub use kind::Kind;
 pub use lookup::{apply_lookup, Lookup};
 pub use mark::{read_mark, Attachment};
 pub use pair::{read_pair, PairValues, Values};
 pub use plan::{cut_plan, cut_plan_into, cut_plan_marks, cut_plan_marks_into};
+pub use reach::Reach;
 pub use refusal::Refusal;
 pub use scratch::Scratch;
 pub use split::{split, split_into, split_marks, split_marks_into};

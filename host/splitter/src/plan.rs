@@ -1,11 +1,11 @@
 //! Where a table would be cut.
 
-use crate::{need::Need, Kind, Refusal, Scratch, StoreRef};
+use crate::{need::Need, Edition, Kind, Refusal, Scratch, StoreRef};
 
 impl Kind {
-    /// Says where a table of this kind would be cut: at which items.
+    /// Says where a table of this kind would be cut by an edition of the rule: at which items.
     ///
-    /// There are no places where the table fits as it is, or has a format that is not split.
+    /// There are no places where the edition finds none, or the table has a format that is not split.
     ///
     /// # Errors
     ///
@@ -14,11 +14,12 @@ impl Kind {
         self,
         store: impl Into<StoreRef<'a>>,
         table: u32,
+        edition: Edition,
         scratch: &mut Scratch,
     ) -> Result<Vec<u16>, Refusal> {
         let store = store.into();
         let mut places = vec![0; Need::of(self, store, table).items];
-        let count = self.cut_plan_into(store, table, scratch, &mut places)?;
+        let count = self.cut_plan_into(store, table, edition, scratch, &mut places)?;
         places.truncate(count);
         places.shrink_to_fit();
         Ok(places)
@@ -35,16 +36,17 @@ impl Kind {
         self,
         store: impl Into<StoreRef<'a>>,
         table: u32,
+        edition: Edition,
         scratch: &mut Scratch,
         places: &mut [u16],
     ) -> Result<usize, Refusal> {
-        scratch.plan(self, store.into(), table, places)
+        scratch.plan(self, store.into(), table, edition, places)
     }
 }
 
 /// Says where a PairPos table would be cut: at which pair sets of format 1, or rows of format 2.
 ///
-/// There are no places where the table fits as it is, or has a format other than 1 and 2.
+/// There are no places where the edition finds none, or the table has a format other than 1 and 2.
 ///
 /// # Errors
 ///
@@ -52,9 +54,10 @@ impl Kind {
 pub fn cut_plan<'a>(
     store: impl Into<StoreRef<'a>>,
     table: u32,
+    edition: Edition,
     scratch: &mut Scratch,
 ) -> Result<Vec<u16>, Refusal> {
-    Kind::Pairs.cut_plan(store, table, scratch)
+    Kind::Pairs.cut_plan(store, table, edition, scratch)
 }
 
 /// Says where a PairPos table would be cut, in a list that is lent, and gives how many places there are.
@@ -65,15 +68,16 @@ pub fn cut_plan<'a>(
 pub fn cut_plan_into<'a>(
     store: impl Into<StoreRef<'a>>,
     table: u32,
+    edition: Edition,
     scratch: &mut Scratch,
     places: &mut [u16],
 ) -> Result<usize, Refusal> {
-    Kind::Pairs.cut_plan_into(store, table, scratch, places)
+    Kind::Pairs.cut_plan_into(store, table, edition, scratch, places)
 }
 
 /// Says where a MarkBasePos table would be cut: at which mark classes.
 ///
-/// There are no places where the table fits as it is, or has a format other than 1.
+/// There are no places where the edition finds none, or the table has a format other than 1.
 ///
 /// # Errors
 ///
@@ -81,9 +85,10 @@ pub fn cut_plan_into<'a>(
 pub fn cut_plan_marks<'a>(
     store: impl Into<StoreRef<'a>>,
     table: u32,
+    edition: Edition,
     scratch: &mut Scratch,
 ) -> Result<Vec<u16>, Refusal> {
-    Kind::Marks.cut_plan(store, table, scratch)
+    Kind::Marks.cut_plan(store, table, edition, scratch)
 }
 
 /// Says where a MarkBasePos table would be cut, in a list that is lent, and gives how many places there
@@ -95,8 +100,9 @@ pub fn cut_plan_marks<'a>(
 pub fn cut_plan_marks_into<'a>(
     store: impl Into<StoreRef<'a>>,
     table: u32,
+    edition: Edition,
     scratch: &mut Scratch,
     places: &mut [u16],
 ) -> Result<usize, Refusal> {
-    Kind::Marks.cut_plan_into(store, table, scratch, places)
+    Kind::Marks.cut_plan_into(store, table, edition, scratch, places)
 }

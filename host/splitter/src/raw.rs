@@ -11,6 +11,9 @@
 //! `classes`, one entry for each covered glyph, of a mark-to-base table each glyph of its mark
 //! coverage; and `cuts`, one entry for each pair set, row or mark class. It may be longer and hold
 //! anything, and is zero after every call, all of it.
+//!
+//! Splits and cut plans take the number of an [edition](crate::Edition) of the cutting rule, 1 or 2. It is
+//! asked before all else: of another number the answer is 12, whatever else there is to refuse.
 
 #![allow(unsafe_code)]
 
@@ -20,10 +23,10 @@ use shapes::{plan_function, read_function, split_function};
 
 /// The version of these functions' interface, as the header `splitter.h` has it too: it grows where the
 /// parameters of one of them change.
-pub const INTERFACE: u32 = 1;
+pub const INTERFACE: u32 = 2;
 
 split_function! {
-    /// Splits a PairPos table at the cut places of the rule.
+    /// Splits a PairPos table at the cut places of an edition of the rule.
     ///
     /// The table keeps the items before the first cut. Each cut starts a new table: `new_tables` takes
     /// their numbers in order, from its first entry on, and `new_count` becomes how many there are. With
@@ -37,7 +40,7 @@ split_function! {
 }
 
 split_function! {
-    /// Splits a MarkBasePos table at the cut places of the rule, between mark classes.
+    /// Splits a MarkBasePos table at the cut places of an edition of the rule, between mark classes.
     ///
     /// It does as [`split_pairpos`] does, with mark classes for items; a format other than 1 is nothing to
     /// split. The kept table's mark coverage and its two arrays are new objects, as those of new tables
@@ -65,8 +68,8 @@ plan_function! {
     /// Says where a PairPos table would be cut, and changes nothing of the store.
     ///
     /// `places` takes the cut places in order, from its first entry on, and `place_count` becomes how
-    /// many there are. Where the answer is a refusal `place_count` becomes 0 and `places` stays as it was: 1
-    /// to 7 and 11 are those of a split, and 8 means that `places` is too short.
+    /// many there are. Where the answer is a refusal `place_count` becomes 0 and `places` stays as it was: 12,
+    /// 1 to 7 and 11 are those of a split, and 8 means that `places` is too short.
     cut_plan
 }
 

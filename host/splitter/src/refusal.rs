@@ -11,6 +11,8 @@ use std::{
 #[derive(Clone, Copy, Debug, PartialEq, Eq, Hash)]
 #[non_exhaustive]
 pub enum Refusal {
+    /// The edition is not 1 or 2. Only the functions of [`raw`](crate::raw) can be asked for such a one.
+    BadEdition = 12,
     /// The store is not sound.
     Unsound = 1,
     /// The table's number is not in use, or that of a lookup or a lookup list is not.
@@ -39,7 +41,8 @@ pub enum Refusal {
 
 impl Refusal {
     /// All of them, in the order in which they are looked for.
-    pub const ALL: [Self; 11] = [
+    pub const ALL: [Self; 12] = [
+        Self::BadEdition,
         Self::Unsound,
         Self::NoTable,
         Self::BadList,
@@ -85,6 +88,10 @@ impl Refusal {
 impl Display for Refusal {
     fn fmt(&self, f: &mut Formatter) -> fmt::Result {
         f.write_str(match self {
+            Self::BadEdition => {
+                "the edition is not 1 or 2: pass 1 for the cuts that fielded fonts have, or 2 for cuts that \
+                 keep to the limit"
+            }
             Self::Unsound => {
                 "the store is not sound: make its counts fit its buffers and the maxima, its objects \
                  follow one another within the data in use, and its links ascend by parent and \

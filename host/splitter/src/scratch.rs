@@ -1,6 +1,6 @@
 //! The scratch of a split and of a cut plan.
 
-use crate::{need::Need, raw, Kind, Refusal, StoreMut, StoreRef};
+use crate::{need::Need, raw, Edition, Kind, Refusal, StoreMut, StoreRef};
 
 const GLYPH_SET: usize = 8_192;
 
@@ -34,6 +34,7 @@ impl Scratch {
         kind: Kind,
         store: StoreMut,
         table: u32,
+        edition: Edition,
         new_tables: &mut [u32],
     ) -> Result<usize, Refusal> {
         let need = Need::of(kind, store.view(), table);
@@ -48,6 +49,7 @@ impl Scratch {
             store.links,
             store.counts,
             table,
+            edition.number(),
             part(&mut self.walk, 2 * need.objects),
             part(&mut self.glyph_set, GLYPH_SET),
             part(&mut self.glyphs, need.glyphs),
@@ -64,6 +66,7 @@ impl Scratch {
         store: StoreMut,
         list: u32,
         table: u32,
+        edition: Edition,
         new_tables: &mut [u32],
     ) -> Result<usize, Refusal> {
         let need = Need::of(Kind::Pairs, store.view(), table);
@@ -75,6 +78,7 @@ impl Scratch {
             store.counts,
             list,
             table,
+            edition.number(),
             part(&mut self.walk, 2 * need.objects),
             part(&mut self.glyph_set, GLYPH_SET),
             part(&mut self.glyphs, need.glyphs),
@@ -91,6 +95,7 @@ impl Scratch {
         kind: Kind,
         store: StoreRef,
         table: u32,
+        edition: Edition,
         places: &mut [u16],
     ) -> Result<usize, Refusal> {
         let need = Need::of(kind, store, table);
@@ -105,6 +110,7 @@ impl Scratch {
             store.links,
             store.counts,
             table,
+            edition.number(),
             part(&mut self.walk, 2 * need.objects),
             part(&mut self.glyph_set, GLYPH_SET),
             part(&mut self.glyphs, need.glyphs),

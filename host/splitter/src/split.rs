@@ -1,13 +1,14 @@
 //! Splitting a table.
 
-use crate::{need::Need, Kind, Refusal, Scratch, Store, StoreMut};
+use crate::{need::Need, Edition, Kind, Refusal, Scratch, Store, StoreMut};
 
 impl Kind {
-    /// Splits a table of this kind, and gives the new tables in order.
+    /// Splits a table of this kind at the cuts of an edition of the rule, and gives the new tables in
+    /// order.
     ///
     /// The table keeps its number and its first items. There are no new tables, and nothing changes,
-    /// where it fits as it is, or has a format that is not split. The store grows where it has no room;
-    /// room that is then left over stays.
+    /// where the edition finds no cut, or the table has a format that is not split. The store grows where it
+    /// has no room; room that is then left over stays.
     ///
     /// # Errors
     ///
@@ -17,13 +18,14 @@ impl Kind {
         self,
         store: &mut Store,
         table: u32,
+        edition: Edition,
         scratch: &mut Scratch,
     ) -> Result<Vec<u32>, Refusal> {
         let need = Need::of(self, store.view(), table);
         let split = |store: &mut Store, scratch: &mut Scratch, new_tables: &mut [u32]| {
-            self.split_into(store, table, scratch, new_tables)
+            self.split_into(store, table, edition, scratch, new_tables)
         };
-        split_growing(self, store, table, scratch, need, split)
+        split_growing(self, store, table, edition, scratch, need, split)
     }
 
     /// Splits a table of this kind in a store that has what room it has. The list, which is lent, takes
@@ -37,10 +39,11 @@ impl Kind {
         self,
         store: impl Into<StoreMut<'a>>,
         table: u32,
+        edition: Edition,
         scratch: &mut Scratch,
         new_tables: &mut [u32],
     ) -> Result<usize, Refusal> {
-        scratch.split(self, store.into(), table, new_tables)
+        scratch.split(self, store.into(), table, edition, new_tables)
     }
 }
 
@@ -49,6 +52,7 @@ pub(crate) fn split_growing(
     kind: Kind,
     store: &mut Store,
     table: u32,
+    edition: Edition,
     scratch: &mut Scratch,
     need: Need,
     split: impl Fn(&mut Store, &mut Scratch, &mut [u32]) -> Result<usize, Refusal>,
@@ -56,7 +60,7 @@ pub(crate) fn split_growing(
     let mut new_tables = vec![0; need.items];
     let count = match split(store, scratch, &mut new_tables) {
         Err(Refusal::NoRoom) => {
-            let cuts = kind.cut_plan(&*store, table, scratch)?.len();
+            let cuts = kind.cut_plan(&*store, table, edition, scratch)?.len();
             store.with_room(need.room(cuts), |store| {
                 split(store, scratch, &mut new_tables)
             })?
@@ -75,8 +79,13 @@ pub(crate) fn split_growing(
 /// # Errors
 ///
 /// Those of [`Kind::split`].
-pub fn split(store: &mut Store, table: u32, scratch: &mut Scratch) -> Result<Vec<u32>, Refusal> {
-    Kind::Pairs.split(store, table, scratch)
+pub fn split(
+    store: &mut Store,
+    table: u32,
+    edition: Edition,
+    scratch: &mut Scratch,
+) -> Result<Vec<u32>, Refusal> {
+    Kind::Pairs.split(store, table, edition, scratch)
 }
 
 /// Splits a PairPos table in a store that has what room it has, and gives how many new tables there are.
@@ -89,10 +98,11 @@ pub fn split(store: &mut Store, table: u32, scratch: &mut Scratch) -> Result<Vec
 pub fn split_into<'a>(
     store: impl Into<StoreMut<'a>>,
     table: u32,
+    edition: Edition,
     scratch: &mut Scratch,
     new_tables: &mut [u32],
 ) -> Result<usize, Refusal> {
-    Kind::Pairs.split_into(store, table, scratch, new_tables)
+    Kind::Pairs.split_into(store, table, edition, scratch, new_tables)
 }
 
 /// Splits a MarkBasePos table between mark classes, and gives the new tables in order.
@@ -102,7 +112,9 @@ pub fn split_into<'a>(
 /// coverage and the anchors.
 ///
 /// ```
-/// use splitter::{cut_plan_marks, read_mark, split_marks, Attachment, Refusal, Scratch, Store};
+/// use splitter::{
+///     cut_plan_marks, read_mark, split_marks, Attachment, Edition, Refusal, Scratch, Store,
+/// };
 ///
 /// // Marks 10, 20 and 30 of classes 1, 0 and 1, on bases 60 and 61.
 /// let mut store = Store::new();
@@ -124,12 +136,12 @@ pub fn split_into<'a>(
 ///     store.add_link(base_array, slot, large)?;
 /// }
 ///
-/// let mut scratch = Scratch::new();
-/// assert_eq!(cut_plan_marks(&store, table, &mut scratch)?, [1]);
+/// let (edition, mut scratch) = (Edition::Second, Scratch::new());
+/// assert_eq!(cut_plan_marks(&store, table, edition, &mut scratch)?, [1]);
 /// let before = read_mark(&store, table, 30, 60)?;
 /// assert_eq!(before.unwrap(), Attachment { mark_anchor: anchor, base_anchor: anchor + 2 });
 ///
-/// let new_tables = split_marks(&mut store, table, &mut scratch)?;
+/// let new_tables = split_marks(&mut store, table, edition, &mut scratch)?;
 /// assert_eq!(read_mark(&store, table, 30, 60)?, None);
 /// assert_eq!(read_mark(&store, new_tables[0], 30, 60)?, before);
 /// # Ok::<(), Refusal>(())
@@ -141,9 +153,10 @@ pub fn split_into<'a>(
 pub fn split_marks(
     store: &mut Store,
     table: u32,
+    edition: Edition,
     scratch: &mut Scratch,
 ) -> Result<Vec<u32>, Refusal> {
-    Kind::Marks.split(store, table, scratch)
+    Kind::Marks.split(store, table, edition, scratch)
 }
 
 /// Splits a MarkBasePos table in a store that has what room it has, and gives how many new tables there
@@ -157,8 +170,9 @@ pub fn split_marks(
 pub fn split_marks_into<'a>(
     store: impl Into<StoreMut<'a>>,
     table: u32,
+    edition: Edition,
     scratch: &mut Scratch,
     new_tables: &mut [u32],
 ) -> Result<usize, Refusal> {
-    Kind::Marks.split_into(store, table, scratch, new_tables)
+    Kind::Marks.split_into(store, table, edition, scratch, new_tables)
 }

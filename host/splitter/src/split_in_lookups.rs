@@ -1,6 +1,6 @@
 //! Splitting a table, and entering the new ones in lookups.
 
-use crate::{need::Need, split::split_growing, Kind, Refusal, Scratch, Store, StoreMut};
+use crate::{need::Need, split::split_growing, Edition, Kind, Refusal, Scratch, Store, StoreMut};
 
 /// Splits a PairPos table, enters the new tables in each lookup of a list that names it, and gives the new
 /// tables in order.
@@ -15,7 +15,7 @@ use crate::{need::Need, split::split_growing, Kind, Refusal, Scratch, Store, Sto
 /// before, where all its subtables can be read and no other leads to the table.
 ///
 /// ```
-/// use splitter::{apply_lookup, split_in_lookups, Lookup, Refusal, Scratch, Store};
+/// use splitter::{apply_lookup, split_in_lookups, Edition, Lookup, Refusal, Scratch, Store};
 ///
 /// // A list of one lookup, which lists one table: glyphs 10 and 20, with 10,000 pairs each.
 /// let mut store = Store::new();
@@ -36,7 +36,8 @@ use crate::{need::Need, split::split_growing, Kind, Refusal, Scratch, Store, Sto
 /// let before = apply_lookup(&store, lookup, 20, 70)?;
 /// assert_eq!(before.unwrap().first.x_advance, 170);
 ///
-/// let new_tables = split_in_lookups(&mut store, list, table, &mut Scratch::new())?;
+/// let edition = Edition::Second;
+/// let new_tables = split_in_lookups(&mut store, list, table, edition, &mut Scratch::new())?;
 /// let new_lookup = store.view().child(list, 2).unwrap();
 /// assert_eq!(Lookup::read(&store, new_lookup)?.slots, [Some(table), Some(new_tables[0])]);
 /// assert_eq!(apply_lookup(&store, new_lookup, 20, 70)?, before);
@@ -51,13 +52,14 @@ pub fn split_in_lookups(
     store: &mut Store,
     list: u32,
     table: u32,
+    edition: Edition,
     scratch: &mut Scratch,
 ) -> Result<Vec<u32>, Refusal> {
     let need = Need::in_lookups(store.view(), list, table);
     let split = |store: &mut Store, scratch: &mut Scratch, new_tables: &mut [u32]| {
-        split_in_lookups_into(store, list, table, scratch, new_tables)
+        split_in_lookups_into(store, list, table, edition, scratch, new_tables)
     };
-    split_growing(Kind::Pairs, store, table, scratch, need, split)
+    split_growing(Kind::Pairs, store, table, edition, scratch, need, split)
 }
 
 /// Splits a PairPos table and enters the new tables in lookups, in a store that has what room it has. The
@@ -73,8 +75,9 @@ pub fn split_in_lookups_into<'a>(
     store: impl Into<StoreMut<'a>>,
     list: u32,
     table: u32,
+    edition: Edition,
     scratch: &mut Scratch,
     new_tables: &mut [u32],
 ) -> Result<usize, Refusal> {
-    scratch.split_in_lookups(store.into(), list, table, new_tables)
+    scratch.split_in_lookups(store.into(), list, table, edition, new_tables)
 }

@@ -6,7 +6,7 @@ mod made;
 #[macro_use]
 mod run;
 
-use common::{bytes, cut_marks, format1, store};
+use common::{bytes, cut_marks, empty_slot, format1, store, w10};
 use run::*;
 use splitter::{
     store_file::{StoreFile, Table},
@@ -136,6 +136,85 @@ fn a_split_in_place() {
     assert_eq!(directory.names(), ["a.krns"]);
 }
 
+/// Each edition cuts in its own places, and it is said which tables are within the limit, and why not.
+#[test]
+fn editions() {
+    let directory = Directory::new("editions");
+    let file = directory.store("a.krns", w10(), &[0]);
+    let output = directory.file("b.krns");
+    let words = |text: String| {
+        fits_the_terminal(&directory.named_short(&text));
+        text.split_whitespace().collect::<Vec<_>>().join(" ")
+    };
+    let first = [
+        "Edition 1 cuts it at pair set 1: 2 tables in its place.",
+        "Past the limit: pair sets 1 to 2, 90,022 bytes: edition 1 does not measure what the item at the \
+         cut shares.",
+        "Within the limit of 65,535 bytes: the other table, of 40,118 bytes at most.",
+    ];
+    let second = [
+        "Edition 2 cuts it at pair sets 1, 2: 3 tables in its place.",
+        "Past the limit: pair set 1, 70,018 bytes: a single item is too large by itself.",
+        "Within the limit of 65,535 bytes: the other 2 tables, of 40,118 bytes at most.",
+    ];
+    for (edition, sentences, tables) in [("1", first, &[0, 9][..]), ("2", second, &[0, 9, 11])] {
+        let plan = words(would_cut(run!("plan", file, "--edition", edition)));
+        let split = run!("split", file, "--edition", edition, "-o", output, "--check");
+        let split = words(done(split));
+        for sentence in sentences {
+            assert!(plan.contains(sentence), "{plan}");
+            assert!(split.contains(sentence), "{split}");
+        }
+        assert!(split.contains("Every pair reads as before"));
+        assert_eq!(read_store(&output).tables(), pairs(tables));
+        // What edition 2 leaves it does not cut again.
+        let again = run!("plan", output, "--edition", "2");
+        assert_eq!(again.code, Some(if edition == "1" { 4 } else { 0 }));
+    }
+    let plain = would_cut(run!("plan", file));
+    assert_eq!(plain, would_cut(run!("plan", file, "--edition=1")));
+    for other in ["0", "3", "two"] {
+        let ran = run!("plan", file, "--edition", other);
+        assert_eq!(ran.out, "");
+        failed(ran, BAD_USAGE, "wants the edition to be 1 or 2");
+    }
+    let sample = done(run!("sample", "--edition", "2"));
+    assert_eq!(sample.matches("Edition 2 cuts it at ").count(), 4);
+    assert_eq!(
+        sample
+            .matches("Within the limit of 65,535 bytes: all 3")
+            .count(),
+        4
+    );
+}
+
+/// A table that an edition does not cut, and that is past the limit all the same.
+#[test]
+fn past_the_limit_and_not_cut() {
+    let directory = Directory::new("uncut");
+    let file = directory.store("a.krns", empty_slot(65_514), &[0]);
+    let output = directory.file("b.krns");
+    let sentence =
+        "Edition 1 does not cut it. It takes 65,536 bytes, past the limit: edition 1 counts \
+                    nothing for empty slots.";
+    for out in [
+        done(run!("plan", file)),
+        done(run!("split", file, "-o", output)),
+    ] {
+        let words: Vec<&str> = out.split_whitespace().collect();
+        assert!(words.join(" ").contains(sentence), "{out}");
+    }
+    let cut = would_cut(run!("plan", file, "--edition", "2"));
+    assert!(cut.contains("Edition 2 cuts it at pair set 1: 2 tables in its place."));
+    assert!(cut.contains("Within the limit of 65,535 bytes: both tables, of 65,532 bytes at most."));
+    let too_large = directory.store("c.krns", format1(&[65_518]), &[0]);
+    let out = done(run!("plan", too_large, "--edition", "2"));
+    let words: Vec<&str> = out.split_whitespace().collect();
+    assert!(words
+        .join(" ")
+        .contains("past the limit: a single item is too large by itself."));
+}
+
 /// A table that is not listed, one that fits, and one of another format.
 #[test]
 fn tables_by_number() {
@@ -151,7 +230,7 @@ fn tables_by_number() {
         "lists no table",
     );
     let out = done(run!("split", unlisted, "0", "-o", split));
-    assert!(out.contains("It is cut at pair set 2: 2 tables in its place."));
+    assert!(out.contains("Edition 1 cuts it at pair set 2: 2 tables in its place."));
     assert_eq!(read_store(&split).tables(), pairs(&[0, 9]));
 
     let number = other.to_string();
@@ -172,7 +251,7 @@ fn tables_for_marks() {
     let unlisted = directory.store("b.krns", store.clone(), &[]);
     let wrong = directory.store("c.krns", store, &[0]);
     let split = directory.file("d.krns");
-    let cut = "It is cut at mark classes 1, 2: 3 tables in its place.";
+    let cut = "Edition 1 cuts it at mark classes 1, 2: 3 tables in its place.";
     assert!(would_cut(run!("plan", listed)).contains(cut));
     assert!(would_cut(run!("plan", listed, "0")).contains(cut));
     assert!(would_cut(run!("plan", unlisted, "0", "--marks")).contains(cut));
@@ -222,9 +301,7 @@ fn tables_of_both_kinds() {
     let file = directory.store_of("a.krns", store, tables);
     let split = directory.file("b.krns");
     let out = done(run!("split", file, "-o", split, "--check"));
-    assert!(
-        out.contains("It is cut at mark classes 1, 2") && out.contains("It is cut at pair set 2")
-    );
+    assert!(out.contains("cuts it at mark classes 1, 2") && out.contains("cuts it at pair set 2"));
     let kinds = [offset, 17, 21].map(Table::marks).into_iter();
     let tables: Vec<Table> = kinds.chain([0, 28].map(Table::pairs)).collect();
     assert_eq!(read_store(&split).tables(), tables);
@@ -304,7 +381,7 @@ fn refused_tables() {
     }
     // All tables are looked at, and nothing is written.
     let plan = run!("plan", file);
-    assert!(plan.out.contains("It is cut at pair set 2"));
+    assert!(plan.out.contains("cuts it at pair set 2"));
     assert_eq!(
         plan.out
             .matches("is refused by 3 (BadTable): table")
@@ -411,7 +488,13 @@ fn many_tables() {
     fits_the_terminal(&directory.named_short(&some));
     fits_the_terminal(&directory.named_short(&all));
     assert!(some.contains("more tables") && some.contains(", .. 99"));
-    assert!(some.contains("Still past the limit: "));
+    let words = |text: &str| text.split_whitespace().collect::<Vec<_>>().join(" ");
+    let past = |set: u16| {
+        let why = "a single item is too large by itself";
+        format!("Past the limit: pair set {set}, 65,556 bytes: {why}.")
+    };
+    assert!(words(&some).contains(&past(0)) && words(&some).contains("92 more tables."));
+    assert!((0..100).all(|set| words(&all).contains(&past(set))));
     assert!(all.lines().count() > 200 && !all.contains("more table"));
 }
 
@@ -500,7 +583,7 @@ fn a_font() {
         assert!(out.contains("2        0  marks       1         82       2       2  none"));
         let words: Vec<&str> = out.split_whitespace().collect();
         assert!(words.join(" ").ends_with(
-            "No table would be cut. What is in a font fits its offsets already, so most tables \
+            "No table would be cut by edition 1. What is in a font fits its offsets already, so most tables \
              have no cut places. But the rule counts whole parts, where an offset only has to \
              reach the start of one: a table close to the limit can have them."
         ));
@@ -567,7 +650,7 @@ fn help_and_version() {
     let version = done(run!("--version"));
     let lines: Vec<&str> = version.lines().collect();
     assert_eq!(lines[0], concat!("splitter ", env!("CARGO_PKG_VERSION")));
-    assert_eq!(lines[1], "interface 1");
+    assert_eq!(lines[1], "interface 2");
     for (line, start) in lines[2..]
         .iter()
         .zip(["kit ", "archive sha256 ", "commit "])

@@ -7,7 +7,7 @@ mod made;
 #[macro_use]
 mod run;
 
-use common::{bytes, format1, marks, store};
+use common::{bytes, format1, marks, store, w10};
 use run::*;
 use splitter::{store_file::Table, Refusal};
 use std::{
@@ -192,6 +192,7 @@ fn names_of_the_document() {
         long,
         alone,
         format1(&[30_000; 3]),
+        w10(),
     ];
     let mut told = Vec::new();
     for (place, store) in stores.into_iter().enumerate() {
@@ -232,6 +233,57 @@ fn names_of_the_document() {
         assert!(document.contains(&format!("`{name}`")), "{name}");
     }
     assert!(names.len() > 50, "{names:?}");
+}
+
+/// Which edition it was, and of each table that comes of it whether it is within the limit, and why not.
+#[test]
+fn an_edition() {
+    let directory = Directory::new("edition");
+    let file = directory.store("a.krns", w10(), &[0]);
+    let output = directory.file("b.krns");
+    let result = |numbers: [i64; 4], why: Option<&str>| {
+        let [table, first, items, counted] = numbers;
+        let mut values = vec![
+            ("table", number(table)),
+            ("first", number(first)),
+            ("items", number(items)),
+            ("counted", number(counted)),
+            ("within", Value::Word(why.is_none().to_string())),
+        ];
+        values.extend(why.map(|why| ("why", word(why))));
+        values
+    };
+    let why = "edition 1 does not measure what the item at the cut shares";
+    let first = vec![
+        result([0, 0, 1, 40_118], None),
+        result([9, 1, 2, 90_022], Some(why)),
+    ];
+    let why = "a single item is too large by itself";
+    let second = vec![
+        result([0, 0, 1, 40_118], None),
+        result([9, 1, 1, 70_018], Some(why)),
+        result([11, 2, 1, 20_018], None),
+    ];
+    let list = |results: Vec<Vec<(&str, Value)>>| {
+        let object = |values: Vec<(&str, Value)>| {
+            let values = values.into_iter();
+            Value::Object(values.map(|(name, value)| (name.into(), value)).collect())
+        };
+        Value::List(results.into_iter().map(object).collect())
+    };
+    for (edition, mut results) in [(1, first), (2, second)] {
+        let named = edition.to_string();
+        let ran = run!("split", file, "--edition", named, "-o", output, "--json");
+        let split = parse(&done(ran));
+        assert_eq!(split.at("edition"), &number(edition));
+        let told = split.at("tables").at("0").at("results");
+        assert_eq!(told, &list(results.clone()));
+        // Of new tables that are not there yet nobody knows the numbers.
+        results.iter_mut().for_each(|values| drop(values.remove(0)));
+        let plan = parse(&would_cut(run!("plan", file, "--edition", named, "--json")));
+        assert_eq!(plan.at("edition"), &number(edition));
+        assert_eq!(plan.at("tables").at("0").at("results"), &list(results));
+    }
 }
 
 /// A refusal in numbers.

@@ -4,8 +4,8 @@ mod common;
 
 use common::{bytes, format1_records, listed, store, LIST, LOOKUP};
 use splitter::{
-    apply_lookup, split, split_in_lookups, split_in_lookups_into, Lookup, Refusal, Scratch, Store,
-    StoreMut,
+    apply_lookup, split, split_in_lookups, split_in_lookups_into, Edition::First, Lookup, Refusal,
+    Scratch, Store, StoreMut,
 };
 
 /// Tables 2 and 3 of glyph 10, with one set each: an advance of 5 before glyph 70 and 6 before 71, and one of
@@ -114,7 +114,7 @@ fn new_tables_are_entered() {
     let (mut store, room) = listed();
     let old = store.clone();
     let before = store.view().counts();
-    let new_tables = split_in_lookups(&mut store, LIST, 0, &mut Scratch::new());
+    let new_tables = split_in_lookups(&mut store, LIST, 0, First, &mut Scratch::new());
     assert_eq!(new_tables, Ok(vec![9]));
 
     let view = store.view();
@@ -137,7 +137,10 @@ fn new_tables_are_entered() {
     assert_eq!(view.object(LOOKUP), old.view().object(LOOKUP));
     assert!(view.links_of(LOOKUP).eq(old.view().links_of(LOOKUP)));
     let mut plain = old.clone();
-    assert_eq!(split(&mut plain, 0, &mut Scratch::new()), Ok(vec![9]));
+    assert_eq!(
+        split(&mut plain, 0, First, &mut Scratch::new()),
+        Ok(vec![9])
+    );
     for object in 0..plain.view().counts()[1] {
         assert_eq!(view.object(object), plain.view().object(object));
     }
@@ -154,11 +157,11 @@ fn new_tables_are_entered() {
 fn nothing_to_enter() {
     let (mut store, _) = listed();
     let mut scratch = Scratch::new();
-    split_in_lookups(&mut store, LIST, 0, &mut scratch).unwrap();
+    split_in_lookups(&mut store, LIST, 0, First, &mut scratch).unwrap();
     let split = store.clone();
     for table in [0, 9] {
         assert_eq!(
-            split_in_lookups(&mut store, LIST, table, &mut scratch),
+            split_in_lookups(&mut store, LIST, table, First, &mut scratch),
             Ok(vec![])
         );
     }
@@ -175,7 +178,14 @@ fn room_at_its_edge() {
         store.reserve(room);
         let before = store.clone();
         let mut list = [77; 2];
-        let answer = split_in_lookups_into(&mut store, LIST, 0, &mut scratch, &mut list[..entries]);
+        let answer = split_in_lookups_into(
+            &mut store,
+            LIST,
+            0,
+            First,
+            &mut scratch,
+            &mut list[..entries],
+        );
         assert_eq!(store == before && list == [77; 2], answer.is_err());
         (answer, list)
     };
@@ -194,7 +204,7 @@ fn room_at_its_edge() {
 fn refusals() {
     let refused = |store: &Store, list, table, refusal| {
         let mut same = store.clone();
-        let answer = split_in_lookups(&mut same, list, table, &mut Scratch::new());
+        let answer = split_in_lookups(&mut same, list, table, First, &mut Scratch::new());
         assert_eq!(answer, Err(refusal));
         assert_eq!(same, *store);
     };
@@ -206,7 +216,7 @@ fn refusals() {
     refused(&whole, LIST, 1, Refusal::BadList);
     refused(&whole, 8, 0, Refusal::BadList);
     // A table of another format that the lookup names is nothing to split.
-    let answer = split_in_lookups(&mut whole.clone(), LIST, 7, &mut Scratch::new());
+    let answer = split_in_lookups(&mut whole.clone(), LIST, 7, First, &mut Scratch::new());
     assert_eq!(answer, Ok(vec![]));
     let with = |words: &[u16], links: &[[u32; 2]]| {
         let mut store = format1_records(&[7_500; 3]);
@@ -243,10 +253,10 @@ fn lent_buffers() {
     let mut new_tables = [0; 1];
     let lent = StoreMut::new(&mut data, &mut objects, &mut links, &mut counts);
     let mut scratch = Scratch::new();
-    let answer = split_in_lookups_into(lent, LIST, 0, &mut scratch, &mut new_tables);
+    let answer = split_in_lookups_into(lent, LIST, 0, First, &mut scratch, &mut new_tables);
     assert_eq!((answer, new_tables), (Ok(1), [9]));
     counts[0] += 1;
     let lent = StoreMut::new(&mut data, &mut objects, &mut links, &mut counts);
-    let answer = split_in_lookups_into(lent, LIST, 0, &mut scratch, &mut new_tables);
+    let answer = split_in_lookups_into(lent, LIST, 0, First, &mut scratch, &mut new_tables);
     assert_eq!(answer, Err(Refusal::Unsound));
 }

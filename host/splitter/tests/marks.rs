@@ -5,7 +5,7 @@ mod common;
 use common::{bytes, cut_marks, marks, store};
 use splitter::{
     cut_plan_marks, cut_plan_marks_into, read_mark, split_marks, split_marks_into, Attachment,
-    Kind, Refusal, Scratch, Store, StoreMut, StoreRef,
+    Edition::First, Kind, Refusal, Scratch, Store, StoreMut, StoreRef,
 };
 
 /// Objects of a table, its parts and an anchor, with links at the slots of the table.
@@ -16,7 +16,7 @@ fn table(objects: [&[u16]; 5]) -> Store {
 }
 
 fn plan(store: &Store) -> Result<Vec<u16>, Refusal> {
-    cut_plan_marks(store, 0, &mut Scratch::new())
+    cut_plan_marks(store, 0, First, &mut Scratch::new())
 }
 
 #[test]
@@ -70,8 +70,14 @@ fn three_classes_are_cut_at_1_and_2() {
     let (mut store, room) = cut_marks();
     let before = store.view().counts();
     let mut scratch = Scratch::new();
-    assert_eq!(cut_plan_marks(&store, 0, &mut scratch), Ok(vec![1, 2]));
-    assert_eq!(split_marks(&mut store, 0, &mut scratch), Ok(vec![9, 13]));
+    assert_eq!(
+        cut_plan_marks(&store, 0, First, &mut scratch),
+        Ok(vec![1, 2])
+    );
+    assert_eq!(
+        split_marks(&mut store, 0, First, &mut scratch),
+        Ok(vec![9, 13])
+    );
 
     let view = store.view();
     let added = [room.data, room.objects, room.links].map(|count| count as u32);
@@ -98,7 +104,7 @@ fn three_classes_are_cut_at_1_and_2() {
 fn attachments_read_as_before() {
     let (old, _) = cut_marks();
     let mut new = old.clone();
-    let new_tables = split_marks(&mut new, 0, &mut Scratch::new()).unwrap();
+    let new_tables = split_marks(&mut new, 0, First, &mut Scratch::new()).unwrap();
     let tables = [&[0], &new_tables[..]].concat();
     let mut found = 0;
     for mark in (0..50).step_by(5) {
@@ -118,14 +124,17 @@ fn attachments_read_as_before() {
 fn nothing_to_split() {
     let (mut store, _) = cut_marks();
     let mut scratch = Scratch::new();
-    split_marks(&mut store, 0, &mut scratch).unwrap();
+    split_marks(&mut store, 0, First, &mut scratch).unwrap();
     let split = store.clone();
     for table in [0, 9, 13] {
-        assert_eq!(split_marks(&mut store, table, &mut scratch), Ok(vec![]));
+        assert_eq!(
+            split_marks(&mut store, table, First, &mut scratch),
+            Ok(vec![])
+        );
     }
     assert_eq!(store, split);
     let mut fits = marks([6; 3]);
-    assert_eq!(split_marks(&mut fits, 0, &mut scratch), Ok(vec![]));
+    assert_eq!(split_marks(&mut fits, 0, First, &mut scratch), Ok(vec![]));
     assert_eq!(fits, marks([6; 3]));
 }
 
@@ -149,7 +158,7 @@ fn room_at_its_edge() {
         let mut store = store.clone();
         store.reserve(room);
         let mut list = [77; 3];
-        let answer = split_marks_into(&mut store, 0, &mut scratch, &mut list[..entries]);
+        let answer = split_marks_into(&mut store, 0, First, &mut scratch, &mut list[..entries]);
         if answer.is_err() {
             assert_eq!(list, [77; 3]);
             assert_eq!(store.view().counts(), cut_marks().0.view().counts());
@@ -168,7 +177,13 @@ fn room_at_its_edge() {
     }
     let mut places = [77; 3];
     let mut plan = |entries: usize| {
-        let answer = cut_plan_marks_into(&store, 0, &mut Scratch::new(), &mut places[..entries]);
+        let answer = cut_plan_marks_into(
+            &store,
+            0,
+            First,
+            &mut Scratch::new(),
+            &mut places[..entries],
+        );
         (answer, places)
     };
     assert_eq!(plan(1), (Err(Refusal::NoRoom), [77; 3]));
@@ -179,9 +194,15 @@ fn room_at_its_edge() {
 fn refusals() {
     let refused = |store: &Store, table: u32, refusal: Refusal| {
         let mut scratch = Scratch::new();
-        assert_eq!(cut_plan_marks(store, table, &mut scratch), Err(refusal));
+        assert_eq!(
+            cut_plan_marks(store, table, First, &mut scratch),
+            Err(refusal)
+        );
         let mut same = store.clone();
-        assert_eq!(split_marks(&mut same, table, &mut scratch), Err(refusal));
+        assert_eq!(
+            split_marks(&mut same, table, First, &mut scratch),
+            Err(refusal)
+        );
         assert_eq!(same, *store);
         let reads = !matches!(refusal, Refusal::BadLinks);
         let read = read_mark(store, table, 10, 60);
@@ -214,7 +235,7 @@ fn refusals() {
         store.add_link(parent, position, child).unwrap();
         let mut scratch = Scratch::new();
         assert_eq!(
-            cut_plan_marks(&store, 0, &mut scratch),
+            cut_plan_marks(&store, 0, First, &mut scratch),
             Err(Refusal::BadLinks)
         );
         assert_eq!(read_mark(&store, 0, 10, 60), Ok(None));
@@ -229,19 +250,22 @@ fn lent_buffers() {
     let (mut data, mut objects, mut links, mut counts) = store.into_parts();
     let mut scratch = Scratch::new();
     let lent = StoreRef::new(&data, &objects, &links, &counts);
-    assert_eq!(cut_plan_marks(lent, 0, &mut scratch), Ok(vec![1, 2]));
+    assert_eq!(cut_plan_marks(lent, 0, First, &mut scratch), Ok(vec![1, 2]));
     assert!(read_mark(lent, 0, 30, 60).unwrap().is_some());
     let lent = StoreMut::new(&mut data, &mut objects, &mut links, &mut counts);
     let mut new_tables = [0; 2];
     assert_eq!(
-        split_marks_into(lent, 0, &mut scratch, &mut new_tables),
+        split_marks_into(lent, 0, First, &mut scratch, &mut new_tables),
         Ok(2)
     );
     assert_eq!(new_tables, [9, 13]);
     counts[2] += 1;
     let lent = StoreRef::new(&data, &objects, &links, &counts);
     assert_eq!(read_mark(lent, 0, 30, 60), Err(Refusal::Unsound));
-    assert_eq!(cut_plan_marks(lent, 0, &mut scratch), Err(Refusal::Unsound));
+    assert_eq!(
+        cut_plan_marks(lent, 0, First, &mut scratch),
+        Err(Refusal::Unsound)
+    );
 }
 
 /// A table of one kind is no table of the other.
@@ -251,16 +275,19 @@ fn kinds_are_told_apart_by_the_caller() {
     let (marks, _) = cut_marks();
     let (sets, _) = common::w7();
     assert_eq!(
-        Kind::Marks.cut_plan(&marks, 0, &mut scratch),
+        Kind::Marks.cut_plan(&marks, 0, First, &mut scratch),
         Ok(vec![1, 2])
     );
     assert_eq!(
-        Kind::Pairs.cut_plan(&marks, 0, &mut scratch),
+        Kind::Pairs.cut_plan(&marks, 0, First, &mut scratch),
         Err(Refusal::BadTable)
     );
-    assert_eq!(Kind::Pairs.cut_plan(&sets, 0, &mut scratch), Ok(vec![2]));
     assert_eq!(
-        Kind::Marks.cut_plan(&sets, 0, &mut scratch),
+        Kind::Pairs.cut_plan(&sets, 0, First, &mut scratch),
+        Ok(vec![2])
+    );
+    assert_eq!(
+        Kind::Marks.cut_plan(&sets, 0, First, &mut scratch),
         Err(Refusal::BadTable)
     );
     assert_eq!([2, 4].map(Kind::of_lookup), Kind::ALL.map(Some));

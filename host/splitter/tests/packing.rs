@@ -3,7 +3,7 @@
 mod common;
 
 use common::bytes;
-use splitter::{cut_plan, split, Refusal, Scratch, Store};
+use splitter::{cut_plan, split, Edition::First, Refusal, Scratch, Store};
 
 /// Format 2 with X advances: 400 rows of 101 records, a glyph a row in runs of 30, and a class definition
 /// 2 of 3,006 bytes.
@@ -43,8 +43,8 @@ fn greatest_offset(store: &Store, table: u32, parts: &[u32]) -> usize {
 fn the_largest_part_goes_last() -> Result<(), Refusal> {
     let mut store = rows()?;
     let mut scratch = Scratch::new();
-    assert_eq!(cut_plan(&store, 0, &mut scratch)?, [320]);
-    split(&mut store, 0, &mut scratch)?;
+    assert_eq!(cut_plan(&store, 0, First, &mut scratch)?, [320]);
+    split(&mut store, 0, First, &mut scratch)?;
     let in_link_order: Vec<u32> = store.view().links_of(0).map(|link| link.child).collect();
     let mut by_number = in_link_order.clone();
     by_number.sort_unstable();

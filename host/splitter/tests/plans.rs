@@ -3,12 +3,14 @@
 mod common;
 
 use common::{format1, one_set, store, w12, w7, UNSORTED};
-use splitter::{cut_plan, cut_plan_into, Refusal, Scratch, Store, StoreMut, StoreRef};
+use splitter::{
+    cut_plan, cut_plan_into, Edition::First, Refusal, Scratch, Store, StoreMut, StoreRef,
+};
 
 #[test]
 fn places() {
     let mut scratch = Scratch::new();
-    let mut places = |store: &Store| cut_plan(store, 0, &mut scratch).unwrap();
+    let mut places = |store: &Store| cut_plan(store, 0, First, &mut scratch).unwrap();
     assert_eq!(places(&w7().0), [2]);
     assert_eq!(places(&format1(&[65_517])), []);
     assert_eq!(places(&format1(&[65_518])), [0]);
@@ -30,8 +32,8 @@ fn coverages() {
     ];
     for coverage in coverages {
         let store = store(&[&[1, 0, 4, 0, 0], coverage], &[[0, 2, 1]]);
-        assert_eq!(cut_plan(&store, 0, &mut scratch), Ok(vec![]));
-        assert_eq!(cut_plan(&store, 0, &mut Scratch::new()), Ok(vec![]));
+        assert_eq!(cut_plan(&store, 0, First, &mut scratch), Ok(vec![]));
+        assert_eq!(cut_plan(&store, 0, First, &mut Scratch::new()), Ok(vec![]));
     }
 }
 
@@ -41,9 +43,9 @@ fn lent_lists() {
     let (store, _) = w7();
     let mut scratch = Scratch::new();
     let mut places = [77; 2];
-    let answer = cut_plan_into(&store, 0, &mut scratch, &mut places[..0]);
+    let answer = cut_plan_into(&store, 0, First, &mut scratch, &mut places[..0]);
     assert_eq!((answer, places), (Err(Refusal::NoRoom), [77; 2]));
-    let answer = cut_plan_into(&store, 0, &mut scratch, &mut places);
+    let answer = cut_plan_into(&store, 0, First, &mut scratch, &mut places);
     assert_eq!((answer, places), (Ok(1), [2, 77]));
 }
 
@@ -51,9 +53,9 @@ fn lent_lists() {
 fn refusals() {
     let mut scratch = Scratch::new();
     let mut refused = |store: &Store, table: u32, refusal: Refusal| {
-        assert_eq!(cut_plan(store, table, &mut scratch), Err(refusal));
+        assert_eq!(cut_plan(store, table, First, &mut scratch), Err(refusal));
         let mut places = [77; 9];
-        let answer = cut_plan_into(store, table, &mut scratch, &mut places);
+        let answer = cut_plan_into(store, table, First, &mut scratch, &mut places);
         assert_eq!((answer, places), (Err(refusal), [77; 9]));
     };
     refused(&w7().0, 5, Refusal::NoTable);
@@ -77,12 +79,15 @@ fn lent_buffers() {
     let mut scratch = Scratch::new();
     let (mut data, mut objects, mut links, mut counts) = w7().0.into_parts();
     let lent = StoreRef::new(&data, &objects, &links, &counts);
-    assert_eq!(cut_plan(lent, 0, &mut scratch), Ok(vec![2]));
+    assert_eq!(cut_plan(lent, 0, First, &mut scratch), Ok(vec![2]));
     let lent = StoreMut::new(&mut data, &mut objects, &mut links, &mut counts);
-    assert_eq!(cut_plan(&lent, 0, &mut scratch), Ok(vec![2]));
+    assert_eq!(cut_plan(&lent, 0, First, &mut scratch), Ok(vec![2]));
     counts[2] += 1;
     let lent = StoreRef::new(&data, &objects, &links, &counts);
-    assert_eq!(cut_plan(lent, 0, &mut scratch), Err(Refusal::Unsound));
+    assert_eq!(
+        cut_plan(lent, 0, First, &mut scratch),
+        Err(Refusal::Unsound)
+    );
 }
 
 /// Counts of anything make no more scratch than there can be need of.
@@ -90,7 +95,7 @@ fn lent_buffers() {
 fn scratch_has_an_end() {
     let lent = StoreRef::new(&[], &[], &[], &[u32::MAX; 3]);
     assert_eq!(
-        cut_plan(lent, 0, &mut Scratch::new()),
+        cut_plan(lent, 0, First, &mut Scratch::new()),
         Err(Refusal::Unsound)
     );
 }
@@ -101,8 +106,11 @@ fn scratch_is_kept() {
     let mut scratch = Scratch::new();
     for lengths in [&[40_000; 2][..], &[5_000; 200], &[6; 3], &[65_535; 5]] {
         let store = format1(lengths);
-        let fresh = cut_plan(&store, 0, &mut Scratch::new());
-        assert_eq!(cut_plan(&store, 0, &mut scratch), fresh);
-        assert_eq!(cut_plan(&store, 1, &mut scratch), Err(Refusal::BadTable));
+        let fresh = cut_plan(&store, 0, First, &mut Scratch::new());
+        assert_eq!(cut_plan(&store, 0, First, &mut scratch), fresh);
+        assert_eq!(
+            cut_plan(&store, 1, First, &mut scratch),
+            Err(Refusal::BadTable)
+        );
     }
 }

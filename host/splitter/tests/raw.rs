@@ -5,6 +5,10 @@ mod common;
 use common::{cut_marks, listed, w7, LIST};
 use splitter::{raw, Kind, Room, Store};
 
+/// Editions, and numbers of none.
+const EDITIONS: [u32; 2] = [1, 2];
+const OTHERS: [u32; 3] = [0, 3, u32::MAX];
+
 /// An empty slice is a store of nothing, wherever its pointer leads.
 #[test]
 fn nothing_at_all() {
@@ -19,32 +23,26 @@ fn nothing_at_all() {
         let (a, f) = (&mut anchors, &mut found);
         let answer = raw::read_mark(&[], &[], &[], &counts, u32::MAX, 0, u16::MAX, a, f);
         assert_eq!((answer, anchors, found), (expected, [0; 2], 0));
-        for split in [raw::split_pairpos, raw::split_markbasepos] {
-            let (mut after, mut count) = (counts, 7);
-            let answer = split(
-                &mut [],
-                &mut [],
-                &mut [],
-                &mut after,
-                u32::MAX,
-                &mut [],
-                &mut [],
-                &mut [],
-                &mut [],
-                &mut [],
-                &mut [],
-                &mut count,
-            );
-            assert_eq!((answer, after, count), (expected, counts, 0));
+        for edition in EDITIONS {
+            assert_eq!(answers_to_nothing(counts, edition), [expected; 5]);
         }
+        for edition in OTHERS {
+            assert_eq!(answers_to_nothing(counts, edition), [12; 5]);
+        }
+    }
+}
+
+/// What all splits and cut plans answer that are lent nothing but counts.
+fn answers_to_nothing(counts: [u32; 3], edition: u32) -> [u32; 5] {
+    let splits = [raw::split_pairpos, raw::split_markbasepos].map(|split| {
         let (mut after, mut count) = (counts, 7);
-        let answer = raw::split_in_lookups(
+        let answer = split(
             &mut [],
             &mut [],
             &mut [],
             &mut after,
             u32::MAX,
-            u32::MAX,
+            edition,
             &mut [],
             &mut [],
             &mut [],
@@ -53,26 +51,48 @@ fn nothing_at_all() {
             &mut [],
             &mut count,
         );
-        assert_eq!((answer, after, count), (expected, counts, 0));
-        for cut_plan in [raw::cut_plan, raw::cut_plan_markbasepos] {
-            let mut count = 7;
-            let answer = cut_plan(
-                &[],
-                &[],
-                &[],
-                &counts,
-                u32::MAX,
-                &mut [],
-                &mut [],
-                &mut [],
-                &mut [],
-                &mut [],
-                &mut [],
-                &mut count,
-            );
-            assert_eq!((answer, count), (expected, 0));
-        }
-    }
+        assert_eq!((after, count), (counts, 0));
+        answer
+    });
+    let (mut after, mut count) = (counts, 7);
+    let in_lookups = raw::split_in_lookups(
+        &mut [],
+        &mut [],
+        &mut [],
+        &mut after,
+        u32::MAX,
+        u32::MAX,
+        edition,
+        &mut [],
+        &mut [],
+        &mut [],
+        &mut [],
+        &mut [],
+        &mut [],
+        &mut count,
+    );
+    assert_eq!((after, count), (counts, 0));
+    let plans = [raw::cut_plan, raw::cut_plan_markbasepos].map(|cut_plan| {
+        let mut count = 7;
+        let answer = cut_plan(
+            &[],
+            &[],
+            &[],
+            &counts,
+            u32::MAX,
+            edition,
+            &mut [],
+            &mut [],
+            &mut [],
+            &mut [],
+            &mut [],
+            &mut [],
+            &mut count,
+        );
+        assert_eq!(count, 0);
+        answer
+    });
+    [splits[0], splits[1], in_lookups, plans[0], plans[1]]
 }
 
 /// A part of a row is no row.
@@ -150,7 +170,7 @@ impl Scratch {
 }
 
 /// The answer of a cut plan.
-fn plan(known: &Known, lengths: [usize; 5]) -> u32 {
+fn plan(known: &Known, edition: u32, lengths: [usize; 5]) -> u32 {
     let (data, objects, links, counts) = known.store.0.clone().into_parts();
     let mut scratch = Scratch::new(lengths);
     let [glyphs, classes, cuts] = &mut scratch.others;
@@ -165,6 +185,7 @@ fn plan(known: &Known, lengths: [usize; 5]) -> u32 {
         &links,
         &counts,
         0,
+        edition,
         &mut scratch.walk,
         &mut scratch.glyph_set,
         glyphs,
@@ -180,7 +201,7 @@ fn plan(known: &Known, lengths: [usize; 5]) -> u32 {
 }
 
 /// The answer of a split, with exact room.
-fn split(known: &Known, lengths: [usize; 5]) -> u32 {
+fn split(known: &Known, edition: u32, lengths: [usize; 5]) -> u32 {
     let (mut store, room) = known.store.clone();
     store.reserve(room);
     let before = store.clone();
@@ -198,6 +219,7 @@ fn split(known: &Known, lengths: [usize; 5]) -> u32 {
         &mut links,
         &mut counts,
         0,
+        edition,
         &mut scratch.walk,
         &mut scratch.glyph_set,
         glyphs,
@@ -214,12 +236,15 @@ fn split(known: &Known, lengths: [usize; 5]) -> u32 {
     answer
 }
 
-fn with_scratch(known: &Known, lengths: [usize; 5]) -> [u32; 2] {
-    [split(known, lengths), plan(known, lengths)]
+fn with_scratch(known: &Known, edition: u32, lengths: [usize; 5]) -> [u32; 2] {
+    [
+        split(known, edition, lengths),
+        plan(known, edition, lengths),
+    ]
 }
 
 /// The answer of a split that enters new tables in lookups, with exact room.
-fn split_listed(lengths: [usize; 5], list: u32) -> u32 {
+fn split_listed(edition: u32, lengths: [usize; 5], list: u32) -> u32 {
     let (mut store, room) = listed();
     store.reserve(room);
     let before = store.clone();
@@ -234,6 +259,7 @@ fn split_listed(lengths: [usize; 5], list: u32) -> u32 {
         &mut counts,
         list,
         0,
+        edition,
         &mut scratch.walk,
         &mut scratch.glyph_set,
         glyphs,
@@ -253,33 +279,47 @@ fn split_listed(lengths: [usize; 5], list: u32) -> u32 {
     answer
 }
 
-/// A list that is none is refused before a scratch is looked at.
+/// A list that is none is refused before a scratch is looked at, and an edition that is none before the list.
 #[test]
 fn scratch_at_its_edge_in_lookups() {
     let enough = [18, 8_192, 3, 3, 3];
-    assert_eq!(split_listed(enough, LIST), 0);
-    for short in 0..5 {
-        let mut lengths = enough;
-        lengths[short] -= 1;
-        assert_eq!(split_listed(lengths, LIST), 6);
-        assert_eq!(split_listed(lengths, 0), 9);
+    for edition in EDITIONS {
+        assert_eq!(split_listed(edition, enough, LIST), 0);
+        for short in 0..5 {
+            let mut lengths = enough;
+            lengths[short] -= 1;
+            assert_eq!(split_listed(edition, lengths, LIST), 6);
+            assert_eq!(split_listed(edition, lengths, 0), 9);
+        }
+        assert_eq!(split_listed(edition, [0; 5], LIST), 6);
+        assert_eq!(split_listed(edition, [0; 5], 0), 9);
     }
-    assert_eq!(split_listed([0; 5], LIST), 6);
-    assert_eq!(split_listed([0; 5], 0), 9);
+    for edition in OTHERS {
+        assert_eq!(split_listed(edition, enough, LIST), 12);
+        assert_eq!(split_listed(edition, [0; 5], 0), 12);
+    }
 }
 
-/// Exactly enough, more, one short of each, and none.
+/// Exactly enough, more, one short of each, and none. Of an edition that is none nothing is enough, and the
+/// scratch is cleared all the same.
 #[test]
 fn scratch_at_its_edge() {
     for known in known() {
         let enough = known.enough;
-        assert_eq!(with_scratch(&known, enough), [0; 2]);
-        assert_eq!(with_scratch(&known, enough.map(|len| len + 3)), [0; 2]);
-        for short in 0..5 {
-            let mut lengths = enough;
-            lengths[short] -= 1;
-            assert_eq!(with_scratch(&known, lengths), [6; 2]);
+        for edition in EDITIONS {
+            let with = |lengths| with_scratch(&known, edition, lengths);
+            assert_eq!(with(enough), [0; 2]);
+            assert_eq!(with(enough.map(|len| len + 3)), [0; 2]);
+            for short in 0..5 {
+                let mut lengths = enough;
+                lengths[short] -= 1;
+                assert_eq!(with(lengths), [6; 2]);
+            }
+            assert_eq!(with([0; 5]), [6; 2]);
         }
-        assert_eq!(with_scratch(&known, [0; 5]), [6; 2]);
+        for edition in OTHERS {
+            assert_eq!(with_scratch(&known, edition, enough), [12; 2]);
+            assert_eq!(with_scratch(&known, edition, [3; 5]), [12; 2]);
+        }
     }
 }

@@ -6,6 +6,7 @@ use std::{collections::HashSet, error::Error};
 #[test]
 fn numbers_and_names() {
     let answers = [
+        (12, "BadEdition"),
         (1, "Unsound"),
         (2, "NoTable"),
         (9, "BadList"),
@@ -24,7 +25,7 @@ fn numbers_and_names() {
         assert_eq!(Refusal::from_number(number), Some(refusal));
         assert_eq!(format!("{refusal:?}"), name);
     }
-    assert_eq!([0, 12, u32::MAX].map(Refusal::from_number), [None; 3]);
+    assert_eq!([0, 13, u32::MAX].map(Refusal::from_number), [None; 3]);
 }
 
 /// What is wrong, and then what to do.

@@ -3,7 +3,9 @@
 mod common;
 
 use common::{bytes, format1, one_set, store, w12, w7, UNSORTED};
-use splitter::{read_pair, split, split_into, Refusal, Room, Scratch, Store, StoreMut};
+use splitter::{
+    read_pair, split, split_into, Edition::First, Refusal, Room, Scratch, Store, StoreMut,
+};
 
 /// What is in use of a store: bytes of objects, and links.
 fn contents(store: &Store) -> (Vec<Vec<u8>>, Vec<[u32; 3]>) {
@@ -19,7 +21,10 @@ fn contents(store: &Store) -> (Vec<Vec<u8>>, Vec<[u32; 3]>) {
 fn three_sets_are_cut_at_2() {
     let (mut store, _) = w7();
     let (mut objects, _) = contents(&store);
-    assert_eq!(split(&mut store, 0, &mut Scratch::new()), Ok(vec![5]));
+    assert_eq!(
+        split(&mut store, 0, First, &mut Scratch::new()),
+        Ok(vec![5])
+    );
 
     objects[0] = bytes(&[1, 0, 4, 0, 2, 0, 0]);
     objects.extend([&[1, 0, 4, 0, 1, 0][..], &[1, 1, 30], &[1, 2, 10, 20]].map(bytes));
@@ -30,7 +35,10 @@ fn three_sets_are_cut_at_2() {
 #[test]
 fn rows_are_cut_at_162() {
     let mut store = w12();
-    assert_eq!(split(&mut store, 0, &mut Scratch::new()), Ok(vec![4]));
+    assert_eq!(
+        split(&mut store, 0, First, &mut Scratch::new()),
+        Ok(vec![4])
+    );
     let view = store.view();
     assert_eq!(view.object(4).unwrap().len(), 3_216);
     assert_eq!(view.object(0).unwrap().len(), 16 + 400 * 162);
@@ -46,7 +54,7 @@ fn pairs_read_as_before() {
         &[70_000; 3],
     ] {
         let (old, mut new) = (format1(lengths), format1(lengths));
-        let mut tables = split(&mut new, 0, &mut Scratch::new()).unwrap();
+        let mut tables = split(&mut new, 0, First, &mut Scratch::new()).unwrap();
         assert!(tables.len() > 1);
         tables.push(0);
         for glyph in (0..100).step_by(5) {
@@ -66,11 +74,11 @@ fn nothing_to_split() {
     let mut scratch = Scratch::new();
     for before in [format1(&[65_517]), store(&[&[3]], &[])] {
         let mut after = before.clone();
-        assert_eq!(split(&mut after, 0, &mut scratch), Ok(vec![]));
+        assert_eq!(split(&mut after, 0, First, &mut scratch), Ok(vec![]));
         assert_eq!(after, before);
     }
     let mut past = format1(&[65_518]);
-    assert_eq!(split(&mut past, 0, &mut scratch), Ok(vec![4]));
+    assert_eq!(split(&mut past, 0, First, &mut scratch), Ok(vec![4]));
     assert_eq!(past.view().object(0).unwrap().len(), 10);
 }
 
@@ -81,9 +89,9 @@ fn growth_is_as_exact_room() {
     let (mut exact, _) = w7();
     exact.reserve(room);
     let mut scratch = Scratch::new();
-    assert_eq!(split(&mut exact, 0, &mut scratch), Ok(vec![5]));
+    assert_eq!(split(&mut exact, 0, First, &mut scratch), Ok(vec![5]));
     assert_eq!(exact.room(), Room::default());
-    assert_eq!(split(&mut grown, 0, &mut scratch), Ok(vec![5]));
+    assert_eq!(split(&mut grown, 0, First, &mut scratch), Ok(vec![5]));
     grown.reserve(Room::default());
     assert_eq!(grown, exact);
 }
@@ -109,14 +117,17 @@ fn room_that_is_one_short() {
         store.reserve(room);
         let before = store.clone();
         let mut list = [77; 2];
-        let answer = split_into(&mut store, 0, &mut scratch, &mut list[..entries]);
+        let answer = split_into(&mut store, 0, First, &mut scratch, &mut list[..entries]);
         assert_eq!(answer, Err(Refusal::NoRoom));
         assert_eq!((store, list), (before, [77; 2]));
     }
     let mut store = store.clone();
     store.reserve(enough);
     let mut list = [77; 2];
-    assert_eq!(split_into(&mut store, 0, &mut scratch, &mut list), Ok(1));
+    assert_eq!(
+        split_into(&mut store, 0, First, &mut scratch, &mut list),
+        Ok(1)
+    );
     assert_eq!(list, [5, 77]);
 }
 
@@ -127,10 +138,16 @@ fn assert_ends(fill: impl Fn(&mut Store, usize)) {
     fill(&mut short, 1);
     let mut scratch = Scratch::new();
     let before = short.clone();
-    assert_eq!(split(&mut short, 0, &mut scratch), Err(Refusal::NoRoom));
+    assert_eq!(
+        split(&mut short, 0, First, &mut scratch),
+        Err(Refusal::NoRoom)
+    );
     assert_eq!(short, before);
     let new_table = enough.view().counts()[1];
-    assert_eq!(split(&mut enough, 0, &mut scratch), Ok(vec![new_table]));
+    assert_eq!(
+        split(&mut enough, 0, First, &mut scratch),
+        Ok(vec![new_table])
+    );
     let pair = read_pair(&enough, new_table, 30, 70).unwrap();
     assert_eq!(pair.unwrap().first.x_advance, 3);
 }
@@ -169,9 +186,9 @@ fn refusals_change_nothing() {
     let mut refused = |mut store: Store, table: u32, refusal: Refusal| {
         store.reserve(w7().1);
         let before = store.clone();
-        assert_eq!(split(&mut store, table, &mut scratch), Err(refusal));
+        assert_eq!(split(&mut store, table, First, &mut scratch), Err(refusal));
         let mut list = [77; 9];
-        let answer = split_into(&mut store, table, &mut scratch, &mut list);
+        let answer = split_into(&mut store, table, First, &mut scratch, &mut list);
         assert_eq!((answer, list), (Err(refusal), [77; 9]));
         assert_eq!(store, before);
     };
@@ -201,14 +218,14 @@ fn lent_buffers() {
     let mut list = [77];
     counts[2] += 2;
     let mut lent = StoreMut::new(&mut data, &mut objects, &mut links, &mut counts);
-    let answer = split_into(&mut lent, 0, &mut scratch, &mut list);
+    let answer = split_into(&mut lent, 0, First, &mut scratch, &mut list);
     assert_eq!((answer, list), (Err(Refusal::Unsound), [77]));
     assert_eq!(before, (data.clone(), objects.clone(), links.clone()));
 
     counts[2] -= 2;
     let lent = StoreMut::new(&mut data, &mut objects, &mut links, &mut counts);
-    assert_eq!(split_into(lent, 0, &mut scratch, &mut list), Ok(1));
-    split(&mut store, 0, &mut scratch).unwrap();
+    assert_eq!(split_into(lent, 0, First, &mut scratch, &mut list), Ok(1));
+    split(&mut store, 0, First, &mut scratch).unwrap();
     assert_eq!(Store::from_parts(data, objects, links, counts), Ok(store));
 }
 
@@ -218,10 +235,13 @@ fn scratch_is_kept() {
     let mut scratch = Scratch::new();
     for lengths in [&[40_000; 2][..], &[5_000; 200], &[6; 3], &[65_535; 5]] {
         let (mut kept, mut fresh) = (format1(lengths), format1(lengths));
-        let tables = split(&mut kept, 0, &mut scratch);
-        assert_eq!(tables, split(&mut fresh, 0, &mut Scratch::new()));
+        let tables = split(&mut kept, 0, First, &mut scratch);
+        assert_eq!(tables, split(&mut fresh, 0, First, &mut Scratch::new()));
         assert_eq!(kept, fresh);
-        assert_eq!(split(&mut kept, 0, &mut scratch), Ok(vec![]));
-        assert_eq!(split(&mut kept, 1, &mut scratch), Err(Refusal::BadTable));
+        assert_eq!(split(&mut kept, 0, First, &mut scratch), Ok(vec![]));
+        assert_eq!(
+            split(&mut kept, 1, First, &mut scratch),
+            Err(Refusal::BadTable)
+        );
     }
 }

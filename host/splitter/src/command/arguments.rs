@@ -6,6 +6,7 @@ mod words;
 pub use name::Name;
 
 use super::{failure::Failure, files::is_standard, screen::Form, text::shown_word};
+use splitter::Edition;
 use std::{
     ffi::{OsStr, OsString},
     path::{Path, PathBuf},
@@ -36,10 +37,12 @@ pub enum Request {
 }
 
 /// What `sample` is asked for.
-#[derive(Debug, Default, PartialEq, Eq)]
+#[derive(Debug, PartialEq, Eq)]
 pub struct Sample {
     /// The sample; without one, all of them.
     pub which: Option<Which>,
+    /// By which edition it is cut.
+    pub edition: Edition,
     /// Where the samples are written, in place of being split.
     pub directory: Option<PathBuf>,
     /// Whether bars are drawn in ASCII.
@@ -66,6 +69,8 @@ pub struct Plan {
     pub file: PathBuf,
     /// The table; without one, those that the file lists.
     pub table: Option<u32>,
+    /// By which edition they are cut.
+    pub edition: Edition,
     /// Whether tables are mark-to-base, whatever the file says.
     pub marks: bool,
     /// Whether long lists are shown whole.
@@ -144,6 +149,8 @@ pub struct Dump {
 pub struct Font {
     /// The font file.
     pub file: PathBuf,
+    /// By which edition its tables would be cut.
+    pub edition: Edition,
     /// Where its tables are written as store files.
     pub directory: Option<PathBuf>,
     /// What is written to standard output.
@@ -199,7 +206,7 @@ impl Request {
 pub fn read(words: impl IntoIterator<Item = OsString>) -> Result<Request, Failure> {
     let mut words = words.into_iter();
     let Some(first) = words.next() else {
-        return Ok(Request::Sample(Sample::default()));
+        return read_command(Name::Sample, words);
     };
     match first.to_str() {
         Some("-h" | "--help") => Ok(Request::Help(None)),
@@ -222,6 +229,7 @@ fn read_command(name: Name, words: impl Iterator<Item = OsString>) -> Result<Req
         Name::Dump => Request::Dump(dump(&mut words)?),
         Name::Font => Request::Font(Font {
             file: words.operand("FILE")?.into(),
+            edition: words.edition()?,
             directory: words.value("--output").map(PathBuf::from),
             form: words.form()?,
         }),
@@ -237,6 +245,7 @@ fn sample(words: &mut Words) -> Result<Sample, Failure> {
             .optional()
             .map(|word| which(words, &word))
             .transpose()?,
+        edition: words.edition()?,
         directory: words.value("--output").map(PathBuf::from),
         ascii: words.has("--ascii"),
     })
@@ -260,6 +269,7 @@ fn plan(words: &mut Words) -> Result<Plan, Failure> {
     Ok(Plan {
         file: words.operand("FILE")?.into(),
         table: words.optional_number("TABLE")?,
+        edition: words.edition()?,
         marks: words.has("--marks"),
         all: words.has("--all"),
         ascii: words.has("--ascii"),

@@ -1,9 +1,9 @@
 //! Bars of bytes.
 
 use super::{screen::Style, text::grouped};
+use splitter::Fit;
 
-/// What the offsets of a table reach.
-pub const LIMIT: usize = 65_535;
+const LIMIT: usize = Fit::LIMIT;
 
 const LABEL: usize = 12;
 const CELLS: usize = 54;

@@ -9,9 +9,11 @@ use super::{
     failure::{advice, Failure},
     files,
     json::Json,
+    limits,
     look::Look,
     outcome::Outcome,
     progress::Progress,
+    report::Amount,
     screen::Screen,
     text::{counted, grouped, listed, or_dash, shown, wrapped},
     told,
@@ -19,7 +21,7 @@ use super::{
 use splitter::{
     font::{FontError, FontTable, FontTables, Listed, OfKind, TABLE},
     store_file::{StoreFile, Table},
-    Explanation, Kind, Refusal, Scratch,
+    Edition, Explanation, Fit, Kind, Refusal, Scratch,
 };
 use std::{
     fs,
@@ -31,7 +33,7 @@ pub fn run(request: &Font, screen: &mut Screen) -> Result<Outcome, Failure> {
     let file = files::read_font(&request.file)?;
     let bad = |error: FontError| files::about(&request.file, error);
     let font = FontTables::read(&file).map_err(bad)?;
-    let mut seen = see_all(&font, &mut Scratch::new());
+    let mut seen = see_all(&font, request.edition, &mut Scratch::new());
     if let Some(directory) = &request.directory {
         write_all(&font, &mut seen, directory)?;
     }
@@ -39,6 +41,7 @@ pub fn run(request: &Font, screen: &mut Screen) -> Result<Outcome, Failure> {
     let outcome = Outcome::of_plan(refused > 0, seen.iter().any(Seen::is_cut));
     let tables: Vec<Json> = seen.iter().map(Seen::told).collect();
     let values = vec![
+        ("edition", request.edition.number().into()),
         ("lookups", font.lookups.into()),
         ("tables", tables.into()),
         ("listings", lookups::told(&seen)),
@@ -54,7 +57,7 @@ pub fn run(request: &Font, screen: &mut Screen) -> Result<Outcome, Failure> {
     screen.heading(&name)?;
     screen.lines(&wrapped(&in_words(&font), 0))?;
     if !seen.is_empty() {
-        show(&seen, screen)?;
+        show(&seen, request.edition, screen)?;
     }
     if let Some(directory) = &request.directory {
         let count = seen.iter().filter(|seen| seen.file.is_some()).count();
@@ -90,25 +93,28 @@ struct Seen {
     table: FontTable,
     look: Option<Look>,
     cuts: Result<Vec<u16>, FontError>,
+    /// What the tables would take that the cuts make.
+    fits: Vec<Fit>,
     explanation: Explanation,
     /// The store file that was written.
     file: Option<PathBuf>,
 }
 
-fn see_all(font: &FontTables, scratch: &mut Scratch) -> Vec<Seen> {
+fn see_all(font: &FontTables, edition: Edition, scratch: &mut Scratch) -> Vec<Seen> {
     let mut progress = Progress::new("looking at tables");
     let see = |(done, table): (usize, &FontTable)| {
         progress.at(done as u64, font.tables.len() as u64);
-        see(font, table, scratch)
+        see(font, table, edition, scratch)
     };
     font.tables.iter().enumerate().map(see).collect()
 }
 
-fn see(font: &FontTables, table: &FontTable, scratch: &mut Scratch) -> Seen {
+fn see(font: &FontTables, table: &FontTable, edition: Edition, scratch: &mut Scratch) -> Seen {
     let mut seen = Seen {
         table: table.clone(),
         look: None,
         cuts: Ok(Vec::new()),
+        fits: Vec::new(),
         explanation: Explanation::default(),
         file: None,
     };
@@ -123,10 +129,11 @@ fn see(font: &FontTables, table: &FontTable, scratch: &mut Scratch) -> Seen {
     let number = TABLE;
     seen.look = Look::at(store.view(), Table { number, kind });
     seen.cuts = kind
-        .cut_plan(&store, number, scratch)
+        .cut_plan(&store, number, edition, scratch)
         .map_err(FontError::Store);
-    if seen.cuts.is_err() {
-        seen.explanation = kind.explain(&store, number);
+    match &seen.cuts {
+        Ok(cuts) => seen.fits = kind.fits_at(&store, number, cuts).unwrap_or_default(),
+        Err(_) => seen.explanation = kind.explain(&store, number),
     }
     seen
 }
@@ -159,7 +166,7 @@ fn write_all(font: &FontTables, seen: &mut [Seen], directory: &Path) -> Result<(
     Ok(())
 }
 
-fn show(all: &[Seen], screen: &mut Screen) -> Result<(), Failure> {
+fn show(all: &[Seen], edition: Edition, screen: &mut Screen) -> Result<(), Failure> {
     screen.line("")?;
     screen.line("  lookup subtable   kind  format      bytes   items  glyphs  cut places")?;
     for seen in all {
@@ -172,18 +179,20 @@ fn show(all: &[Seen], screen: &mut Screen) -> Result<(), Failure> {
             screen.lines(&wrapped(&format!("{}.", advice(refusal)), 0))?;
         }
     }
-    screen.lines(&wrapped(&summary(all), 0))
+    screen.lines(&wrapped(&summary(all, edition), 0))
 }
 
-fn summary(all: &[Seen]) -> String {
+fn summary(all: &[Seen], edition: Edition) -> String {
     let why = "What is in a font fits its offsets already, so most tables have no cut places. But \
                the rule counts whole parts, where an offset only has to reach the start of one: a \
                table close to the limit can have them.";
-    match all.iter().filter(|seen| seen.is_cut()).count() {
-        0 => format!("No table would be cut. {why}"),
-        1 => format!("One table would be cut. {why}"),
-        count => format!("{} would be cut. {why}", counted(count, "table")),
-    }
+    let tables = match all.iter().filter(|seen| seen.is_cut()).count() {
+        0 => "No table".into(),
+        1 => "One table".into(),
+        count => counted(count, "table"),
+    };
+    let edition = edition.number();
+    format!("{tables} would be cut by edition {edition}. {why}")
 }
 
 impl Seen {
@@ -206,6 +215,7 @@ impl Seen {
         if let Some(fault) = self.explanation.fault() {
             lines.extend(wrapped(&fault.to_string(), 11));
         }
+        lines.extend(self.past_the_limit());
         match self.table.listed.len() {
             0 | 1 => {}
             2 => lines.push("           listed once more".into()),
@@ -215,6 +225,19 @@ impl Seen {
             }
         }
         lines
+    }
+
+    /// Whether the tables that a split makes of it are within the limit, where one is not.
+    fn past_the_limit(&self) -> Vec<String> {
+        let Some(look) = self.look.as_ref() else {
+            return Vec::new();
+        };
+        if self.fits.iter().all(Fit::is_within) {
+            return Vec::new();
+        }
+        let sentences = limits::sentences(look, &self.fits, Amount::Some);
+        let lines = sentences.iter().map(|sentence| wrapped(sentence, 11));
+        lines.flatten().collect()
     }
 
     /// How many tables a split makes of it.
@@ -267,6 +290,7 @@ impl Seen {
             }
             Err(error) => ("damaged", error.to_string().into()),
         });
+        values.push(("results", limits::told(&self.fits, &[])));
         values.push(("output", self.file.as_deref().map(told::path).into()));
         Json::object(values)
     }

@@ -49,8 +49,14 @@ functions that are proved to lose nothing.
 FILE is a store file, which docs/STORE_FILE.md describes, or a font; - is
 standard input. Numbers may be written in tens or, as 0x1F, in sixteens.
 
+    --edition 1|2  for sample, plan, split and font: by which edition of the
+                   rule tables are cut; 1 unless it is said
     --json         write JSON, for programs; docs/COMMAND.md describes it
     -q, --quiet    write nothing: the exit code tells
+
+Edition 1 cuts as the crate skera 0.6.0 does, for fonts that are fielded.
+Edition 2 measures again what the item at a cut leads to, and leaves no table of
+two or more items that is past the limit.
 
 Exit codes: 0 done, and for plan and font nothing to split; 1 refused; 2 bad
 usage; 3 a file that cannot be read or written; 4 for plan and font, something
@@ -59,7 +65,8 @@ standard error: a refusal says what is at fault, where, and what is wanted.
 ";
 
 const SAMPLE: &str = "\
-splitter sample [sets | rows | marks | lookups] [-o DIR] [--ascii]
+splitter sample [sets | rows | marks | lookups] [--edition 1|2] [-o DIR]
+                [--ascii]
 
 Splits built-in stores: pairs in each format, marks on bases, and pairs in a
 lookup, in which the new tables are entered. Shows the old table, where it is
@@ -67,6 +74,7 @@ cut, what comes of it, and that every pair or attachment reads as before.
 
     sets, rows, marks   one of them: pairs in format 1, pairs in format 2, marks
     lookups             pairs in format 1, the first of two tables in a lookup
+    --edition 1|2       by which edition of the rule they are cut, 1 or 2
     -o, --output DIR    write the stores into a directory, as sample1.krns to
                         sample4.krns, and split nothing
     --ascii             draw bars in ASCII, whatever the locale
@@ -79,18 +87,27 @@ coverage, marks and bases, of its mark coverage and its two arrays.
 ";
 
 const PLAN: &str = "\
-splitter plan FILE [TABLE] [--marks] [--all] [--ascii] [--json | --quiet]
+splitter plan FILE [TABLE] [--edition 1|2] [--marks] [--all] [--ascii]
+              [--json | --quiet]
 
 Shows where the tables of a store file would be cut, and changes nothing. TABLE
 is the number of an object; without it all tables that the file lists are shown.
 The file says which of these are mark-to-base tables. Bytes do not tell, so a
 table that it does not list is for pairs, unless --marks is there.
 
+    --edition 1|2  by which edition of the rule they would be cut, 1 unless it
+                   is said
     --marks        the tables are mark-to-base, whatever the file says
     --all          show long lists whole
     --ascii        draw bars in ASCII, whatever the locale
     --json         write JSON, for programs
     -q, --quiet    write nothing: the exit code tells
+
+It is said of each table that a cut would make whether it is within the limit,
+and why it is not: a single item may be too large by itself, and edition 1 does
+not measure what the item at a cut shares, nor count empty slots. Counted are
+the table, all that its items lead to, each object once, its coverage, class
+definitions and arrays; of pairs in format 2 the largest part is left out.
 
 The exit code is 0 where there is nothing to split, 4 where a table would be
 cut, and 1 where one is refused. The others are shown all the same then, and
@@ -98,8 +115,8 @@ each refusal says what is at fault.
 ";
 
 const SPLIT: &str = "\
-splitter split FILE [TABLE] (-o FILE | --in-place) [--check] [--marks] [--all]
-               [--ascii] [--json | --quiet]
+splitter split FILE [TABLE] (-o FILE | --in-place) [--edition 1|2] [--check]
+               [--marks] [--all] [--ascii] [--json | --quiet]
 
 Splits the tables of a store file and writes the store with kept and new tables.
 TABLE is the number of an object; without it all tables that the file lists are
@@ -110,6 +127,8 @@ refused, not at all, and before anything is said of it.
     -o, --output FILE    where to write; the file that is read is refused here,
                          and - is standard output, which has nothing else then
     --in-place           write over the file that is read
+    --edition 1|2        by which edition of the rule they are cut, 1 unless it
+                         is said
     --check              read all pairs or attachments before and after; this
                          can take long
     --marks              the tables are mark-to-base, whatever the file says
@@ -119,7 +138,7 @@ refused, not at all, and before anything is said of it.
     -q, --quiet          write nothing: the exit code tells
 
 \"splitter help plan\" says how tables for pairs and for marks are told apart,
-\"splitter help sample\" explains the columns.
+and when one is within the limit; \"splitter help sample\" explains the columns.
 ";
 
 const PAIR: &str = "\
@@ -159,7 +178,7 @@ Where the store is not sound it is said what is at fault; the exit code is 1.
 ";
 
 const FONT: &str = "\
-splitter font FILE [-o DIR] [--json | --quiet]
+splitter font FILE [--edition 1|2] [-o DIR] [--json | --quiet]
 
 Shows the tables for pairs and for marks on bases of a TrueType or OpenType
 font, or of the first font of a collection: the subtables of lookups of types 2
@@ -169,6 +188,8 @@ classes), covered glyphs, and cut places or why it is refused. A table that is
 listed more than once is shown once. Then each lookup: which subtables it lists,
 and what a split would make of them.
 
+    --edition 1|2       by which edition of the rule they would be cut, 1 unless
+                        it is said
     -o, --output DIR    write each table into a directory as a store file, as
                         lookupL-subtableS-KIND.krns, for plan, split, pair, mark
                         and dump

@@ -5,11 +5,9 @@
 
 mod marks;
 mod parts;
-mod reach;
 
 use parts::{class_def_glyphs, coverage_glyphs, word};
-use reach::Reach;
-use splitter::{store_file::Table, Kind, StoreRef};
+use splitter::{store_file::Table, Kind, Reach, StoreRef};
 use std::ops::Range;
 
 /// Where the coverage is linked; of a mark table, the mark coverage.
@@ -83,17 +81,6 @@ impl Look {
     /// Whether it has a format that is split.
     pub fn is_split(&self) -> bool {
         is_split(self.table.kind, self.format)
-    }
-
-    /// The bytes that its offsets have to reach. In format 2 of pairs the largest of coverage and class
-    /// definitions can stand last: only its start is reached.
-    pub fn reached_bytes(&self) -> usize {
-        let [class_def1, class_def2] = self.parts;
-        let largest = self.coverage.max(class_def1).max(class_def2);
-        match (self.table.kind, self.format) {
-            (Kind::Pairs, 2) => self.all_bytes - largest.unwrap_or(0),
-            _ => self.all_bytes,
-        }
     }
 
     /// What its items are called.

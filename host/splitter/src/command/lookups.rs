@@ -9,8 +9,8 @@ use super::{
     text::{counted, grouped, wrapped},
 };
 use splitter::{
-    apply_lookup, cut_plan, split_in_lookups, store_file::Table, Explanation, Lookup, Refusal,
-    Scratch, Store,
+    apply_lookup, cut_plan, split_in_lookups, store_file::Table, Edition, Explanation, Lookup,
+    Refusal, Scratch, Store,
 };
 
 /// Splits a table, enters the new ones in the lookups of a list, and shows what came of it, and that each
@@ -19,16 +19,17 @@ pub fn show(
     store: &mut Store,
     list: u32,
     table: u32,
+    edition: Edition,
     scratch: &mut Scratch,
     screen: &mut Screen,
 ) -> Result<(), Failure> {
     let refused = |refusal| Failure::refused(table, refusal, Explanation::default());
     let old = store.clone();
-    let cuts = cut_plan(&old, table, scratch).map_err(refused)?;
-    let new_tables = split_in_lookups(store, list, table, scratch).map_err(refused)?;
+    let cuts = cut_plan(&old, table, edition, scratch).map_err(refused)?;
+    let new_tables = split_in_lookups(store, list, table, edition, scratch).map_err(refused)?;
     let tables = [table].into_iter().chain(new_tables);
     let tables: Vec<Table> = tables.map(Table::pairs).collect();
-    if let Some(before) = Before::new(old.view(), tables[0], cuts) {
+    if let Some(before) = Before::new(old.view(), tables[0], edition, cuts) {
         before.describe(screen, Amount::Some)?;
         screen.line("")?;
         before.show_after(store.view(), &tables, screen, Amount::Some)?;

@@ -5,6 +5,7 @@ use super::{
     failure::{advice, refusal_in_words, Failure},
     files,
     json::Json,
+    limits,
     look::Look,
     outcome::Outcome,
     report::{Amount, Before},
@@ -14,7 +15,7 @@ use super::{
 };
 use splitter::{
     store_file::{StoreFile, Table},
-    Explanation, Kind, Refusal, Scratch, Store,
+    Edition, Explanation, Kind, Refusal, Scratch, Store,
 };
 
 /// Shows where the tables of a store file would be cut.
@@ -25,7 +26,8 @@ pub fn run(request: &Plan, screen: &mut Screen) -> Result<Outcome, Failure> {
     request.head(&file, screen)?;
     let mut scratch = Scratch::new();
     let planned = tables.into_iter();
-    let planned = planned.map(|table| Planned::of(file.store(), table, &mut scratch));
+    let planned =
+        planned.map(|table| Planned::of(file.store(), table, request.edition, &mut scratch));
     let planned: Vec<Planned> = planned.collect();
     let refused = planned.iter().filter(|table| table.cuts.is_err()).count();
     let outcome = Outcome::of_plan(refused > 0, planned.iter().any(Planned::is_cut));
@@ -34,6 +36,7 @@ pub fn run(request: &Plan, screen: &mut Screen) -> Result<Outcome, Failure> {
         outcome,
         &request.file,
         vec![
+            ("edition", request.edition.number().into()),
             ("store", told::store(file.store().view())),
             (
                 "tables",
@@ -53,7 +56,7 @@ pub fn run(request: &Plan, screen: &mut Screen) -> Result<Outcome, Failure> {
     }
     for planned in &planned {
         screen.line("")?;
-        planned.show(file.store(), request.amount(), screen)?;
+        planned.show(request.amount(), screen)?;
     }
     match refused {
         0 => Ok(outcome),
@@ -79,18 +82,23 @@ struct Planned {
     table: Table,
     look: Option<Look>,
     cuts: Result<Vec<u16>, Refusal>,
+    /// What is shown of a table that is not refused.
+    before: Option<Before>,
     explanation: Explanation,
 }
 
 impl Planned {
-    fn of(store: &Store, table: Table, scratch: &mut Scratch) -> Self {
-        let cuts = table.kind.cut_plan(store, table.number, scratch);
+    fn of(store: &Store, table: Table, edition: Edition, scratch: &mut Scratch) -> Self {
+        let Table { number, kind } = table;
+        let cuts = kind.cut_plan(store, number, edition, scratch);
+        let before = cuts.as_ref().ok().cloned();
         Self {
             table,
             look: Look::at(store.view(), table),
+            before: before.and_then(|cuts| Before::new(store.view(), table, edition, cuts)),
             explanation: match cuts {
                 Ok(_) => Explanation::default(),
-                Err(_) => table.kind.explain(store, table.number),
+                Err(_) => kind.explain(store, number),
             },
             cuts,
         }
@@ -100,9 +108,12 @@ impl Planned {
         self.cuts.as_ref().is_ok_and(|cuts| !cuts.is_empty())
     }
 
-    fn show(&self, store: &Store, amount: Amount, screen: &mut Screen) -> Result<(), Failure> {
+    fn show(&self, amount: Amount, screen: &mut Screen) -> Result<(), Failure> {
         match &self.cuts {
-            Ok(cuts) => show(store, self.table, cuts.clone(), amount, screen),
+            Ok(_) => match &self.before {
+                Some(before) => show(before, amount, screen),
+                None => Ok(()),
+            },
             Err(refusal) => {
                 let words = refusal_in_words(self.table.number, *refusal, &self.explanation);
                 screen.lines(&wrapped(&words, 0))
@@ -116,25 +127,18 @@ impl Planned {
             Ok(cuts) => ("cuts", Json::list(cuts.iter().copied())),
             Err(refusal) => ("refused", told::refused(*refusal, &self.explanation)),
         });
+        let fits = self.before.as_ref().map_or(&[][..], |before| &before.fits);
+        values.push(("results", limits::told(fits, &[])));
         Json::object(values)
     }
 }
 
 /// Shows where a table would be cut.
-fn show(
-    store: &Store,
-    table: Table,
-    cuts: Vec<u16>,
-    amount: Amount,
-    screen: &mut Screen,
-) -> Result<(), Failure> {
-    let Some(before) = Before::new(store.view(), table, cuts) else {
-        return Ok(());
-    };
+fn show(before: &Before, amount: Amount, screen: &mut Screen) -> Result<(), Failure> {
     before.describe(screen, amount)?;
     if before.is_cut() {
         screen.line("")?;
-        before.show_bar(screen)?;
+        before.show_bar(screen, amount)?;
     }
     Ok(())
 }

@@ -1,13 +1,14 @@
 //! Tables before and after a split, as a table and as bars.
 
 use super::{
-    bars::{Bars, LIMIT},
+    bars::Bars,
     failure::Failure,
+    limits,
     look::Look,
     screen::Screen,
     text::{counted, grouped, listed, or_dash, plural, wrapped},
 };
-use splitter::{store_file::Table, Kind, StoreRef};
+use splitter::{store_file::Table, Edition, Fit, Kind, StoreRef};
 use std::ops::Range;
 
 /// So many rows and bars are shown, unless all are asked for.
@@ -16,9 +17,12 @@ const MOST_ROWS: usize = 24;
 /// A table as it was: what it is, and where it is cut.
 pub struct Before {
     look: Look,
+    edition: Edition,
     cuts: Vec<u16>,
     pieces: Vec<Range<usize>>,
     piece_bytes: Vec<usize>,
+    /// What the tables would take that the cuts make.
+    pub fits: Vec<Fit>,
 }
 
 /// How much is shown.
@@ -31,15 +35,18 @@ pub enum Amount {
 }
 
 impl Before {
-    /// A table as it is, and where it is cut.
-    pub fn new(store: StoreRef, table: Table, cuts: Vec<u16>) -> Option<Self> {
+    /// A table as it is, and where an edition cuts it.
+    pub fn new(store: StoreRef, table: Table, edition: Edition, cuts: Vec<u16>) -> Option<Self> {
         let look = Look::at(store, table)?;
         let pieces = look.pieces(&cuts);
+        let fits = table.kind.fits_at(store, table.number, &cuts);
         Some(Self {
             piece_bytes: look.piece_bytes(store, &pieces),
             look,
+            edition,
             cuts,
             pieces,
+            fits: fits.unwrap_or_default(),
         })
     }
 
@@ -68,10 +75,18 @@ impl Before {
 
     fn cut_sentence(&self, amount: Amount) -> String {
         let name = self.look.item_name();
+        let edition = self.edition.number();
         match self.cuts.len() {
-            0 => "It fits as it is, and is not cut.".into(),
+            0 => match self.fits.first().filter(|fit| !fit.is_within()) {
+                None => format!("It fits as it is: edition {edition} does not cut it."),
+                Some(fit) => format!(
+                    "Edition {edition} does not cut it. It takes {} bytes, past the limit: {}.",
+                    grouped(fit.bytes),
+                    limits::why(fit).unwrap_or_default(),
+                ),
+            },
             count => format!(
-                "It is cut at {} {}: {} in its place.",
+                "Edition {edition} cuts it at {} {}: {} in its place.",
                 if count == 1 {
                     name.into()
                 } else {
@@ -96,11 +111,25 @@ impl Before {
         Bars::new(screen.style, self.piece_bytes.iter().sum())
     }
 
-    /// The table as a bar, its pieces one behind the other.
-    pub fn show_bar(&self, screen: &mut Screen) -> Result<(), Failure> {
+    /// The table as a bar, its pieces one behind the other, and whether each would be within the limit.
+    pub fn show_bar(&self, screen: &mut Screen, amount: Amount) -> Result<(), Failure> {
         let bars = self.bars(screen);
         screen.line(&bars.bar(&self.label(), 0, &self.piece_bytes))?;
-        screen.line(&bars.limit())
+        screen.line(&bars.limit())?;
+        self.show_limits(&self.fits, screen, amount)
+    }
+
+    /// Whether each of the tables is within the limit.
+    fn show_limits(
+        &self,
+        fits: &[Fit],
+        screen: &mut Screen,
+        amount: Amount,
+    ) -> Result<(), Failure> {
+        for sentence in limits::sentences(&self.look, fits, amount) {
+            screen.lines(&wrapped(&sentence, 0))?;
+        }
+        Ok(())
     }
 
     /// The tables that came of it, kept and new in order, beside what it was.
@@ -128,35 +157,20 @@ impl Before {
             bars.bar(&label(place), place, &[looks[place].all_bytes])
         })?;
         screen.line(&bars.limit())?;
-        for note in notes(&looks) {
-            screen.lines(&wrapped(&note, 0))?;
+        let fits = limits::of_tables(store, tables);
+        if looks.iter().zip(&fits).any(stands_last) {
+            let note =
+                "Some bytes are past the limit: in format 2 the largest of coverage and class \
+                        definitions can stand last, and only its start has to be reached.";
+            screen.lines(&wrapped(note, 0))?;
         }
-        Ok(())
+        self.show_limits(&fits, screen, amount)
     }
 }
 
-/// What to say of tables that are past the limit.
-fn notes(looks: &[Look]) -> Vec<String> {
-    let mut notes = Vec::new();
-    let past = |look: &&Look| look.reached_bytes() > LIMIT;
-    let last = |look: &Look| look.all_bytes > LIMIT && look.reached_bytes() <= LIMIT;
-    if looks.iter().any(last) {
-        notes.push(
-            "Some bytes are past the limit: in format 2 the largest of coverage and class \
-             definitions can stand last, and only its start has to be reached."
-                .into(),
-        );
-    }
-    if let Some(look) = looks.iter().find(past) {
-        let count = counted(looks.iter().filter(past).count(), "table");
-        notes.push(format!(
-            "Still past the limit: {count}, {} the first. \"splitter plan\" says whether it can be \
-             cut again; a single {} that is too large cannot.",
-            look.table.number,
-            look.item_name(),
-        ));
-    }
-    notes
+/// Whether a table is within the limit because its largest part is not counted.
+fn stands_last((look, fit): (&Look, &Fit)) -> bool {
+    look.all_bytes > Fit::LIMIT && fit.is_within()
 }
 
 /// What a table has, as far as it has a format that is split.

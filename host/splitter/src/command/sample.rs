@@ -18,7 +18,7 @@ use super::{
 };
 use splitter::{
     store_file::{StoreFile, Table},
-    Explanation, Refusal, Scratch, Store,
+    Edition, Explanation, Refusal, Scratch, Store,
 };
 use std::{fs, path::Path};
 
@@ -39,7 +39,7 @@ pub fn run(request: &Sample, screen: &mut Screen) -> Result<Outcome, Failure> {
         .map_err(|refusal| Failure::refused(None, refusal, Explanation::default()))?;
     match &request.directory {
         Some(directory) => write(examples, directory, screen),
-        None => show(examples, screen),
+        None => show(examples, request.edition, screen),
     }?;
     Ok(Outcome::Done)
 }
@@ -96,8 +96,9 @@ fn example(which: Which) -> Result<Example, Refusal> {
     })
 }
 
-fn show(examples: Vec<Example>, screen: &mut Screen) -> Result<(), Failure> {
+fn show(examples: Vec<Example>, edition: Edition, screen: &mut Screen) -> Result<(), Failure> {
     let show = Show {
+        edition,
         amount: Amount::Some,
         check: true,
     };
@@ -112,7 +113,8 @@ fn show(examples: Vec<Example>, screen: &mut Screen) -> Result<(), Failure> {
         match example.list {
             None => drop(show.split(&mut store, table, &mut scratch, screen)?),
             Some(list) => {
-                in_lookups::show(&mut store, list, table.number, &mut scratch, screen)?;
+                let table = table.number;
+                in_lookups::show(&mut store, list, table, edition, &mut scratch, screen)?;
             }
         }
     }

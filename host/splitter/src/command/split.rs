@@ -5,6 +5,7 @@ use super::{
     failure::Failure,
     files,
     json::Json,
+    limits,
     look::Look,
     outcome::Outcome,
     readings::{self, Compared},
@@ -16,7 +17,7 @@ use super::{
 use splitter::{
     explain::{Call, Lent},
     store_file::{StoreFile, Table},
-    Explanation, Refusal, Room, Scratch, Store,
+    Edition, Explanation, Fit, Refusal, Room, Scratch, Store,
 };
 use std::{fs, path::Path};
 
@@ -33,6 +34,7 @@ pub fn run(request: &Split, screen: &mut Screen) -> Result<Outcome, Failure> {
     let (mut store, mut listed) = file.into_parts();
     let mut scratch = Scratch::new();
     let show = Show {
+        edition: request.plan.edition,
         amount: request.plan.amount(),
         check: request.check,
     };
@@ -57,6 +59,7 @@ pub fn run(request: &Split, screen: &mut Screen) -> Result<Outcome, Failure> {
         false => Outcome::NothingToSplit,
     };
     let values = vec![
+        ("edition", request.plan.edition.number().into()),
         ("output", told::path(output)),
         ("bytes", bytes.len().into()),
         ("store", told::store(file.store().view())),
@@ -93,10 +96,12 @@ fn list(listed: &mut Vec<Table>, tables: &[Table]) {
     listed.splice(place..end, tables.iter().copied());
 }
 
-/// How a split is shown.
+/// How a split is made and shown.
 #[derive(Clone, Copy, Debug)]
 pub struct Show {
-    /// How much of it.
+    /// By which edition it is.
+    pub edition: Edition,
+    /// How much of it is shown.
     pub amount: Amount,
     /// Whether all pairs or attachments are read before and after.
     pub check: bool,
@@ -109,6 +114,8 @@ pub struct Piece {
     cuts: Vec<u16>,
     /// The kept table and the new ones.
     tables: Vec<Table>,
+    /// What these take.
+    fits: Vec<Fit>,
     compared: Option<Compared>,
 }
 
@@ -119,6 +126,7 @@ impl Piece {
         values.extend([
             ("cuts", Json::list(self.cuts.iter().copied())),
             ("new_tables", Json::list(new)),
+            ("results", limits::told(&self.fits, &self.tables)),
             ("check", self.compared.as_ref().map(Compared::told).into()),
         ]);
         Json::object(values)
@@ -135,19 +143,27 @@ impl Show {
         screen: &mut Screen,
     ) -> Result<Piece, Failure> {
         let Table { number, kind } = table;
+        let edition = self.edition;
         let old = store.clone();
-        let refused = |refusal| Failure::refused(number, refusal, why(&old, table, refusal));
-        let cuts = kind.cut_plan(&old, number, scratch).map_err(refused)?;
-        let new_tables = kind.split(store, number, scratch).map_err(refused)?;
-        let new_tables = new_tables.into_iter().map(|number| Table { number, kind });
+        let refused = |refusal| {
+            let why = why(&old, table, edition, refusal);
+            Failure::refused(number, refusal, why)
+        };
+        let cuts = kind.cut_plan(&old, number, edition, scratch);
+        let cuts = cuts.map_err(refused)?;
+        let new_tables = kind.split(store, number, edition, scratch);
+        let new_tables = new_tables.map_err(refused)?.into_iter();
+        let new_tables = new_tables.map(|number| Table { number, kind });
+        let tables: Vec<Table> = [table].into_iter().chain(new_tables).collect();
         let mut piece = Piece {
             table,
             look: Look::at(old.view(), table),
             cuts: cuts.clone(),
-            tables: [table].into_iter().chain(new_tables).collect(),
+            fits: limits::of_tables(store.view(), &tables),
+            tables,
             compared: None,
         };
-        if let Some(before) = Before::new(old.view(), table, cuts) {
+        if let Some(before) = Before::new(old.view(), table, edition, cuts) {
             before.describe(screen, self.amount)?;
             if before.is_cut() {
                 screen.line("")?;
@@ -167,11 +183,14 @@ impl Show {
 }
 
 /// Why a table of a store is not split. Its store grows up to the maxima.
-fn why(store: &Store, table: Table, refusal: Refusal) -> Explanation {
+fn why(store: &Store, table: Table, edition: Edition, refusal: Refusal) -> Explanation {
     let mut store = store.clone();
     if refusal == Refusal::NoRoom {
         store.reserve(Room::MOST);
     }
-    let call = Call::Split(Lent::ENOUGH);
+    let call = Call::Split {
+        edition: edition.number(),
+        lent: Lent::ENOUGH,
+    };
     table.kind.explain_call(call, &store, table.number)
 }

@@ -118,6 +118,7 @@ fn fault(fault: &Fault) -> Json {
 
 fn place(place: &Place) -> (&'static str, Values) {
     match place {
+        Place::Edition => ("edition", vec![]),
         Place::Table => ("table", vec![]),
         Place::Count(buffer) => ("count", vec![("buffer", (*buffer).into())]),
         Place::Head(row) => ("head", vec![("row", (*row).into())]),

@@ -59,6 +59,8 @@ pub struct LinkRow {
 #[derive(Clone, Copy, Debug, PartialEq, Eq)]
 #[non_exhaustive]
 pub enum Place {
+    /// The number of the edition.
+    Edition,
     /// The number of the table that was asked for.
     Table,
     /// A count of what is in use: `data`, `objects` or `links`.
@@ -155,7 +157,7 @@ pub enum Part {
 
 impl Part {
     /// Where a table of a kind has the offset of it.
-    pub(super) const fn position(self, kind: Kind) -> Option<u32> {
+    pub(crate) const fn position(self, kind: Kind) -> Option<u32> {
         match (kind, self) {
             (Kind::Pairs, Self::Coverage) | (Kind::Marks, Self::MarkCoverage) => Some(2),
             (Kind::Marks, Self::BaseCoverage) => Some(4),
@@ -287,6 +289,7 @@ impl LinkRow {
 impl Display for Place {
     fn fmt(&self, f: &mut Formatter) -> fmt::Result {
         match self {
+            Self::Edition => f.write_str("the edition"),
             Self::Table => f.write_str("the number of the table"),
             Self::Count(what) => write!(f, "the count of {} in use", counted(what)),
             Self::Head(row) => write!(f, "the head of object row {row}"),

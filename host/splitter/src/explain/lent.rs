@@ -1,7 +1,7 @@
 //! What a call is lent beside the store.
 
-use super::{glyphs, Asked, Fault, Part, Place, Wanted};
-use crate::{Kind, Refusal};
+use super::{Asked, Fault, Part, Place, Wanted};
+use crate::{glyphs, Edition, Kind, Refusal};
 
 /// A call, with what it is lent beside the store.
 #[derive(Clone, Copy, Debug, PartialEq, Eq)]
@@ -9,9 +9,19 @@ pub enum Call {
     /// A reading of a pair or of an attachment.
     Reading,
     /// A cut plan.
-    Plan(Lent),
+    Plan {
+        /// The number of the edition.
+        edition: u32,
+        /// What it is lent.
+        lent: Lent,
+    },
     /// A split. The room is that of the store's buffers.
-    Split(Lent),
+    Split {
+        /// The number of the edition.
+        edition: u32,
+        /// What it is lent beside the store.
+        lent: Lent,
+    },
 }
 
 /// The lengths of scratch and list, in numbers.
@@ -49,9 +59,17 @@ impl Call {
         match self {
             Self::Reading => !matches!(
                 by,
-                Refusal::ShortScratch | Refusal::BadLinks | Refusal::NoRoom
+                Refusal::BadEdition | Refusal::ShortScratch | Refusal::BadLinks | Refusal::NoRoom
             ),
-            Self::Plan(_) | Self::Split(_) => true,
+            Self::Plan { .. } | Self::Split { .. } => true,
+        }
+    }
+
+    /// The number of its edition; a reading has none.
+    pub(super) fn edition(self) -> Option<u32> {
+        match self {
+            Self::Reading => None,
+            Self::Plan { edition, .. } | Self::Split { edition, .. } => Some(edition),
         }
     }
 
@@ -59,9 +77,17 @@ impl Call {
     pub(super) fn lent(self) -> Lent {
         match self {
             Self::Reading => Lent::ENOUGH,
-            Self::Plan(lent) | Self::Split(lent) => lent,
+            Self::Plan { lent, .. } | Self::Split { lent, .. } => lent,
         }
     }
+}
+
+pub(super) fn bad_edition(asked: &Asked) -> Option<Fault> {
+    let edition = asked.call.edition()?;
+    let [first, second] = Edition::ALL.map(|edition| edition.number().into());
+    let wanted = Wanted::Either(first, second);
+    let fault = Fault::number(Place::Edition, edition as usize, wanted, "");
+    Edition::from_number(edition).is_none().then_some(fault)
 }
 
 pub(super) fn short_scratch(asked: &Asked) -> Option<Fault> {

@@ -1,7 +1,10 @@
 //! Links at no slot, and ways back to the table.
 
-use super::{table::record_size, word, Asked, Fault, LinkRow, Part};
-use crate::Kind;
+use super::{Asked, Fault, LinkRow, Part};
+use crate::{
+    table::{record_size, word},
+    Kind,
+};
 use std::collections::VecDeque;
 
 pub(super) fn at_no_slot(asked: &Asked) -> Option<Fault> {

@@ -1,7 +1,7 @@
 //! What is wrong with a table's coverages, class definitions and arrays.
 
-use super::{glyphs, word, Asked, Fault, Part, Place, Wanted};
-use crate::Kind;
+use super::{Asked, Fault, Part, Place, Wanted};
+use crate::{glyphs, table::word, Kind};
 
 pub(super) fn fault(asked: &Asked) -> Option<Fault> {
     let parts: &[(Part, Look)] = match (asked.kind, asked.format()) {

@@ -1,7 +1,10 @@
 //! Pair sets that are unsorted, or not as long as their counts say.
 
-use super::{table::record_size, word, Asked, Fault, Part, Place, Wanted};
-use crate::Kind;
+use super::{Asked, Fault, Part, Place, Wanted};
+use crate::{
+    table::{record_size, word},
+    Kind,
+};
 
 /// What is wrong with the first of the linked pair sets, in the order of their slots.
 pub(super) fn unsorted(asked: &Asked) -> Option<Fault> {

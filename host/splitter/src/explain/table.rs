@@ -1,7 +1,7 @@
 //! What is wrong with a table's number, or with its length.
 
-use super::{word, Asked, Fault, Part, Place, Wanted};
-use crate::Kind;
+use super::{Asked, Fault, Part, Place, Wanted};
+use crate::{table::row_size, Kind};
 
 pub(super) fn not_in_use(asked: &Asked) -> Option<Fault> {
     let [_, objects, _] = asked.store.counts();
@@ -44,15 +44,4 @@ fn length_fault(asked: &Asked, wanted: Wanted, because: &'static str) -> Fault {
         part: Part::Table,
     };
     Fault::number(place, asked.bytes().len(), wanted, because)
-}
-
-/// The bytes of a row of format 2.
-pub(super) fn row_size(table: &[u8]) -> usize {
-    record_size(table) * word(table, 14)
-}
-
-/// The bytes of the two values of a pair: two for each of the low eight bits of either format.
-pub(super) fn record_size(table: &[u8]) -> usize {
-    let fields = [4, 6].map(|place| (word(table, place) & 0xFF).count_ones() as usize);
-    2 * (fields[0] + fields[1])
 }

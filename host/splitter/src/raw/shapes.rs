@@ -12,6 +12,7 @@ macro_rules! split_function {
             counts: &mut [u32; 3],
             $($other: u32,)?
             table: u32,
+            edition: u32,
             walk: &mut [u32],
             glyph_set: &mut [u8],
             glyphs: &mut [u16],
@@ -31,6 +32,7 @@ macro_rules! split_function {
                     counts: *mut u32,
                     $($other: u32,)?
                     table: u32,
+                    edition: u32,
                     walk: *mut u32,
                     walk_len: usize,
                     glyph_set: *mut u8,
@@ -58,6 +60,7 @@ macro_rules! split_function {
                     counts.as_mut_ptr(),
                     $($other,)?
                     table,
+                    edition,
                     walk.as_mut_ptr(),
                     walk.len(),
                     glyph_set.as_mut_ptr(),
@@ -88,6 +91,7 @@ macro_rules! plan_function {
             links: &[u32],
             counts: &[u32; 3],
             table: u32,
+            edition: u32,
             walk: &mut [u32],
             glyph_set: &mut [u8],
             glyphs: &mut [u16],
@@ -106,6 +110,7 @@ macro_rules! plan_function {
                     links_len: usize,
                     counts: *const u32,
                     table: u32,
+                    edition: u32,
                     walk: *mut u32,
                     walk_len: usize,
                     glyph_set: *mut u8,
@@ -132,6 +137,7 @@ macro_rules! plan_function {
                     links.len(),
                     counts.as_ptr(),
                     table,
+                    edition,
                     walk.as_mut_ptr(),
                     walk.len(),
                     glyph_set.as_mut_ptr(),

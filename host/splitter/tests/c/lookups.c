@@ -57,9 +57,12 @@ static void make(store *s) {
     s->counts[2] = 7;
 }
 
+/* By which every call cuts. */
+static uint32_t edition = SPLITTER_EDITION_1;
+
 static uint32_t split(store *s, size_t data_len, uint32_t list, uint32_t table, scratch *w, uint32_t *tables, uint32_t *count) {
     memset(w, 0xA5, sizeof *w);
-    return split_in_lookups(s->data, data_len, s->objects, 22, s->links, 48, s->counts, list, table,
+    return split_in_lookups(s->data, data_len, s->objects, 22, s->links, 48, s->counts, list, table, edition,
         w->walk, 14, w->glyph_set, SPLITTER_GLYPH_SET, w->glyphs, 3, w->classes, 3, w->cuts, 3,
         tables, 1, count);
 }
@@ -85,7 +88,7 @@ static void expect_entered(const store *s, const scratch *w) {
     expect_row(s->links + 44, 10, 14, 7);
 }
 
-int main(void) {
+static void entered(void) {
     store s;
     static scratch w;
     uint32_t tables[1] = {77}, count = 77;
@@ -99,5 +102,28 @@ int main(void) {
     EXPECT(count == 1 && tables[0] == 7);
     expect_entered(&s, &w);
     free(s.data);
+}
+
+/* Another edition is refused before all else. */
+static void other_editions(void) {
+    static const uint32_t others[] = {0, 3, UINT32_MAX};
+    store s;
+    static scratch w;
+    uint32_t tables[1] = {77}, count = 77;
+    make(&s);
+    for (size_t i = 0; i < sizeof others / sizeof *others; i++) {
+        edition = others[i];
+        EXPECT(split(&s, 0, 99, 99, &w, tables, &count) == SPLITTER_BAD_EDITION);
+        EXPECT(count == 0 && tables[0] == 77 && s.counts[1] == 7);
+        EXPECT(all_zero(&w, offsetof(scratch, behind)) && w.behind == 0xA5A5);
+    }
+    free(s.data);
+}
+
+int main(void) {
+    entered();
+    other_editions();
+    edition = SPLITTER_EDITION_2;
+    entered();
     return failures != 0;
 }

@@ -55,16 +55,19 @@ static int is_zero(const scratch *s) {
     return all_zero(s, offsetof(scratch, behind)) && s->behind == 0xA5A5;
 }
 
+/* By which every call cuts. */
+static uint32_t edition = SPLITTER_EDITION_1;
+
 static uint32_t plan(const store *s, uint32_t table, scratch *w, uint16_t *places, size_t places_len, uint32_t *count) {
     memset(w, 0xA5, sizeof *w);
-    return cut_plan(s->data, USED + ROOM, s->objects, 16, s->links, 20, s->counts, table,
+    return cut_plan(s->data, USED + ROOM, s->objects, 16, s->links, 20, s->counts, table, edition,
         w->walk, 10, w->glyph_set, SPLITTER_GLYPH_SET, w->glyphs, 3, w->classes, 3, w->cuts, 3,
         places, places_len, count);
 }
 
 static uint32_t split(store *s, uint32_t table, scratch *w, uint32_t *tables, size_t tables_len, uint32_t *count) {
     memset(w, 0xA5, sizeof *w);
-    return split_pairpos(s->data, USED + ROOM, s->objects, 16, s->links, 20, s->counts, table,
+    return split_pairpos(s->data, USED + ROOM, s->objects, 16, s->links, 20, s->counts, table, edition,
         w->walk, 10, w->glyph_set, SPLITTER_GLYPH_SET, w->glyphs, 3, w->classes, 3, w->cuts, 3,
         tables, tables_len, count);
 }
@@ -137,15 +140,36 @@ static void refusals(void) {
     free(s.data);
 }
 
+/* Another edition is refused before all else. */
+static void other_editions(void) {
+    static const uint32_t others[] = {0, 3, UINT32_MAX};
+    store s;
+    scratch w;
+    uint16_t place = 77;
+    uint32_t table = 77, count;
+    make(&s);
+    s.counts[2] = UINT32_MAX;
+    for (size_t i = 0; i < sizeof others / sizeof *others; i++) {
+        edition = others[i];
+        count = 77;
+        EXPECT(plan(&s, 99, &w, &place, 0, &count) == SPLITTER_BAD_EDITION && count == 0 && is_zero(&w));
+        count = 77;
+        EXPECT(split(&s, 99, &w, &table, 0, &count) == SPLITTER_BAD_EDITION && count == 0 && is_zero(&w));
+    }
+    EXPECT(place == 77 && table == 77);
+    edition = SPLITTER_EDITION_1;
+    free(s.data);
+}
+
 /* Nothing is lent but the counts. */
 static void null_pointers(void) {
     uint32_t counts[3] = {0, 0, 0}, count = 77, found = 77;
     int32_t values[16], zeros[16] = {0};
-    EXPECT(split_pairpos(NULL, 0, NULL, 0, NULL, 0, counts, 0, NULL, 0, NULL, 0, NULL, 0, NULL, 0,
+    EXPECT(split_pairpos(NULL, 0, NULL, 0, NULL, 0, counts, 0, edition, NULL, 0, NULL, 0, NULL, 0, NULL, 0,
         NULL, 0, NULL, 0, &count) == SPLITTER_NO_TABLE);
     EXPECT(count == 0);
     count = 77;
-    EXPECT(cut_plan(NULL, 0, NULL, 0, NULL, 0, counts, 0, NULL, 0, NULL, 0, NULL, 0, NULL, 0,
+    EXPECT(cut_plan(NULL, 0, NULL, 0, NULL, 0, counts, 0, edition, NULL, 0, NULL, 0, NULL, 0, NULL, 0,
         NULL, 0, NULL, 0, &count) == SPLITTER_NO_TABLE);
     EXPECT(count == 0);
     EXPECT(read_pair(NULL, 0, NULL, 0, NULL, 0, counts, 0, 0, 0, values, &found) == SPLITTER_NO_TABLE);
@@ -153,6 +177,11 @@ static void null_pointers(void) {
 }
 
 int main(void) {
+    a_split();
+    refusals();
+    other_editions();
+    null_pointers();
+    edition = SPLITTER_EDITION_2;
     a_split();
     refusals();
     null_pointers();

@@ -183,3 +183,25 @@ pub fn one_set(set: &[u16]) -> Store {
     store.add_link(0, 10, set).unwrap();
     store
 }
+
+/// W10: pair sets of 100, 30,000 and 20,000 bytes, objects 2 to 4, of which the first two also lead to one
+/// object of 40,000 bytes. By edition 1 it is cut at 1 alone, by edition 2 at 1 and 2.
+pub fn w10() -> Store {
+    let mut store = format1(&[100, 30_000, 20_000]);
+    let shared = store.add_object(&[0; 40_000]).unwrap();
+    for set in [2, 3] {
+        store.add_link(set, 2, shared).unwrap();
+    }
+    store
+}
+
+/// Two glyphs, of which the first has a pair set that with what it leads to has this length, and the second an
+/// empty slot.
+pub fn empty_slot(length: usize) -> Store {
+    let mut store = format1_slots(2);
+    let set = store.add_object(&bytes(&[1, 70, 1])).unwrap();
+    let rest = store.add_object(&vec![0; length - 6]).unwrap();
+    store.add_link(0, 10, set).unwrap();
+    store.add_link(set, 0, rest).unwrap();
+    store
+}

@@ -53,8 +53,9 @@ impl Name {
     /// The options that it takes, each by its long name, and whether a value follows.
     pub const fn options(self) -> &'static [(&'static str, bool)] {
         match self {
-            Self::Sample => &[("--output", true), ("--ascii", false)],
+            Self::Sample => &[("--edition", true), ("--output", true), ("--ascii", false)],
             Self::Plan => &[
+                ("--edition", true),
                 ("--marks", false),
                 ("--all", false),
                 ("--ascii", false),
@@ -62,6 +63,7 @@ impl Name {
                 ("--quiet", false),
             ],
             Self::Split => &[
+                ("--edition", true),
                 ("--output", true),
                 ("--in-place", false),
                 ("--check", false),
@@ -73,7 +75,12 @@ impl Name {
             ],
             Self::Pair | Self::Mark => &[("--json", false), ("--quiet", false)],
             Self::Dump => &[("--marks", false), ("--all", false), ("--json", false)],
-            Self::Font => &[("--output", true), ("--json", false), ("--quiet", false)],
+            Self::Font => &[
+                ("--edition", true),
+                ("--output", true),
+                ("--json", false),
+                ("--quiet", false),
+            ],
             Self::Help => &[],
         }
     }

@@ -14,6 +14,7 @@ fn plan_of(file: &str, table: Option<u32>) -> Plan {
     Plan {
         file: file.into(),
         table,
+        edition: Edition::First,
         marks: false,
         all: false,
         ascii: false,
@@ -24,6 +25,7 @@ fn plan_of(file: &str, table: Option<u32>) -> Plan {
 fn font_of(file: impl Into<PathBuf>, directory: Option<&str>) -> Request {
     Request::Font(Font {
         file: file.into(),
+        edition: Edition::First,
         directory: directory.map(PathBuf::from),
         form: Form::Text,
     })
@@ -34,6 +36,7 @@ fn requests() {
     let sample = |which, directory: Option<&str>| {
         Request::Sample(Sample {
             which,
+            edition: Edition::First,
             directory: directory.map(PathBuf::from),
             ascii: false,
         })
@@ -112,6 +115,43 @@ fn forms() {
     }
 }
 
+/// Tables are cut by the first edition, unless another one is asked for.
+#[test]
+fn editions() {
+    let edition = |words: &str| match of(words).unwrap() {
+        Request::Sample(request) => request.edition,
+        Request::Plan(request) => request.edition,
+        Request::Split(request) => request.plan.edition,
+        Request::Font(request) => request.edition,
+        request => panic!("{request:?}"),
+    };
+    for words in ["", "sample", "plan f", "split f -o g", "font f"] {
+        assert_eq!(edition(words), Edition::First, "{words}");
+    }
+    for command in ["sample", "plan f", "split f -o g", "font f"] {
+        let words = format!("{command} --edition 1");
+        assert_eq!(edition(&words), Edition::First, "{words}");
+        for words in ["--edition 2", "--edition=2"] {
+            let words = format!("{command} {words}");
+            assert_eq!(edition(&words), Edition::Second, "{words}");
+        }
+        for other in [
+            "0",
+            "3",
+            "02",
+            "+1",
+            "0x1",
+            "4294967295",
+            "second",
+            "--json",
+        ] {
+            let words = format!("{command} --edition {other}");
+            let what = format!("wants the edition to be 1 or 2, and \"{other}\" is neither");
+            assert!(of(&words).unwrap_err().contains(&what), "{words}");
+        }
+    }
+}
+
 #[test]
 fn splits() {
     let split = |output, check| {
@@ -158,7 +198,11 @@ fn words_that_cannot_be_followed() {
         ("plan f -o g", "has no option -o"),
         ("plan f --all=1", "takes --all without a value"),
         ("split f", "add -o FILE"),
-        ("split f -o", "wants a name behind -o"),
+        ("split f -o", "wants something behind -o"),
+        ("plan f --edition", "wants something behind --edition"),
+        ("pair f 0 1 --edition 2", "has no option --edition"),
+        ("dump f --edition 2", "has no option --edition"),
+        ("plan f --edition 1 --edition 2", "takes --edition once"),
         ("split f -o g -o h", "takes -o once"),
         ("split f -o g --in-place", "not both"),
         ("split f -o - --json", "not both"),

@@ -2,6 +2,7 @@
 
 use super::Name;
 use crate::command::{failure::Failure, screen::Form, text::shown_word};
+use splitter::Edition;
 use std::{collections::VecDeque, ffi::OsString};
 
 /// The words behind a command: its options, and the rest in order.
@@ -59,7 +60,7 @@ impl Words {
         let value = match (takes_value, value) {
             (true, value) => match value.or_else(|| words.next()) {
                 Some(value) => Some(value),
-                None => return Err(self.failure(&format!("wants a name behind {word}"))),
+                None => return Err(self.failure(&format!("wants something behind {word}"))),
             },
             (false, Some(_)) => {
                 return Err(self.failure(&format!("takes {word} without a value")));
@@ -79,6 +80,21 @@ impl Words {
     pub fn value(&self, name: &str) -> Option<OsString> {
         let mut options = self.options.iter();
         options.find(|(option, _)| *option == name)?.1.clone()
+    }
+
+    /// By which edition tables are cut: the first, unless another one is asked for.
+    pub fn edition(&self) -> Result<Edition, Failure> {
+        let Some(word) = self.value("--edition") else {
+            return Ok(Edition::First);
+        };
+        let mut editions = Edition::ALL.into_iter();
+        let named = editions.find(|edition| word == *edition.number().to_string());
+        named.ok_or_else(|| {
+            let word = shown_word(&word);
+            self.failure(&format!(
+                "wants the edition to be 1 or 2, and \"{word}\" is neither"
+            ))
+        })
     }
 
     /// What is written to standard output.

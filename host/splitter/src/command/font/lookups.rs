@@ -99,7 +99,10 @@ impl Lookup<'_> {
         let subtables = self.subtables.iter().map(|&(number, seen)| {
             Json::object([
                 ("subtable", number.into()),
-                ("tables", seen.cuts.as_ref().ok().map(|_| seen.tables()).into()),
+                (
+                    "tables",
+                    seen.cuts.as_ref().ok().map(|_| seen.tables()).into(),
+                ),
             ])
         });
         Json::object([

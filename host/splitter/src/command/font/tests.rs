@@ -8,7 +8,9 @@ use made::{collection, extension, font, gpos, lookup, mark_table, pair_rows, pai
 use splitter::{
     cut_plan,
     font::{lengths, load_pairs, Bytes, Lookups},
-    read_pair, PairValues, Store, Values,
+    read_pair,
+    Edition::First,
+    PairValues, Store, Values,
 };
 
 /// All that the command does with a font but to show it.
@@ -17,7 +19,7 @@ fn look_into(file: &[u8]) -> Result<Vec<Seen>, FontError> {
 }
 
 fn look_into_by(file: &[u8], scratch: &mut Scratch) -> Result<Vec<Seen>, FontError> {
-    Ok(see_all(&FontTables::read(file)?, scratch))
+    Ok(see_all(&FontTables::read(file)?, First, scratch))
 }
 
 /// The store of the only subtable of a lookup for pairs.
@@ -198,7 +200,7 @@ fn cut_places_on_disk() {
     }
     let store = load(table).unwrap();
     assert_eq!(store.view().counts(), [16 + 10 + 3 * 29_998, 5, 4]);
-    let cuts = cut_plan(&store, TABLE, &mut Scratch::new());
+    let cuts = cut_plan(&store, TABLE, First, &mut Scratch::new());
     assert_eq!(cuts, Ok(vec![2]));
 }
 
@@ -220,7 +222,7 @@ fn lengths_of_devices() {
 /// Parts that cannot be read are loaded as they are, and refused by name.
 #[test]
 fn refusals() {
-    let refusal = |store: Store| cut_plan(&store, 0, &mut Scratch::new()).unwrap_err();
+    let refusal = |store: Store| cut_plan(&store, 0, First, &mut Scratch::new()).unwrap_err();
     let no_coverage = words(&[1, 0, 4, 0, 0]);
     assert_eq!(refusal(load(no_coverage).unwrap()), Refusal::BadParts);
     let odd_coverage = words(&[1, 10, 4, 0, 0, 7]);

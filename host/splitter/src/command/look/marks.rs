@@ -1,7 +1,7 @@
 //! The bytes of a mark table's classes.
 
-use super::{parts::word, reach::Reach, Look, BASE_COVERAGE, COVERAGE, PARTS};
-use splitter::StoreRef;
+use super::{parts::word, Look, BASE_COVERAGE, COVERAGE, PARTS};
+use splitter::{Reach, StoreRef};
 use std::ops::Range;
 
 /// What a mark class has: bytes in the arrays, and the anchors of its marks and of its column.

@@ -2,7 +2,7 @@
 
 use super::*;
 use crate::command::look::Look;
-use splitter::{read_mark, read_pair, Kind, Lookup};
+use splitter::{read_mark, read_pair, Edition::First, Kind, Lookup};
 
 /// Each is cut into three tables at least, and has devices and objects that are shared. The pieces are
 /// all of the table.
@@ -14,7 +14,7 @@ fn samples_are_worth_a_look() {
         assert_eq!(view.object(table.number).unwrap()[..2], [0, format]);
         let cuts = table
             .kind
-            .cut_plan(&store, table.number, &mut Scratch::new());
+            .cut_plan(&store, table.number, First, &mut Scratch::new());
         let cuts = cuts.unwrap();
         assert!(cuts.len() >= 2);
         let look = Look::at(view, table).unwrap();

@@ -4,6 +4,7 @@ use super::made::{extension, gpos, lookup, mark_table, pair_sets, words};
 use splitter::{
     cut_plan_marks,
     font::{lengths, load_marks, Bytes, FontError, Lookups, TABLE},
+    Edition::First,
     Kind, Scratch, Store,
 };
 
@@ -90,7 +91,7 @@ fn cut_places_on_disk() {
     }
     let store = load_one(table).unwrap();
     assert_eq!(store.view().counts(), [36 + 2 * 40_016, 9, 8]);
-    let cuts = cut_plan_marks(&store, TABLE, &mut Scratch::new());
+    let cuts = cut_plan_marks(&store, TABLE, First, &mut Scratch::new());
     assert_eq!(cuts, Ok(vec![1]));
 }
 

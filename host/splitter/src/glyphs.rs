@@ -1,9 +1,9 @@
 //! The glyphs of coverages and class definitions that can be read.
 
-use super::word;
+use crate::table::word;
 
 /// The covered glyphs.
-pub(super) fn covered(coverage: &[u8]) -> Vec<usize> {
+pub(crate) fn covered(coverage: &[u8]) -> Vec<usize> {
     let count = word(coverage, 2);
     match word(coverage, 0) {
         1 => (0..count).map(|at| word(coverage, 4 + 2 * at)).collect(),
@@ -14,7 +14,7 @@ pub(super) fn covered(coverage: &[u8]) -> Vec<usize> {
 }
 
 /// The classes of these glyphs, which ascend.
-pub(super) fn classes(class_def: &[u8], glyphs: &[usize]) -> Vec<usize> {
+pub(crate) fn classes(class_def: &[u8], glyphs: &[usize]) -> Vec<usize> {
     match word(class_def, 0) {
         1 => {
             let (first, count) = (word(class_def, 2), word(class_def, 4));
