@@ -8,6 +8,7 @@ use Rattle.call_rules.specs.declared.Answer.the-variants.{BadEdition, Unsound, 
 use Rattle.call_rules.specs.declared.Settings.{Settings}
 use Rattle.call_rules.specs.Answers.{firstCase}
 use Rattle.call_rules.specs.Settings.{known, settingsCases}
+use Rattle.pair_plan.proofs.Deciding.{tested-known}
 use Rattle.lookup_rules.specs.Listed.{badList}
 use Rattle.lookup_rules.specs.Calls.{listCases}
 use Rattle.lookup_checks.specs.Objects.{ObjectInUse}
@@ -21,7 +22,7 @@ module _ (how : Settings) (s : Store) (l t : ℕ) {a : Bool} (d : a ≡ known ho
 
   module _ (k : not a ≡ false) {b : Bool} (e : b ≡ sound s) where
     is-known : known how ≡ true
-    is-known = sym d ∙ not-false a k
+    is-known = tested-known how d k
 
     pub unsound : not b ≡ true → listingAs (Settled Unsound) ≡ firstCase (listCases how s l t)
     unfolding listCases settingsCases firstCase

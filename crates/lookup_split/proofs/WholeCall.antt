@@ -23,7 +23,7 @@ use Rattle.pair_plan.specs.declared.Plan.{Plan}
 use Rattle.pair_plan.specs.declared.Decision.{Decision}
 use Rattle.pair_plan.specs.declared.Decision.the-variants.{Cut}
 use Rattle.pair_plan.specs.Decided.{decidedAs}
-use Rattle.pair_split.proofs.Fronts.{scratch-long, none-applies, places-planned, ready}
+use Rattle.pair_split.proofs.Fronts.{scratch-long, none-applies, at-places, ready}
 use Rattle.lookup_rules.specs.Calls.{listCases, enterCases, lookupCases, lookupCall, enterAhead}
 use Rattle.lookup_split.specs.Deciding.{ListDecided}
 use Rattle.lookup_split.specs.Entering.{enteredThen, WellLinked, GoodList, EnterReady}
@@ -70,7 +70,7 @@ module _ {how : Settings} {s : Store} {l t : ℕ} {w : Scratch} {d : Decision} {
   unfolding lookupCall lookupCases
   call-goes list =
       let cs : List ℕ = cutPlaces how s t in
-      ap (λ (places : List ℕ). enteredThen s l t places w list) (places-planned (x .decided p y) y)
+      ap (λ (places : List ℕ). enteredThen s l t places w list) (at-places (x .decided p y) y)
       ∙ sym
       (ap (λ (o : Option ℕ). settle o s list w (enterAhead s l t cs w list))
       (first-skip (listCases how s l t ++ cutCases how s t w) (enterCases s l t cs list) none-decided))

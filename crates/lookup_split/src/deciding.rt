@@ -51,7 +51,7 @@ fn ask_list(
     Listing::Good
 }
 
-// Decides for a list and a table of any store, by any settings and with any scratch.
+// Decides for a list and a table of any store, with any scratch.
 pub fn decide(
     data: &[u8],
     objects: &[u32],

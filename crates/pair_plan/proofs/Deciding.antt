@@ -1,4 +1,5 @@
--- What the decision rests on: the checks that need no scratch, the cut places, whether there is a cycle, and whether the pair sets are sorted. Assumes nothing.
+-- What the decision rests on: whether the settings are known, the checks that need no scratch, the cut places, whether there is a cycle, and whether the pair sets
+-- are sorted. Assumes nothing.
 use Prim.Native.Nat.{ℕ, _*_, _≤_, _<_}
 use mathlib.Core.Path.{_≡_, sym, ap, subst, _∙_}
 use mathlib.Core.Bool.{Bool, true, false, cond, not}
@@ -42,15 +43,21 @@ use Rattle.pair_checks.proofs.Called.{lookedLast, called, Passed, passed}
 settles : (how : Settings) (s : Store) (t : ℕ) (w : Scratch) (a : Answer) {gs ks cuts : List ℕ} → firstCase (cutCases how s t w) ≡ some (number a) → Decided how s t w (Settled a) gs ks cuts
 settles how s t w a e = record { answers = e; plans = λ p x. let z : _≡_ {A = ℕ} 0 1 = cc in absurd (omega arith) }
 
-pub decided-unknown : {how : Settings} {s : Store} {t : ℕ} {w : Scratch} {gs ks cuts : List ℕ} → known how ≡ false → Decided how s t w (Settled BadEdition) gs ks cuts
-unfolding cutCases
-decided-unknown {how} {s} {t} {w} h =
-    settles how s t w BadEdition
-    (first-stands (settingsCases how ++ readCases s t) _ 12 (first-stands (settingsCases how) (readCases s t) 12 (unknown-refused how h)))
-
 pub decided-settled : {how : Settings} → known how ≡ true → (s : Store) (t : ℕ) (w : Scratch) {x : Checked} {a : Answer} {gs ks cuts : List ℕ}
     → checkedAs x ≡ calledOf s t (lengthsOf w) → x ≡ Checked.Settled a → Decided how s t w (Settled a) gs ks cuts
 decided-settled {how} h s t w {a = a} e y = settles how s t w a (called s t w how h ∙ ap (λ (x : ℕ ⊎ PairTable). lookedLast x (onCycle s t) (setsSorted s t)) (sym e ∙ ap checkedAs y))
+
+-- ---- 12
+
+module _ (how : Settings) {b : Bool} (e : b ≡ known how) where
+  pub tested-known : not b ≡ false → known how ≡ true
+  tested-known h = sym e ∙ not-false b h
+
+  pub decided-unknown : not b ≡ true → {s : Store} {t : ℕ} {w : Scratch} {gs ks cuts : List ℕ} → Decided how s t w (Settled BadEdition) gs ks cuts
+  unfolding cutCases
+  decided-unknown h {s} {t} {w} =
+      let refused = unknown-refused how (sym e ∙ not-true b h) in
+      settles how s t w BadEdition (first-stands (settingsCases how ++ readCases s t) _ 12 (first-stands (settingsCases how) (readCases s t) 12 refused))
 
 -- ---- the cuts, and what is asked behind them
 

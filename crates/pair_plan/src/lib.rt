@@ -121,7 +121,7 @@ pub fn decide_cuts(
     settle_cuts(data, objects, links, counts, table, plan, walk)
 }
 
-// Decides for a table of a store that is known to be sound, by known settings and with any scratch.
+// Decides for a table of a store that is known to be sound, with any scratch.
 pub fn decide_sound(
     data: &[u8],
     objects: &[u32],
@@ -169,7 +169,7 @@ pub fn decide_sound(
     }
 }
 
-// Decides for a table of any store, by any settings and with any scratch.
+// Decides for a table of any store, with any scratch.
 pub fn decide(
     data: &[u8],
     objects: &[u32],

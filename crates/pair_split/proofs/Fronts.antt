@@ -66,9 +66,8 @@ module _ {how : Settings} {s : Store} {t : ℕ} {w : Scratch} {d : Decision} {gs
   pub none-applies : firstCase (cutCases how s t w) ≡ none
   none-applies = x .answers ∙ ap decidedAs y
 
-  -- the plan's cuts are the table's places
-  pub places-planned : part cuts 0 (p .cuts) ≡ cutPlaces how s t
-  places-planned = placed-front (k .cut .placed)
+  pub at-places : part cuts 0 (p .cuts) ≡ cutPlaces how s t
+  at-places = placed-front (k .cut .placed)
 
   many : p .table .glyphs ≡ length (glyphsOf s t)
   many = k .opens .glyphs
@@ -92,7 +91,7 @@ module _ {how : Settings} {s : Store} {t : ℕ} {w : Scratch} {d : Decision} {gs
       let (room, few) = planned-few octets k in
       record {
         opens = k .opens;
-        places = subst (Places (shape s t .count)) (sym places-planned) (table-cuts how s t);
+        places = subst (Places (shape s t .count)) (sym at-places) (table-cuts how s t);
         few = few;
         cut-room = room;
         glyph-room = omega (arith, many, long .glyphs);

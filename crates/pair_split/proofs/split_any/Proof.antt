@@ -11,7 +11,7 @@ use Rattle.pair_rules.specs.Table.{cutPlaces}
 use Rattle.pair_rules.specs.Written.{needed, splitStore, newTables}
 use Rattle.pair_rules.specs.Calls.{cutCases, lastCases, splitCases, splitUnless, splitCall}
 use Rattle.pair_plan.specs.Decided.{decidedAs}
-use Rattle.pair_split.proofs.Fronts.{none-applies, places-planned, ready}
+use Rattle.pair_split.proofs.Fronts.{none-applies, at-places, ready}
 use Rattle.pair_split.proofs.split_any.Statement.{statement}
 use Rattle.pair_split.proofs.split_any.Tie as tie
 
@@ -70,7 +70,7 @@ returns-2 c =
     let s = lent (a .«data» .now) (a .objects .now) (a .links .now) (a .counts .now) in
     let planned = split .before .before .before .before .before .before .before .before .before .before .before .decision2 .given .1 in
     split .split-planned .ensures w
-    ∙ ap (λ (cs : List ℕ). splitUnless (lastCases s (a .table) cs (a .new-tables .now)) s (a .table) cs w (a .new-tables .now)) (places-planned (decided .decide .ensures) planned)
+    ∙ ap (λ (cs : List ℕ). splitUnless (lastCases s (a .table) cs (a .new-tables .now)) s (a .table) cs w (a .new-tables .now)) (at-places (decided .decide .ensures) planned)
     ∙ call-goes s (a .new-tables .now) (needed s (a .table)) (splitStore s (a .table)) (newTables s (a .table)) (cutPlaces (a .settings) s (a .table)) (cutCases (a .settings) s (a .table) w) w
     (none-applies (decided .decide .ensures) planned)
 

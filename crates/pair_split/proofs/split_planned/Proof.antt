@@ -20,12 +20,12 @@ use Rattle.pair_split.proofs.split_planned.Tie as tie
 abbrev store : tie.Start → Store
 store c = let a = c .args in lent (a .«data» .now) (a .objects .now) (a .links .now) (a .counts .now)
 
--- the plan's cuts, and how many they are
+-- the places, at the front of what is lent
 abbrev places : tie.Start → List ℕ
 places c = part (c .args .cuts .now) 0 (c .args .plan .cuts)
 
-count : (c : tie.Start) → c .args .plan .cuts ≡ length (places c)
-count c = sym (front-long (c .args .cuts .now) (c .args .plan .cuts) (c .pre .cut-room))
+counted : (c : tie.Start) → c .args .plan .cuts ≡ length (places c)
+counted c = sym (front-long (c .args .cuts .now) (c .args .plan .cuts) (c .pre .cut-room))
 
 returns : tie.Need-returns
 unfolding lastCases
@@ -33,7 +33,7 @@ returns c =
     let start = c .before .before .before .before .before .before .before .before in
     let a = start .args in
     let s = store start in
-    nothing s (a .new-tables .now) (needed s (a .table)) (splitStore s (a .table)) (newTables s (a .table)) (places start) (count start) (c .if1 .taken)
+    nothing s (a .new-tables .now) (needed s (a .table)) (splitStore s (a .table)) (newTables s (a .table)) (places start) (counted start) (c .if1 .taken)
 
 split-at-requires : tie.Need-split-at-requires
 split-at-requires c κs =
@@ -49,7 +49,7 @@ returns-2 c =
     let start = some .before .before .before .before .before .before .before .before in
     let a = start .args in
     let s = store start in
-    refused s (a .new-tables .now) (needed s (a .table)) (splitStore s (a .table)) (newTables s (a .table)) (places start) (count start) (some .if1 .left) refl (split .split-at .ensures)
+    refused s (a .new-tables .now) (needed s (a .table)) (splitStore s (a .table)) (newTables s (a .table)) (places start) (counted start) (some .if1 .left) refl (split .split-at .ensures)
     (not-true _ (c .before .if2 .taken)) (c .number-of .ensures)
 
 returns-3 : tie.Need-returns-3
@@ -60,7 +60,7 @@ returns-3 c =
     let start = some .before .before .before .before .before .before .before .before in
     let a = start .args in
     let s = store start in
-    carried s (a .new-tables .now) (needed s (a .table)) (splitStore s (a .table)) (newTables s (a .table)) (places start) (count start) (some .if1 .left) refl (split .split-at .ensures)
+    carried s (a .new-tables .now) (needed s (a .table)) (splitStore s (a .table)) (newTables s (a .table)) (places start) (counted start) (some .if1 .left) refl (split .split-at .ensures)
     (not-false _ (c .if2 .left)) (tables-many s (a .table) (places start))
 
 pub split-planned-spec : {M : Type 1} → statement M
