@@ -18,8 +18,8 @@ use Rattle.call_rules.specs.Needs.{lentOf, countsOf, roomShort}
 use Rattle.call_room.proofs.Together.{Holds, holds}
 use Rattle.pair_rules.specs.Written.{needsOf, needed, splitStore, newTables}
 use Rattle.pair_checks.specs.declared.PairTable.{PairTable}
-use Rattle.pair_split.specs.Carrying.{CutAt}
-use Rattle.pair_split.proofs.SplitAt.{tables-many}
+use Rattle.pair_carrying.specs.Carrying.{CutAt}
+use Rattle.pair_carrying.proofs.Counting.{tables-many}
 use Rattle.pair_after.proofs.Ready.{objects-then}
 use Rattle.pair_after.proofs.SoundThen.{sound-then}
 use Rattle.pair_after.proofs.Taken.{links-then, links-length}

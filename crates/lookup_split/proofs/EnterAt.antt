@@ -20,7 +20,7 @@ use Rattle.call_rules.proofs.Room.{sound-in-use}
 use Rattle.call_room.proofs.Together.{first-held}
 use Rattle.pair_rules.specs.Written.{newTables}
 use Rattle.pair_checks.specs.declared.PairTable.{PairTable}
-use Rattle.pair_split.proofs.SplitAt.{tables-many}
+use Rattle.pair_carrying.proofs.Counting.{tables-many}
 use Rattle.lookup_rules.specs.Listed.{rewritten}
 use Rattle.lookup_rules.specs.Rewritable.{EachRewritable}
 use Rattle.lookup_rules.specs.Written.{countsFit}

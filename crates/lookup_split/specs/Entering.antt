@@ -17,8 +17,8 @@ use Rattle.pair_rules.specs.Table.{allAtSlots}
 use Rattle.pair_rules.specs.Written.{needed, splitStore, newTables}
 use Rattle.pair_checks.specs.declared.PairTable.{PairTable}
 use Rattle.pair_plan.specs.declared.Plan.{Plan}
-use Rattle.pair_split.specs.Arranging.{Arranging}
-use Rattle.pair_split.specs.Carrying.{Carrying}
+use Rattle.pair_carrying.specs.Arranging.{Arranging}
+use Rattle.pair_carrying.specs.Carrying.{Carrying}
 use Rattle.pair_split.specs.Splitting.{PlanReady}
 use Rattle.lookup_rules.specs.Listed.{rewritten, badList}
 use Rattle.lookup_rules.specs.Calls.{enterCases, enterAhead}

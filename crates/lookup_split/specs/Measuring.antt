@@ -6,8 +6,8 @@ use lib.ListN.{length}
 use Rattle.store_rules.specs.Store.{Store}
 use Rattle.pair_rules.specs.Written.{newTables}
 use Rattle.pair_checks.specs.declared.PairTable.{PairTable}
-use Rattle.pair_split.specs.Arranging.{Arranging}
-use Rattle.pair_split.specs.Measuring.{Measured}
+use Rattle.pair_carrying.specs.Arranging.{Arranging}
+use Rattle.pair_carrying.specs.Measuring.{Measured}
 use Rattle.lookup_rules.specs.Rewritable.{EachRewritable}
 use Rattle.lookup_rules.specs.Written.{countsFit, lookupsNeed}
 use Rattle.lookup_split.specs.declared.measuring.Measures.{Measures}

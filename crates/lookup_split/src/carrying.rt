@@ -4,7 +4,7 @@ use lookup_links::enter_links;
 use lookup_links::redirect_links;
 use lookup_new_objects::write_lookups;
 use pair_checks::PairTable;
-use pair_split::carrying::carry_out;
+use pair_carrying::carrying::carry_out;
 ghost use mathlib.Core.Path.{_≡_};
 ghost use Rattle.folds.specs.Moments.{came, left};
 ghost use Rattle.store_rules.specs.Moments.{storeCame, storeLeft, storeNow};

@@ -2,7 +2,7 @@
 use call_rules::Needs;
 use lookup_new_objects::measure;
 use pair_checks::PairTable;
-use pair_split::measuring::measure_needs;
+use pair_carrying::measuring::measure_needs;
 ghost use Rattle.folds.specs.Moments.{came, left};
 ghost use Rattle.store_rules.specs.Moments.{storeCameWith, storeNowWith};
 ghost use Rattle.lookup_split.specs.Measuring.{MeasuringAll, MeasuredAll};

@@ -8,7 +8,7 @@ ghost use mathlib.Core.List.{List};
 ghost use Prim.Native.Nat.{ℕ};
 ghost use Rattle.store_rules.specs.Store.{lent};
 ghost use Rattle.folds.specs.Moments.{came, left};
-ghost use Rattle.pair_split.specs.Arranging.{Arranging, Arranges};
+ghost use Rattle.pair_carrying.specs.Arranging.{Arranging, Arranges};
 
 // Arranges the covered glyphs of a table that is cut; in format 2 they come in the order of their classes.
 pub fn arrange(

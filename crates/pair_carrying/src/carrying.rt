@@ -17,7 +17,7 @@ ghost use Rattle.ot_layouts.specs.Numbers.{be16};
 ghost use Rattle.store_rules.specs.Store.{lent};
 ghost use Rattle.folds.specs.Moments.{came, left};
 ghost use Rattle.store_rules.specs.Moments.{storeCame, storeLeft, storeNow};
-ghost use Rattle.pair_split.specs.Carrying.{Keeping, Writing, Wrote, Carrying, CutAt};
+ghost use Rattle.pair_carrying.specs.Carrying.{Keeping, Writing, Wrote, Carrying, CutAt};
 
 // The table keeps its first `count` items: its count is set, and it ends with them.
 fn keep_items(data: &mut [u8], objects: &mut [u32], table: u32, layout: Layout, count: u16)

@@ -3,9 +3,9 @@ use mathlib.Core.Path.{_∙_}
 use borrow.Author.Needs.{needs}
 use Prim.Native.Nat.{_*_}
 use native.Mathlib.Omega.{arith}
-use Rattle.pair_split.proofs.Keeping.{write-asked, keep-ready, keep-wrote}
-use Rattle.pair_split.proofs.carrying.write_bytes.Statement.{statement}
-use Rattle.pair_split.proofs.carrying.write_bytes.Tie as tie
+use Rattle.pair_carrying.proofs.Keeping.{write-asked, keep-ready, keep-wrote}
+use Rattle.pair_carrying.proofs.carrying.write_bytes.Statement.{statement}
+use Rattle.pair_carrying.proofs.carrying.write_bytes.Tie as tie
 
 cast-head : tie.Need-cast-head
 cast-head c = omega (arith, c .slice-known3 .given (2 * c .before .before .before .before .before .before .args .table))

@@ -1,8 +1,8 @@
 -- `arranging::arrange` meets its contract: by format, places are numbered, or the glyphs of each table are put in order. Assumes nothing.
 use borrow.Author.Needs.{needs}
-use Rattle.pair_split.proofs.ByTable.{coverage-inside, cover-ready, few-places, by-place, by-class, by-parts}
-use Rattle.pair_split.proofs.arranging.arrange.Statement.{statement}
-use Rattle.pair_split.proofs.arranging.arrange.Tie as tie
+use Rattle.pair_carrying.proofs.ByTable.{coverage-inside, cover-ready, few-places, by-place, by-class, by-parts}
+use Rattle.pair_carrying.proofs.arranging.arrange.Statement.{statement}
+use Rattle.pair_carrying.proofs.arranging.arrange.Tie as tie
 
 bytes-of-requires : tie.Need-bytes-of-requires
 bytes-of-requires c κs =

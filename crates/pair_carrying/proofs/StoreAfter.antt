@@ -23,8 +23,8 @@ use Rattle.ot_pairpos.specs.Layout.{layoutOf, shapeWith}
 use Rattle.pair_checks.specs.declared.PairTable.{PairTable}
 use Rattle.pair_links.specs.Parting.{Parting, LinksSplit}
 use Rattle.pair_links.proofs.Callers.{Decided, part-asked, part-answered}
-use Rattle.pair_split.specs.Carrying.{Writing, Wrote, Carrying, CutAt}
-use Rattle.pair_split.proofs.Counting.{header-few}
+use Rattle.pair_carrying.specs.Carrying.{Writing, Wrote, Carrying, CutAt}
+use Rattle.pair_carrying.proofs.Counting.{header-few}
 
 module _ {s : Store} {t : ℕ} {p : PairTable} {n : Needs} {gs ks cs list : List ℕ} (k : Carrying s t p n gs ks cs list) where
   abbrev sh : Shape

@@ -12,8 +12,8 @@ ghost use Rattle.ot_layouts.specs.PairPos.{shapeOf};
 ghost use Rattle.ot_pairpos.specs.Layout.{layoutOf};
 ghost use Rattle.store_rules.specs.Store.{lent};
 ghost use Rattle.pair_rules.specs.Written.{needsOf};
-ghost use Rattle.pair_split.specs.Arranging.{Arranging};
-ghost use Rattle.pair_split.specs.Measuring.{MeasuresNeeds};
+ghost use Rattle.pair_carrying.specs.Arranging.{Arranging};
+ghost use Rattle.pair_carrying.specs.Measuring.{MeasuresNeeds};
 
 // What so many cuts need, whose new objects take `bytes` bytes: the kept table gets no new object for itself.
 fn needs_of(layout: Layout, cuts: usize, bytes: usize) -> Needs

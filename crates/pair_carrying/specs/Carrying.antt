@@ -19,7 +19,7 @@ use Rattle.pair_checks.specs.declared.PairTable.{PairTable}
 use Rattle.pair_checks.specs.Opens.{Opens}
 use Rattle.cut_parts.specs.Order.{Arranged}
 use Rattle.store_object_rows.specs.Objects.{ObjectsRoom}
-use Rattle.pair_split.specs.Measuring.{Measured}
+use Rattle.pair_carrying.specs.Measuring.{Measured}
 
 -- the table has a row and so many items, and lies within the data
 pub record Keeping (d o : List ℕ) (t : ℕ) (l : Layout) (n : ℕ) : Type 0 where

@@ -23,7 +23,7 @@ use Rattle.store_object_rows.specs.Objects.{ObjectsRoom, Written, Behind}
 use Rattle.store_object_rows.proofs.Behind.{written-behind, change-first, set-first, same-head}
 use Rattle.pair_new_objects.specs.Objects.{Old, objectsOf}
 use Rattle.pair_new_objects.proofs.Stored.{stored-plan, stored-old, stored-room, stored-written}
-use Rattle.pair_split.specs.Carrying.{Keeping, Writing, Wrote}
+use Rattle.pair_carrying.specs.Carrying.{Keeping, Writing, Wrote}
 
 module _ (s : Store) (t : ℕ) (gs ks cs : List ℕ) where
   -- what `write_objects` asks

@@ -1,9 +1,9 @@
 -- `measuring::needs_of` meets its contract. Assumes nothing.
 use borrow.Author.Needs.{needs}
 use native.Mathlib.Omega.{arith}
-use Rattle.pair_split.proofs.Counting.{few-objects, few-links, counted}
-use Rattle.pair_split.proofs.measuring.needs_of.Statement.{statement}
-use Rattle.pair_split.proofs.measuring.needs_of.Tie as tie
+use Rattle.pair_carrying.proofs.Counting.{few-objects, few-links, counted}
+use Rattle.pair_carrying.proofs.measuring.needs_of.Statement.{statement}
+use Rattle.pair_carrying.proofs.measuring.needs_of.Tie as tie
 
 mul-t5 : tie.Need-mul-t5
 mul-t5 c = let start = c .before in omega (arith, few-objects (start .args .layout .own) (start .args .cuts) (start .pre .0) (start .pre .1))

@@ -8,7 +8,7 @@ use Rattle.pair_rules.specs.Table.{shape, entriesOf}
 use Rattle.pair_rules.specs.Written.{needed}
 use Rattle.pair_checks.specs.declared.PairTable.{PairTable}
 use Rattle.cut_parts.specs.Order.{Arranged}
-use Rattle.pair_split.specs.Arranging.{Arranging}
+use Rattle.pair_carrying.specs.Arranging.{Arranging}
 
 -- each table has its entries in the lists, and n is what the split at cs needs
 pub record Measured (s : Store) (t : ℕ) (gs ks cs : List ℕ) (n : Needs) : Type 0 where

@@ -6,14 +6,16 @@ use native.Mathlib.Omega.{arith}
 use native.Mathlib.Nat.{mul-le-mul-right}
 use lib.ListN.{length}
 use Rattle.folds.specs.Lists.{Bytes}
+use Rattle.folds.proofs.Folds.{length-upto}
 use Rattle.ot_layouts.specs.PairPos.{shapeOf, shape1, shape2, heads}
 use Rattle.ot_layouts.proofs.Shapes.{by-format}
 use Rattle.ot_pairpos.specs.declared.Layout.{Layout}
 use Rattle.ot_pairpos.specs.Layout.{layoutOf}
 use Rattle.store_rules.specs.Store.{Store, bytesOf}
+use Rattle.store_rules.specs.Appended.{newNumber}
 use Rattle.call_rules.specs.declared.Needs.{Needs}
 use Rattle.pair_rules.specs.Table.{shape, entriesOf}
-use Rattle.pair_rules.specs.Written.{needObjects, needLinks, needsOf, needed}
+use Rattle.pair_rules.specs.Written.{perTable, needObjects, needLinks, needsOf, needed, newTables}
 use Rattle.pair_checks.specs.declared.PairTable.{PairTable}
 use Rattle.pair_checks.specs.Opens.{Opens}
 use Rattle.cut_parts.specs.Order.{Arranged}
@@ -22,8 +24,8 @@ use Rattle.pair_new_objects.specs.Planned.{PlannedParts}
 use Rattle.pair_new_objects.specs.Objects.{Length}
 use Rattle.pair_new_objects.proofs.Planning.{cuts-few}
 use Rattle.pair_new_objects.proofs.Stored.{stored-plan, stored-length}
-use Rattle.pair_split.specs.Arranging.{Arranging}
-use Rattle.pair_split.specs.Measuring.{Measured}
+use Rattle.pair_carrying.specs.Arranging.{Arranging}
+use Rattle.pair_carrying.specs.Measuring.{Measured}
 
 -- ---- so many objects and links
 
@@ -43,6 +45,11 @@ counted l k bytes b is = λ i. record { objects = (is i .own + 1) * k + is i .ow
 pub header-few : (b : List ℕ) → (layoutOf b .own ≤ 2) × (layoutOf b .heads ≤ 3)
 unfolding layoutOf shape1 shape2
 header-few b = by-format (λ sh. (length (sh .own) ≤ 2) × (length (heads sh) ≤ 3)) b (λ e. (omega arith, omega arith)) (λ e. (omega arith, omega arith))
+
+-- a new table for each cut
+pub tables-many : (s : Store) (t : ℕ) (cs : List ℕ) → length (newTables s t cs) ≡ length cs
+unfolding newTables
+tables-many s t cs = length-upto (newNumber s (perTable (shape s t))) (length cs)
 
 -- ---- of an open table
 

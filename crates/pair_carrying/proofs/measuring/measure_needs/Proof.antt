@@ -1,8 +1,8 @@
 -- `measuring::measure_needs` meets its contract: the glyphs are arranged, and the new objects counted from them. Assumes nothing.
 use borrow.Author.Needs.{needs}
-use Rattle.pair_split.proofs.Counting.{planned, needs-asked, measured}
-use Rattle.pair_split.proofs.measuring.measure_needs.Statement.{statement}
-use Rattle.pair_split.proofs.measuring.measure_needs.Tie as tie
+use Rattle.pair_carrying.proofs.Counting.{planned, needs-asked, measured}
+use Rattle.pair_carrying.proofs.measuring.measure_needs.Statement.{statement}
+use Rattle.pair_carrying.proofs.measuring.measure_needs.Tie as tie
 
 new-length-requires : tie.Need-new-length-requires
 new-length-requires c κs =

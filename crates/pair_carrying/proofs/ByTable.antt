@@ -26,7 +26,7 @@ use Rattle.glyph_parts.proofs.Parts.{part-inside}
 use Rattle.glyph_parts.proofs.Covered.{glyphs-ready, glyphs-written}
 use Rattle.cut_parts.specs.Order.{Sorted, PartsOrdered, Arranged}
 use Rattle.pair_new_objects.proofs.Stored.{arranged1, sorted2, arranged2}
-use Rattle.pair_split.specs.Arranging.{Arranging}
+use Rattle.pair_carrying.specs.Arranging.{Arranging}
 
 pub same-count : {s : Store} {t : ℕ} {p : PairTable} → Opens s t p → p .layout .count ≡ shape s t .count
 unfolding layoutOf

@@ -1,9 +1,9 @@
 -- `carrying::carry_out` meets its contract: bytes, object rows, link rows and list are those after the split, and then the counts. Assumes nothing.
 use borrow.Author.Needs.{needs}
 use native.Mathlib.Omega.{arith}
-use Rattle.pair_split.proofs.StoreAfter.{own-few, bytes-asked, links-asked, links-then, list-asked, bytes-fit, objects-fit, links-fit, carried}
-use Rattle.pair_split.proofs.carrying.carry_out.Statement.{statement}
-use Rattle.pair_split.proofs.carrying.carry_out.Tie as tie
+use Rattle.pair_carrying.proofs.StoreAfter.{own-few, bytes-asked, links-asked, links-then, list-asked, bytes-fit, objects-fit, links-fit, carried}
+use Rattle.pair_carrying.proofs.carrying.carry_out.Statement.{statement}
+use Rattle.pair_carrying.proofs.carrying.carry_out.Tie as tie
 
 write-bytes-requires : tie.Need-write-bytes-requires
 write-bytes-requires c κs =

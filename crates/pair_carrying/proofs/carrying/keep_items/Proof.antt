@@ -1,7 +1,7 @@
 -- `carrying::keep_items` meets its contract: the count is set, and the table shortened. Assumes nothing.
 use borrow.Author.Needs.{needs}
-use Rattle.pair_split.proofs.carrying.keep_items.Statement.{statement}
-use Rattle.pair_split.proofs.carrying.keep_items.Tie as tie
+use Rattle.pair_carrying.proofs.carrying.keep_items.Statement.{statement}
+use Rattle.pair_carrying.proofs.carrying.keep_items.Tie as tie
 
 returns : tie.Need-returns
 returns c =
