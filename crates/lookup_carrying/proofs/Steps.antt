@@ -12,8 +12,8 @@ use Rattle.lookup_rules.specs.Written.{newLookups, newLookupLinks}
 use Rattle.lookup_links.specs.Entering.{Entering, EnteringLent}
 use Rattle.lookup_links.specs.Redirecting.{Redirecting}
 use Rattle.lookup_new_objects.specs.Written.{WritingLookups}
-use Rattle.lookup_split.specs.Lookups.{LookupsReady}
-use Rattle.lookup_split.proofs.Entered.{many-new}
+use Rattle.lookup_carrying.specs.Lookups.{LookupsReady}
+use Rattle.lookup_carrying.proofs.Entered.{many-new}
 
 module _ {d o ls : List ℕ} (c : List ℕ) {t : ℕ} {us marks ps : List ℕ} (k : LookupsReady (lent d o ls c) t us marks ps) where
   abbrev s : Store

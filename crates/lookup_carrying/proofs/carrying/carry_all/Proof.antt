@@ -1,8 +1,8 @@
 -- `carrying::carry_all` meets its contract: the split, and then the lookups, which find the new tables at the front of the list. Assumes nothing.
 use borrow.Author.Needs.{needs}
-use Rattle.lookup_split.proofs.CarryAll.{front-fits, front-is, lookups-asked, all-carried}
-use Rattle.lookup_split.proofs.carrying.carry_all.Statement.{statement}
-use Rattle.lookup_split.proofs.carrying.carry_all.Tie as tie
+use Rattle.lookup_carrying.proofs.CarryAll.{front-fits, front-is, lookups-asked, all-carried}
+use Rattle.lookup_carrying.proofs.carrying.carry_all.Statement.{statement}
+use Rattle.lookup_carrying.proofs.carrying.carry_all.Tie as tie
 
 slice-reshare-prefix-enter-lookups : tie.Need-slice-reshare-prefix-enter-lookups
 slice-reshare-prefix-enter-lookups c =

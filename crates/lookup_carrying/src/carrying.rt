@@ -3,14 +3,14 @@ use call_rules::Needs;
 use lookup_links::enter_links;
 use lookup_links::redirect_links;
 use lookup_new_objects::write_lookups;
-use pair_checks::PairTable;
 use pair_carrying::carrying::carry_out;
+use pair_checks::PairTable;
 ghost use mathlib.Core.Path.{_≡_};
 ghost use Rattle.folds.specs.Moments.{came, left};
 ghost use Rattle.store_rules.specs.Moments.{storeCame, storeLeft, storeNow};
 ghost use Rattle.lookup_rules.specs.Written.{enteredStore};
-ghost use Rattle.lookup_split.specs.Entering.{CarryingAll, EnteredAt};
-ghost use Rattle.lookup_split.specs.Lookups.{LookupsReady};
+ghost use Rattle.lookup_carrying.specs.Carrying.{CarryingAll, EnteredAt};
+ghost use Rattle.lookup_carrying.specs.Lookups.{LookupsReady};
 
 // Writes the new lookups behind all that is in use, enters the new tables in them, and leads every link to an old one to its new one.
 fn enter_lookups(

@@ -11,8 +11,8 @@ use Rattle.call_rules.specs.Settings.{known, settingsCases}
 use Rattle.lookup_rules.specs.Listed.{badList}
 use Rattle.lookup_rules.specs.Calls.{listCases}
 use Rattle.lookup_checks.specs.Objects.{ObjectInUse}
-use Rattle.lookup_split.specs.declared.deciding.Listing.the-variants.{Good, Settled}
-use Rattle.lookup_split.specs.Deciding.{listingAs}
+use Rattle.lookup_plan.specs.declared.Listing.the-variants.{Good, Settled}
+use Rattle.lookup_plan.specs.Deciding.{listingAs}
 
 module _ (how : Settings) (s : Store) (l t : ℕ) {a : Bool} (d : a ≡ known how) where
   pub unknown : not a ≡ true → listingAs (Settled BadEdition) ≡ firstCase (listCases how s l t)

@@ -30,8 +30,8 @@ use Rattle.lookup_rules.proofs.Counts.{all-needed}
 use Rattle.lookup_after.proofs.Entering.{Entering, entering}
 use Rattle.lookup_after.proofs.NewLookups.{named, room, many-lookups}
 use Rattle.lookup_after.proofs.LookupsStay.{still-good, same-counts, same-lookups, same-links}
-use Rattle.lookup_split.specs.Entering.{allNeeded, CarryingAll, EnteredAt}
-use Rattle.lookup_split.specs.Lookups.{LookupsReady}
+use Rattle.lookup_carrying.specs.Carrying.{allNeeded, CarryingAll, EnteredAt}
+use Rattle.lookup_carrying.specs.Lookups.{LookupsReady}
 
 module _ {s : Store} {t : ℕ} {p : PairTable} {n : Needs} {gs ks cs list marks ps : List ℕ} (k : CarryingAll s t p n gs ks cs list marks ps) where
   -- the list, its lookups that are rewritten, and the new tables

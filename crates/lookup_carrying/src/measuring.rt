@@ -1,11 +1,11 @@
 // What a split and its lookups need beside what is in use, each by itself.
 use call_rules::Needs;
 use lookup_new_objects::measure;
-use pair_checks::PairTable;
 use pair_carrying::measuring::measure_needs;
+use pair_checks::PairTable;
 ghost use Rattle.folds.specs.Moments.{came, left};
 ghost use Rattle.store_rules.specs.Moments.{storeCameWith, storeNowWith};
-ghost use Rattle.lookup_split.specs.Measuring.{MeasuringAll, MeasuredAll};
+ghost use Rattle.lookup_carrying.specs.Measuring.{MeasuringAll, MeasuredAll};
 
 // What the split needs, what its lookups need, and whether none of these has more subtables than its count can say.
 pub struct Measures {

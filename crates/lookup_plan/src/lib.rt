@@ -1,4 +1,5 @@
 // What is decided before anything is written: the checks 12, 1, 2 and 9 of a lookup list and a table, and then all that a split asks of the table.
+// The Rust text, which enters no table in a lookup, has no counterpart of it.
 use call_rules::Answer;
 use call_rules::Settings;
 use call_rules::is_known;
@@ -12,7 +13,7 @@ ghost use Rattle.store_rules.specs.Moments.{storeCameWith};
 ghost use Rattle.call_rules.specs.Answers.{firstCase};
 ghost use Rattle.call_rules.specs.Moments.{scratchCame};
 ghost use Rattle.lookup_rules.specs.Calls.{listCases};
-ghost use Rattle.lookup_split.specs.Deciding.{listingAs, ListDecided};
+ghost use Rattle.lookup_plan.specs.Deciding.{listingAs, ListDecided};
 
 // What the checks of the list say: it is good, or the call has its answer.
 pub enum Listing {

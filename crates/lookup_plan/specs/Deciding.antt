@@ -13,8 +13,8 @@ use Rattle.pair_plan.specs.declared.Decision.{Decision}
 use Rattle.pair_plan.specs.declared.Decision.the-variants.{Cut}
 use Rattle.pair_plan.specs.Decided.{decidedAs, Decided}
 use Rattle.lookup_rules.specs.Calls.{listCases}
-use Rattle.lookup_split.specs.declared.deciding.Listing.{Listing}
-use Rattle.lookup_split.specs.declared.deciding.Listing.the-variants.{Good, Settled}
+use Rattle.lookup_plan.specs.declared.Listing.{Listing}
+use Rattle.lookup_plan.specs.declared.Listing.the-variants.{Good, Settled}
 
 -- the number of the answer where the call has one; none where the list is good
 abbrev pub listingAs : Listing → Option ℕ

@@ -20,9 +20,9 @@ use Rattle.pair_plan.specs.declared.Decision.{Decision}
 use Rattle.pair_plan.specs.declared.Decision.the-variants as Decision
 use Rattle.pair_plan.specs.Decided.{Decided}
 use Rattle.lookup_rules.specs.Calls.{listCases}
-use Rattle.lookup_split.specs.declared.deciding.Listing.{Listing}
-use Rattle.lookup_split.specs.declared.deciding.Listing.the-variants.{Good, Settled}
-use Rattle.lookup_split.specs.Deciding.{listingAs, ListDecided}
+use Rattle.lookup_plan.specs.declared.Listing.{Listing}
+use Rattle.lookup_plan.specs.declared.Listing.the-variants.{Good, Settled}
+use Rattle.lookup_plan.specs.Deciding.{listingAs, ListDecided}
 
 module _ (how : Settings) (s : Store) (l t : ℕ) {x : Listing} (e : listingAs x ≡ firstCase (listCases how s l t)) where
   pub list-settled : {a : Answer} → x ≡ Settled a → (w : Scratch) {gs ks cuts : List ℕ} → ListDecided how s l t w (Decision.Settled a) gs ks cuts

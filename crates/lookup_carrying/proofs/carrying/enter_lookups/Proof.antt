@@ -2,10 +2,10 @@
 use mathlib.Core.Path.{refl}
 use native.Mathlib.Omega.{arith}
 use borrow.Author.Needs.{needs}
-use Rattle.lookup_split.proofs.Entered.{entered}
-use Rattle.lookup_split.proofs.Steps.{write-asked, links-known, links-asked, bytes-fit, rows-fit, redirect-asked}
-use Rattle.lookup_split.proofs.carrying.enter_lookups.Statement.{statement}
-use Rattle.lookup_split.proofs.carrying.enter_lookups.Tie as tie
+use Rattle.lookup_carrying.proofs.Entered.{entered}
+use Rattle.lookup_carrying.proofs.Steps.{write-asked, links-known, links-asked, bytes-fit, rows-fit, redirect-asked}
+use Rattle.lookup_carrying.proofs.carrying.enter_lookups.Statement.{statement}
+use Rattle.lookup_carrying.proofs.carrying.enter_lookups.Tie as tie
 
 write-lookups-requires : tie.Need-write-lookups-requires
 write-lookups-requires c κs =

@@ -3,8 +3,8 @@ use borrow.Author.Needs.{needs}
 use Rattle.store_rules.specs.Store.{lent}
 use Rattle.pair_rules.specs.Written.{newTables}
 use Rattle.pair_carrying.proofs.Counting.{tables-many}
-use Rattle.lookup_split.proofs.measuring.measure_all.Statement.{statement}
-use Rattle.lookup_split.proofs.measuring.measure_all.Tie as tie
+use Rattle.lookup_carrying.proofs.measuring.measure_all.Statement.{statement}
+use Rattle.lookup_carrying.proofs.measuring.measure_all.Tie as tie
 
 measure-needs-requires : tie.Need-measure-needs-requires
 measure-needs-requires c κs =

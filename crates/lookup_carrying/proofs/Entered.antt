@@ -17,7 +17,7 @@ use Rattle.store_link_rows.specs.Copies.{Copied}
 use Rattle.store_link_rows.proofs.Links.{numbers-append}
 use Rattle.lookup_rules.specs.Written.{newSlots, newLookup, newLookups, newLookupLinks, redirected, enteredStore}
 use Rattle.lookup_links.specs.Redirecting.{linksIn}
-use Rattle.lookup_split.proofs.AllLinks.{all-in-use}
+use Rattle.lookup_carrying.proofs.AllLinks.{all-in-use}
 
 -- a write that covers one before it
 put-under : (d : List ℕ) (b : ℕ) (ys xs zs : List ℕ) → length xs ≡ b → length zs ≡ length ys → b + length ys ≤ length d

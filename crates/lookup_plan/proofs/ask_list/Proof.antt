@@ -1,9 +1,9 @@
--- `deciding::ask_list` meets its contract: 12, 1, 2 and 9 one after another. Assumes nothing.
+-- `lookup_plan::ask_list` meets its contract: 12, 1, 2 and 9 one after another. Assumes nothing.
 use Rattle.store_rules.specs.Store.{Store, lent}
 use borrow.Author.Needs.{needs}
-use Rattle.lookup_split.proofs.Asking.{unknown, unsound, no-table, no-list, list-used, bad-list, good-list}
-use Rattle.lookup_split.proofs.deciding.ask_list.Statement.{statement}
-use Rattle.lookup_split.proofs.deciding.ask_list.Tie as tie
+use Rattle.lookup_plan.proofs.Asking.{unknown, unsound, no-table, no-list, list-used, bad-list, good-list}
+use Rattle.lookup_plan.proofs.ask_list.Statement.{statement}
+use Rattle.lookup_plan.proofs.ask_list.Tie as tie
 
 -- the store, as it is lent
 abbrev store : tie.Start → Store

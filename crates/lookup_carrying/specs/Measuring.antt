@@ -10,7 +10,7 @@ use Rattle.pair_carrying.specs.Arranging.{Arranging}
 use Rattle.pair_carrying.specs.Measuring.{Measured}
 use Rattle.lookup_rules.specs.Rewritable.{EachRewritable}
 use Rattle.lookup_rules.specs.Written.{countsFit, lookupsNeed}
-use Rattle.lookup_split.specs.declared.measuring.Measures.{Measures}
+use Rattle.lookup_carrying.specs.declared.measuring.Measures.{Measures}
 
 -- the table can be cut at cs, and these lookups can be rewritten
 pub record MeasuringAll (s : Store) (t : ℕ) (p : PairTable) (gs ks cs ps : List ℕ) : Type 0 where

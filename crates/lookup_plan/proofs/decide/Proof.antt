@@ -1,10 +1,10 @@
--- `deciding::decide` meets its contract: by what the checks of the list decide, and then as for a split. Assumes nothing.
+-- `lookup_plan::decide` meets its contract: by what the checks of the list decide, and then as for a split. Assumes nothing.
 use Rattle.store_rules.specs.Store.{Store, lent}
 use Rattle.call_rules.specs.Scratch.{Scratch, scratchOf}
 use borrow.Author.Needs.{needs}
-use Rattle.lookup_split.proofs.ListDecided.{list-settled, known-sound, list-good}
-use Rattle.lookup_split.proofs.deciding.decide.Statement.{statement}
-use Rattle.lookup_split.proofs.deciding.decide.Tie as tie
+use Rattle.lookup_plan.proofs.ListDecided.{list-settled, known-sound, list-good}
+use Rattle.lookup_plan.proofs.decide.Statement.{statement}
+use Rattle.lookup_plan.proofs.decide.Tie as tie
 
 -- the store and the scratch, as they are lent
 abbrev store : tie.Start → Store
