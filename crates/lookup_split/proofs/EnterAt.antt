@@ -20,14 +20,15 @@ use Rattle.call_rules.proofs.Room.{sound-in-use}
 use Rattle.call_room.proofs.Together.{first-held}
 use Rattle.pair_rules.specs.Written.{newTables}
 use Rattle.pair_checks.specs.declared.PairTable.{PairTable}
-use Rattle.pair_split.proofs.SplitAt.{tables-many}
+use Rattle.pair_carrying.proofs.Counting.{tables-many}
 use Rattle.lookup_rules.specs.Listed.{rewritten}
 use Rattle.lookup_rules.specs.Rewritable.{EachRewritable}
 use Rattle.lookup_rules.specs.Written.{countsFit}
 use Rattle.lookup_rules.proofs.Listed.{Named, each-named, rewritten-few}
-use Rattle.lookup_split.specs.declared.measuring.Measures.{Measures}
-use Rattle.lookup_split.specs.Measuring.{MeasuringAll, MeasuredAll}
-use Rattle.lookup_split.specs.Entering.{allNeeded, roomCases, enteredUnless, EnteredAt, Placing, CarryingAll}
+use Rattle.lookup_carrying.specs.declared.measuring.Measures.{Measures}
+use Rattle.lookup_carrying.specs.Measuring.{MeasuringAll, MeasuredAll}
+use Rattle.lookup_carrying.specs.Carrying.{allNeeded, EnteredAt, CarryingAll}
+use Rattle.lookup_split.specs.Entering.{roomCases, enteredUnless, Placing}
 
 module _ {b o l : List ℕ} (c : List ℕ) {t : ℕ} {p : PairTable} {gs ks cs marks ps : List ℕ} (k : Placing (lent b o l c) t p gs ks cs marks ps) where
   abbrev s : Store

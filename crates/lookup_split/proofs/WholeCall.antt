@@ -25,8 +25,9 @@ use Rattle.pair_plan.specs.declared.Decision.the-variants.{Cut}
 use Rattle.pair_plan.specs.Decided.{decidedAs}
 use Rattle.pair_split.proofs.Fronts.{scratch-long, none-applies, at-places, ready}
 use Rattle.lookup_rules.specs.Calls.{listCases, enterCases, lookupCases, lookupCall, enterAhead}
-use Rattle.lookup_split.specs.Deciding.{ListDecided}
-use Rattle.lookup_split.specs.Entering.{enteredThen, WellLinked, GoodList, EnterReady}
+use Rattle.lookup_plan.specs.Deciding.{ListDecided}
+use Rattle.lookup_carrying.specs.Carrying.{WellLinked, GoodList}
+use Rattle.lookup_split.specs.Entering.{enteredThen, EnterReady}
 
 -- ---- a plan is ready to be carried out
 

@@ -1,4 +1,1 @@
-pub mod Deciding
-pub mod Lookups
-pub mod Measuring
 pub mod Entering

@@ -1,19 +1,15 @@
 // New tables of a split entered in the lookups that list the old one: decided, carried out, and the scratch cleared. It calls the parts of a split of a pair
 // table, and puts its own in between.
-pub mod carrying;
-pub mod deciding;
-pub mod measuring;
-
 use call_room::is_short_for_both;
 use call_rules::Answer;
 use call_rules::Lent;
 use call_rules::Settings;
 use call_rules::number_of;
 use call_scratch::clear_scratch;
-use carrying::carry_all;
-use deciding::decide;
+use lookup_carrying::carrying::carry_all;
+use lookup_carrying::measuring::measure_all;
 use lookup_checks::order::order_lookups;
-use measuring::measure_all;
+use lookup_plan::decide;
 use pair_checks::PairTable;
 use pair_plan::Decision;
 use pair_plan::Plan;

@@ -1,7 +1,2 @@
-mod ByTable
-mod Counting
-mod StillOpen
-mod LinksAfter
-mod StoreAfter
 mod SplitAt
 mod Fronts

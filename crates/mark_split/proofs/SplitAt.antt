@@ -13,8 +13,8 @@ use Rattle.call_rules.proofs.Room.{sound-in-use}
 use Rattle.call_lists.proofs.Split.{asked, not-carried, has-carried}
 use Rattle.mark_rules.specs.Written.{perTable, newTables}
 use Rattle.mark_checks.specs.declared.MarkTable.{MarkTable}
-use Rattle.mark_split.specs.Measuring.{Measured}
-use Rattle.mark_split.specs.Carrying.{Carrying, CutAt}
+use Rattle.mark_carrying.specs.Measuring.{Measured}
+use Rattle.mark_carrying.specs.Carrying.{Carrying, CutAt}
 use Rattle.mark_split.specs.Splitting.{Cuttable, CutIfRoom}
 
 -- a new table for each cut

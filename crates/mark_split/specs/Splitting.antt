@@ -13,7 +13,7 @@ use Rattle.call_lists.specs.Split.{CarriedIfRoom}
 use Rattle.mark_checks.specs.declared.MarkTable.{MarkTable}
 use Rattle.mark_checks.specs.Opens.{Opens}
 use Rattle.mark_plan.specs.declared.Plan.{Plan}
-use Rattle.mark_split.specs.Arranging.{Arranging}
+use Rattle.mark_carrying.specs.Arranging.{Arranging}
 
 -- at any places: there is room for all covered glyphs, and the links stand at slots
 pub record Cuttable (s : Store) (t : ℕ) (p : MarkTable) (gs ks set cs : List ℕ) : Type 0 where

@@ -1,21 +1,17 @@
 // The split of a mark-to-base table of any store: decided, carried out, and the scratch cleared. The counterpart of `split_markbasepos` in the
 // Rust text, graph/markbasepos_graph.rs.
-pub mod arranging;
-pub mod carrying;
-pub mod measuring;
-
 use call_room::is_short;
 use call_rules::Answer;
 use call_rules::Lent;
 use call_rules::Settings;
 use call_rules::number_of;
 use call_scratch::clear_scratch;
-use carrying::carry_out;
+use mark_carrying::carrying::carry_out;
+use mark_carrying::measuring::measure_needs;
 use mark_checks::MarkTable;
 use mark_plan::Decision;
 use mark_plan::Plan;
 use mark_plan::decide;
-use measuring::measure_needs;
 ghost use mathlib.Core.Path.{_≡_};
 ghost use Rattle.folds.specs.Lists.{part};
 ghost use Rattle.folds.specs.Moments.{came, left};

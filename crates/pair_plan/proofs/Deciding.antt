@@ -22,7 +22,7 @@ use Rattle.call_rules.proofs.KnownSettings.{unknown-refused}
 use Rattle.pair_rules.specs.Table.{setsSorted}
 use Rattle.pair_rules.specs.Calls.{readCases, cutCases}
 use Rattle.store_walk.specs.Marks.{Begun}
-use Rattle.pair_points.specs.Filled.{TellsCycle}
+use Rattle.pair_items.specs.Filled.{TellsCycle}
 use Rattle.pair_checks.specs.declared.PairTable.{PairTable}
 use Rattle.pair_checks.specs.declared.Checked.{Checked}
 use Rattle.pair_checks.specs.declared.Checked.the-variants as Checked

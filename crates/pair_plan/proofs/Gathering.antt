@@ -25,7 +25,7 @@ use Rattle.pair_checks.specs.declared.PairTable.{PairTable}
 use Rattle.pair_checks.specs.Opens.{Opens}
 use Rattle.pair_checks.proofs.Refusals.{format-two}
 use Rattle.glyph_class_parts.specs.ClassParts.{OrderedByClass}
-use Rattle.pair_points.proofs.Callers.{sorted}
+use Rattle.pair_row_points.proofs.Callers.{sorted}
 use Rattle.pair_plan.specs.Cutting.{Gathering}
 use Rattle.glyph_parts.proofs.Parts.{part-inside}
 use Rattle.glyph_parts.proofs.Covered.{glyphs-ready, glyphs-written}

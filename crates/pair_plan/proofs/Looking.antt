@@ -26,12 +26,12 @@ use Rattle.pair_checks.specs.declared.PairTable.{PairTable}
 use Rattle.pair_checks.proofs.Refusals.{format-one, format-two}
 use Rattle.pair_checks.specs.Opens.{Opens}
 use Rattle.glyph_set.specs.GlyphSet.{Empty}
-use Rattle.pair_points.specs.declared.«table_info».TableInfo.{TableInfo}
-use Rattle.pair_points.specs.Filled.{Described, Unseen, TellsCycle}
+use Rattle.pair_items.specs.declared.«table_info».TableInfo.{TableInfo}
+use Rattle.pair_items.specs.Filled.{Described, Unseen, TellsCycle}
 use Rattle.cut_filling.specs.Filling.{Placed}
-use Rattle.pair_points.specs.Format1.{Ready1}
-use Rattle.pair_points.specs.Format2.{Ready2}
-use Rattle.pair_points.proofs.Callers.{described}
+use Rattle.pair_set_points.specs.Format1.{Ready1}
+use Rattle.pair_row_points.specs.Format2.{Ready2}
+use Rattle.pair_items.proofs.Callers.{described}
 use Rattle.pair_plan.specs.Cutting.{HasLength, infoOf, TableWalked, Looked1, Looked2}
 
 -- ---- an open table

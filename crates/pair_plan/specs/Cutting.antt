@@ -12,10 +12,10 @@ use Rattle.glyph_sort.specs.Pairs.{keysOf, besideOf}
 use Rattle.store_walk.specs.Marks.{Begun}
 use Rattle.pair_checks.specs.declared.PairTable.{PairTable}
 use Rattle.pair_checks.specs.Opens.{Opens}
-use Rattle.pair_points.specs.declared.«table_info».TableInfo.{TableInfo}
+use Rattle.pair_items.specs.declared.«table_info».TableInfo.{TableInfo}
 use Rattle.glyph_sort.specs.ByClass.{classPairs}
 use Rattle.glyph_class_parts.specs.ClassParts.{OrderedByClass}
-use Rattle.pair_points.specs.Filled.{TellsCycle}
+use Rattle.pair_items.specs.Filled.{TellsCycle}
 use Rattle.cut_filling.specs.Filling.{Placed}
 
 -- ---- the object beside the items

@@ -31,7 +31,7 @@ ghost use Rattle.call_rules.specs.Moments.{scratchCame, scratchLeft, scratchNow
 ghost use Rattle.pair_checks.specs.Checked.{checkedAs};
 ghost use Rattle.pair_checks.specs.Called.{calledOf};
 ghost use Rattle.pair_checks.specs.Opens.{Opens};
-ghost use Rattle.pair_points.specs.Filled.{TellsCycle};
+ghost use Rattle.pair_items.specs.Filled.{TellsCycle};
 ghost use Rattle.call_lists.specs.Handed.{handed, handedBy};
 ghost use Rattle.pair_plan.specs.Decided.{settledBy, decidedAs, Decided, plannedCuts, HandingOut};
 

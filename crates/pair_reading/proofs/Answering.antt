@@ -21,11 +21,13 @@ use Rattle.pair_checks.specs.declared.PairTable.{PairTable}
 use Rattle.pair_checks.specs.declared.Checked.{Checked}
 use Rattle.pair_checks.specs.declared.Checked.the-variants.{Open, Settled}
 use Rattle.pair_checks.specs.Opens.{Opens}
-use Rattle.pair_reading.specs.Reading.{spotFound, asPair, pairOutcome, pairChecked, ValueRecord, valuePair}
-use Rattle.pair_reading.specs.declared.PairAnswer.{PairAnswer}
-use Rattle.pair_reading.specs.declared.Spot.{Spot}
-use Rattle.pair_reading.specs.declared.Spot.the-variants as Spot
-use Rattle.pair_reading.proofs.Spots.{Whole, same-size, spot-whole}
+use Rattle.pair_values.specs.Values.{asPair, ValueRecord, valuePair}
+use Rattle.pair_spots.specs.Spots.{spotFound}
+use Rattle.pair_reading.specs.Reading.{pairOutcome, pairChecked}
+use Rattle.pair_values.specs.declared.PairAnswer.{PairAnswer}
+use Rattle.pair_spots.specs.declared.Spot.{Spot}
+use Rattle.pair_spots.specs.declared.Spot.the-variants as Spot
+use Rattle.pair_spots.proofs.Spots.{Whole, same-size, spot-whole}
 use Rattle.pair_reading.proofs.Checking.{pair-refusals}
 
 -- ---- the pair at a spot

@@ -1,7 +1,2 @@
-pub mod Widths
-pub mod Spots
-pub mod Filled
-pub mod Fields
-pub mod Finding
-pub mod Checking
-pub mod Answering
+mod Checking
+mod Answering

@@ -1,15 +1,14 @@
 // The pair reading: what a table says of two glyphs, or the first of the checks 1 to 5 and 11 that refuses it.
-mod find_spot;
-mod values;
-
 use call_rules::Answer;
 use call_rules::number_of;
-use find_spot::spot_of;
 use pair_checks::Checked;
 use pair_checks::PairTable;
 use pair_checks::check_table;
 use pair_sets::linked::sets_sorted;
-use values::pair_at;
+use pair_spots::Spot;
+use pair_spots::spot_of;
+use pair_values::PairAnswer;
+use pair_values::pair_at;
 ghost use mathlib.Core.Path.{_≡_};
 ghost use mathlib.Core.Bool.{true};
 ghost use mathlib.Core.List.{_++_};
@@ -19,20 +18,8 @@ ghost use Rattle.pair_rules.specs.Calls.{reported, pairCall};
 ghost use Rattle.pair_checks.specs.Checked.{checkedAs, checkedOf};
 ghost use Rattle.folds.specs.Moments.{left};
 ghost use Rattle.store_rules.specs.Moments.{storeCameWith, storeNowWith};
-ghost use Rattle.pair_reading.specs.Reading.{asPair, pairOutcome, pairChecked};
-
-// Where a pair's values stand: in which object, and from which byte on.
-pub enum Spot {
-    At { object: u32, at: usize },
-    Nowhere,
-}
-
-// A pair as it is answered: whether there is one, and eight numbers for each glyph.
-pub struct PairAnswer {
-    pub found: bool,
-    pub first: [i32; 8],
-    pub second: [i32; 8],
-}
+ghost use Rattle.pair_values.specs.Values.{asPair};
+ghost use Rattle.pair_reading.specs.Reading.{pairOutcome, pairChecked};
 
 // No pair: sixteen zeros.
 fn no_pair() -> PairAnswer

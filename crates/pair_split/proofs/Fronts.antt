@@ -31,7 +31,7 @@ use Rattle.pair_plan.specs.declared.Decision.{Decision}
 use Rattle.pair_plan.specs.declared.Decision.the-variants.{Cut}
 use Rattle.pair_plan.specs.Decided.{decidedAs, Planned, Decided}
 use Rattle.pair_plan.proofs.Counting.{planned-few}
-use Rattle.pair_split.specs.Arranging.{Arranging}
+use Rattle.pair_carrying.specs.Arranging.{Arranging}
 use Rattle.pair_split.specs.Splitting.{PlanReady}
 
 -- what was put at the front

@@ -1,6 +1,2 @@
-mod Keeping
-mod Counting
-mod StoreAfter
-mod ByTable
-pub mod SplitAt
+mod SplitAt
 pub mod Fronts

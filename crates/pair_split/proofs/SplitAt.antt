@@ -3,26 +3,16 @@ use Prim.Native.Nat.{ℕ}
 use mathlib.Core.Path.{_≡_, _∙_}
 use mathlib.Core.Bool.{Bool, true, false}
 use mathlib.Core.List.{List}
-use lib.ListN.{length}
-use Rattle.folds.proofs.Folds.{length-upto}
 use Rattle.store_rules.specs.Store.{Store, lent}
-use Rattle.store_rules.specs.Appended.{newNumber}
 use Rattle.call_rules.specs.declared.Needs.{Needs}
 use Rattle.call_rules.specs.Needs.{InUse, lentOf, shortBy}
 use Rattle.call_rules.proofs.Room.{sound-in-use}
 use Rattle.call_lists.proofs.Split.{asked, not-carried, has-carried}
-use Rattle.pair_rules.specs.Table.{shape}
-use Rattle.pair_rules.specs.Written.{perTable, newTables}
 use Rattle.pair_checks.specs.declared.PairTable.{PairTable}
-use Rattle.pair_split.specs.Arranging.{Arranging}
-use Rattle.pair_split.specs.Measuring.{Measured}
-use Rattle.pair_split.specs.Carrying.{Carrying, CutAt}
+use Rattle.pair_carrying.specs.Arranging.{Arranging}
+use Rattle.pair_carrying.specs.Measuring.{Measured}
+use Rattle.pair_carrying.specs.Carrying.{Carrying, CutAt}
 use Rattle.pair_split.specs.Splitting.{CutIfRoom}
-
--- a new table for each cut
-pub tables-many : (s : Store) (t : ℕ) (cs : List ℕ) → length (newTables s t cs) ≡ length cs
-unfolding newTables
-tables-many s t cs = length-upto (newNumber s (perTable (shape s t))) (length cs)
 
 module _ {b r l : List ℕ} (c : List ℕ) {t : ℕ} {p : PairTable} {gs ks cs : List ℕ} (k : Arranging (lent b r l c) t p gs ks cs) (list : List ℕ) where
   abbrev s : Store

@@ -1,4 +1,1 @@
-pub mod Arranging
-pub mod Measuring
-pub mod Carrying
 pub mod Splitting

@@ -1,17 +1,13 @@
 // The split of a table of any store: decided, carried out, and the scratch cleared. The counterpart of `split_pairpos` in the Rust text, and of
 // what `split_format1` and `split_format2` do once they have their cuts.
-pub mod arranging;
-pub mod carrying;
-pub mod measuring;
-
 use call_room::is_short;
 use call_rules::Answer;
 use call_rules::Lent;
 use call_rules::Settings;
 use call_rules::number_of;
 use call_scratch::clear_scratch;
-use carrying::carry_out;
-use measuring::measure_needs;
+use pair_carrying::carrying::carry_out;
+use pair_carrying::measuring::measure_needs;
 use pair_checks::PairTable;
 use pair_plan::Decision;
 use pair_plan::Plan;
@@ -24,7 +20,7 @@ ghost use Rattle.folds.specs.Lists.{part};
 ghost use Rattle.folds.specs.Moments.{came, left};
 ghost use Rattle.store_rules.specs.Moments.{storeCame, storeLeft, storeNow};
 ghost use Rattle.call_rules.specs.Moments.{scratchCame, scratchLeft};
-ghost use Rattle.pair_split.specs.Arranging.{Arranging};
+ghost use Rattle.pair_carrying.specs.Arranging.{Arranging};
 ghost use Rattle.pair_split.specs.Splitting.{PlanReady, CutIfRoom};
 
 // Splits a table at any places that ascend within it, if there is room, and says whether there was. The lists have their exact lengths.

@@ -1,7 +1,7 @@
 -- `mark_split::split_at` meets its contract: the needs are measured, and there is room for them or not. Assumes nothing.
 use native.Mathlib.Omega.{arith}
 use borrow.Author.Needs.{needs}
-use Rattle.mark_split.proofs.ByTable.{marks-room}
+use Rattle.mark_carrying.proofs.ByTable.{marks-room}
 use Rattle.mark_split.proofs.SplitAt.{in-use, no-room, can-carry, carried}
 use Rattle.mark_split.proofs.split_at.Statement.{statement}
 use Rattle.mark_split.proofs.split_at.Tie as tie

@@ -6,7 +6,7 @@ use lib.IntN.{pos}
 use lib.ListN.{getD, length}
 use mir.Syntax.{w32}
 use mir.ValLaws.{toZ-ofZ}
-use Rattle.pair_reading.proofs.Filled.{Filled, unfilled, fill, full, of-first, of-second, both-full}
+use Rattle.pair_values.proofs.Filled.{Filled, unfilled, fill, full, of-first, of-second, both-full}
 use borrow.Author.Needs.{needs}
 use Rattle.pair_reading.proofs.both.Statement.{statement}
 use Rattle.pair_reading.proofs.both.Tie as tie

@@ -11,8 +11,8 @@ use Rattle.store_rules.specs.Store.{Store, lent}
 use Rattle.call_lists.proofs.Split.{nothing, refused, carried}
 use Rattle.pair_rules.specs.Written.{needed, splitStore, newTables}
 use Rattle.pair_rules.specs.Calls.{lastCases}
+use Rattle.pair_carrying.proofs.Counting.{tables-many}
 use Rattle.pair_split.proofs.Fronts.{fronts-lent}
-use Rattle.pair_split.proofs.SplitAt.{tables-many}
 use Rattle.pair_split.proofs.split_planned.Statement.{statement}
 use Rattle.pair_split.proofs.split_planned.Tie as tie
 

@@ -1,0 +1,4 @@
+mod AllLinks
+mod Entered
+mod Steps
+mod CarryAll

@@ -1,0 +1,5 @@
+pub mod ByTable
+mod Counting
+mod StillOpen
+mod LinksAfter
+mod StoreAfter

@@ -1,0 +1,3 @@
+pub mod Arranging
+pub mod Measuring
+pub mod Carrying

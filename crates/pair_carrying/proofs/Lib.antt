@@ -1,0 +1,4 @@
+mod Keeping
+pub mod Counting
+mod StoreAfter
+mod ByTable

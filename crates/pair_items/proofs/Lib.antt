@@ -1,0 +1,3 @@
+pub mod ItemSizes
+pub mod Turns
+pub mod Callers

@@ -1,4 +1,0 @@
-pub mod Measuring
-pub mod Filled
-pub mod Format1
-pub mod Format2

@@ -1,0 +1,2 @@
+mod ClassRows
+pub mod Callers

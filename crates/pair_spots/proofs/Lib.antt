@@ -1,0 +1,3 @@
+mod Widths
+pub mod Spots
+mod Finding
