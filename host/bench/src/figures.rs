@@ -2,7 +2,7 @@
 
 use crate::{
     input::{Input, Shape},
-    timing::{Samples, Sides},
+    timing::{Editions, Samples, Sides},
 };
 use differential::{generate::large::Order, lend::Need};
 use std::time::Duration;
@@ -21,8 +21,8 @@ pub struct Figures {
     pub counts: [u32; 3],
     /// Covered glyphs.
     pub glyphs: usize,
-    /// Cuts.
-    pub cuts: usize,
+    /// Cuts, by each edition.
+    pub cuts: Editions<usize>,
     /// How many stores took turns.
     pub stores: usize,
     /// How often each side took its turn in a run.
@@ -31,6 +31,10 @@ pub struct Figures {
     pub split: Compared,
     /// The cut plans.
     pub plan: Compared,
+    /// The splits by the second edition.
+    pub second_split: Second,
+    /// The cut plans by the second edition.
+    pub second_plan: Second,
 }
 
 /// Times of both sides.
@@ -38,6 +42,14 @@ pub struct Compared {
     /// Each side's times.
     pub times: Sides<Spread>,
     /// Quartiles of our time by the oracle's, turn by turn.
+    pub ratios: [f64; 3],
+}
+
+/// Times of the second edition.
+pub struct Second {
+    /// All of them.
+    pub times: Spread,
+    /// Quartiles of its time by the first edition's, turn by turn.
     pub ratios: [f64; 3],
 }
 
@@ -51,19 +63,24 @@ pub struct Spread {
 
 impl Figures {
     /// Of the runs of an input.
-    pub fn new(input: &Input, need: Need, runs: Vec<Samples>) -> Self {
+    pub fn new(input: &Input, needs: Editions<Need>, runs: Vec<Samples>) -> Self {
         Self {
             shape: input.shape,
             size: input.size,
             order: input.order,
             grows: input.grows,
             counts: input.counts(),
-            glyphs: need.glyphs,
-            cuts: need.list,
+            glyphs: needs.first.glyphs,
+            cuts: Editions {
+                first: needs.first.list,
+                second: needs.second.list,
+            },
             stores: input.cases.len(),
             repetitions: runs[0].split.ours.len(),
             split: Compared::new(runs.iter().map(|run| &run.split)),
             plan: Compared::new(runs.iter().map(|run| &run.plan)),
+            second_split: Second::new(runs.iter().map(|run| &run.split_by)),
+            second_plan: Second::new(runs.iter().map(|run| &run.plan_by)),
         }
     }
 
@@ -77,14 +94,23 @@ impl Compared {
     fn new<'a>(runs: impl Iterator<Item = &'a Sides<Vec<Duration>>> + Clone) -> Self {
         let turns = runs.clone();
         let turns = turns.flat_map(|run| run.ours.iter().zip(&run.oracle));
-        let mut ratios: Vec<f64> = turns.map(|(ours, oracle)| ratio(*ours, *oracle)).collect();
-        ratios.sort_by(f64::total_cmp);
         Self {
+            ratios: ratios(turns),
             times: Sides {
                 ours: Spread::new(runs.clone().map(|run| &run.ours)),
                 oracle: Spread::new(runs.map(|run| &run.oracle)),
             },
-            ratios: quartiles(&ratios),
+        }
+    }
+}
+
+impl Second {
+    fn new<'a>(runs: impl Iterator<Item = &'a Editions<Vec<Duration>>> + Clone) -> Self {
+        let turns = runs.clone();
+        let turns = turns.flat_map(|run| run.second.iter().zip(&run.first));
+        Self {
+            ratios: ratios(turns),
+            times: Spread::new(runs.map(|run| &run.second)),
         }
     }
 }
@@ -118,7 +144,10 @@ impl Spread {
 pub fn noise(figures: &[Figures]) -> [f64; 2] {
     let compared = figures.iter().flat_map(|input| [&input.split, &input.plan]);
     let spreads = compared.flat_map(|compared| [&compared.times.ours, &compared.times.oracle]);
-    let mut noise: Vec<f64> = spreads.map(Spread::noise).collect();
+    let seconds = figures
+        .iter()
+        .flat_map(|input| [&input.second_split.times, &input.second_plan.times]);
+    let mut noise: Vec<f64> = spreads.chain(seconds).map(Spread::noise).collect();
     noise.sort_by(f64::total_cmp);
     [noise[noise.len() / 2], noise[noise.len() - 1]]
 }
@@ -130,6 +159,13 @@ pub fn growth(first: &Compared, second: &Compared) -> Sides<f64> {
         ours: ratio(second.ours.median(), first.ours.median()),
         oracle: ratio(second.oracle.median(), first.oracle.median()),
     }
+}
+
+/// Quartiles of what the one takes by what the other does, turn by turn.
+fn ratios<'a>(turns: impl Iterator<Item = (&'a Duration, &'a Duration)>) -> [f64; 3] {
+    let mut ratios: Vec<f64> = turns.map(|(a, b)| ratio(*a, *b)).collect();
+    ratios.sort_by(f64::total_cmp);
+    quartiles(&ratios)
 }
 
 fn ratio(a: Duration, b: Duration) -> f64 {

@@ -1,4 +1,5 @@
-//! How long the proved splits and cut plans take, beside the crate's own.
+//! How long the proved splits and cut plans take: by the first edition beside the crate's own, and by the second
+//! beside the first.
 //!
 //! ```text
 //! bench [--runs N]            times all inputs N times over, 3 unless it is said
@@ -95,7 +96,7 @@ fn measure(
         }
     }
     let figures = inputs.iter().zip(timings);
-    let figures = figures.map(|(input, (timing, runs))| Figures::new(input, timing.need(), runs));
+    let figures = figures.map(|(input, (timing, runs))| Figures::new(input, timing.needs(), runs));
     Ok(figures.collect())
 }
 

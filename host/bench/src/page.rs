@@ -1,7 +1,7 @@
 //! The tables, for a terminal and for a page.
 
 use crate::{
-    figures::{growth, noise, Compared, Figures, Spread},
+    figures::{growth, noise, Compared, Figures, Second, Spread},
     input::{order_name, Shape},
     timing::Sides,
 };
@@ -12,7 +12,8 @@ const HEAD: &str = "\
 # How long it takes
 
 Splits and cut plans of the proved library beside those of the crate's text (`host/oracle`), on the same stores, in one run of
-`cargo run --release -p bench -- --write` in `host/`, which wrote this page.
+`cargo run --release -p bench -- --write` in `host/`, which wrote this page. They are those of the first edition of the cutting rule, which is
+the crate's. The second edition is timed beside the first, in turns of their own, of which now the one comes first and now the other.
 
 What is timed, on our side: one call of `split_pairpos` or `cut_plan` of the archive, and of `split_markbasepos` or
 `cut_plan_markbasepos` for mark-to-base tables, with all its checks of the store and with the clearing of the scratch. It is lent exactly
@@ -64,6 +65,20 @@ pub fn text(figures: &[Figures]) -> String {
         ];
         write_table(&mut text, name, &heads, rows);
     }
+    let heads = [
+        "table",
+        "numbered",
+        "objects",
+        "cuts by 1",
+        "cuts by 2",
+        "split by 2",
+        "split, 2 / 1",
+        "cut plan by 2",
+        "cut plan, 2 / 1",
+    ];
+    let rows = figures.iter().map(second_row);
+    write_table(&mut text, "The second edition", &heads, rows);
+    text += "\nThe goal is 1.5 times the first edition's time at most.\n";
     let rows = growths(figures);
     if !rows.is_empty() {
         let heads = ["from 1,000 to 10,000", "ours", "oracle"];
@@ -89,8 +104,8 @@ fn trust(figures: &[Figures]) -> String {
     format!(
         "A time is the median of all turns of {runs} runs, with the lower and the upper quartile beside it. In a run several stores of a\n\
          kind take turns, because a processor that meets the same one again and again knows by heart what comes; the tables say how many,\n\
-         and how many turns each has in a run. A ratio is our time by the oracle's of the same turn: their median and quartiles. Counts are\n\
-         those of the first store.\n\
+         and how many turns each has in a run. A ratio is our time by the oracle's of the same turn, or the second edition's by the first's:\n\
+         their median and quartiles. Counts are those of the first store.\n\
          \n\
          The machine has {cores} cores. How far it can be trusted: the medians of the {runs} runs lie up to {half} apart for half of what is\n\
          timed, and {all} at worst.\n"
@@ -110,7 +125,6 @@ fn plan(input: &Figures) -> &Compared {
 fn row(input: &Figures, compared: &Compared) -> Vec<String> {
     let [data, objects, links] = input.counts.map(|count| thousands(count as usize));
     let Sides { ours, oracle } = &compared.times;
-    let [low, ratio, high] = compared.ratios.map(digits);
     vec![
         input.shape.name().to_string(),
         order_name(input.order).to_string(),
@@ -118,12 +132,37 @@ fn row(input: &Figures, compared: &Compared) -> Vec<String> {
         links,
         data,
         thousands(input.glyphs),
-        thousands(input.cuts),
+        thousands(input.cuts.first),
         format!("{} × {}", input.stores, input.repetitions / input.stores),
         with_quartiles(ours),
         with_quartiles(oracle),
-        format!("{ratio} ({low} to {high})"),
+        ratio(compared.ratios),
     ]
+}
+
+fn second_row(input: &Figures) -> Vec<String> {
+    let [_, objects, _] = input.counts;
+    let Second { times, ratios } = &input.second_split;
+    let Second {
+        times: plan_times,
+        ratios: plan_ratios,
+    } = &input.second_plan;
+    vec![
+        input.shape.name().to_string(),
+        order_name(input.order).to_string(),
+        thousands(objects as usize),
+        thousands(input.cuts.first),
+        thousands(input.cuts.second),
+        with_quartiles(times),
+        ratio(*ratios),
+        with_quartiles(plan_times),
+        ratio(*plan_ratios),
+    ]
+}
+
+fn ratio(quartiles: [f64; 3]) -> String {
+    let [low, ratio, high] = quartiles.map(digits);
+    format!("{ratio} ({low} to {high})")
 }
 
 /// Each shape's growth, where both sizes were timed.

@@ -2,10 +2,13 @@
 
 use crate::{clock, input::Input};
 use differential::{
-    check::{as_the_oracle, marks_as_the_oracle, Outcome, Split},
+    check::{
+        all_agree, as_the_oracle, marks_agree, marks_as_the_oracle, marks_guaranteed,
+        pairs_guaranteed, Outcome, Split,
+    },
     generate::Case,
     lend::{self, Need},
-    Archive, Call, Marks, Random, Splits, Tally,
+    Archive, Call, Edition, Marks, Random, Splits, Tally,
 };
 use oracle::Graph;
 use std::{hint::black_box, time::Duration};
@@ -14,12 +17,12 @@ use std::{hint::black_box, time::Duration};
 struct Ready {
     /// Whether its table is one of MarkBasePos.
     is_marks: bool,
-    /// What our split is lent: exactly what it needs, its scratch being zero.
-    call: Call<u32>,
+    /// What our split is lent, by each edition: exactly what it needs, its scratch being zero.
+    calls: Editions<Call<u32>>,
     /// The oracle's graph of the store, loaded.
     graph: Graph,
-    /// What is lent.
-    need: Need,
+    /// What is lent, by each edition.
+    needs: Editions<Need>,
 }
 
 /// The stores of an input, ready for both sides.
@@ -34,15 +37,28 @@ pub struct Samples {
     pub split: Sides<Vec<Duration>>,
     /// Of cut plans.
     pub plan: Sides<Vec<Duration>>,
+    /// Of splits by each edition.
+    pub split_by: Editions<Vec<Duration>>,
+    /// Of cut plans by each edition.
+    pub plan_by: Editions<Vec<Duration>>,
 }
 
-/// Something of the proved functions, and the same of the oracle.
+/// Something of the proved functions, by the first edition, and the same of the oracle.
 #[derive(Clone, Copy, Debug, Default)]
 pub struct Sides<T> {
     /// Of the proved functions.
     pub ours: T,
     /// Of the crate's text.
     pub oracle: T,
+}
+
+/// Something of the proved functions by the first edition, and by the second.
+#[derive(Clone, Copy, Debug, Default)]
+pub struct Editions<T> {
+    /// By the first.
+    pub first: T,
+    /// By the second.
+    pub second: T,
 }
 
 /// While the oracle replaces a part it has two of it for a moment.
@@ -60,12 +76,13 @@ impl Timing {
         }
     }
 
-    /// What the first store's split is lent.
-    pub fn need(&self) -> Need {
-        self.stores[0].need
+    /// What the first store's split is lent, by each edition.
+    pub fn needs(&self) -> Editions<Need> {
+        self.stores[0].needs
     }
 
-    /// Both sides cut at the same places, and make the same of the table.
+    /// By the first edition the oracle cuts at the same places, and makes the same of the table; by the second
+    /// the model does.
     pub fn agree(&self) -> Outcome {
         self.stores.iter().try_for_each(Ready::agree)
     }
@@ -76,9 +93,15 @@ impl Timing {
         for repetition in 0..=repetitions {
             let store = &self.stores[repetition % self.stores.len()];
             let (split, plan) = (store.split(), store.plan());
+            // Now the one edition comes first, and now the other.
+            let turned = repetition / self.stores.len() % 2 == 1;
+            let split_by = in_turn(turned, |edition| store.split_by(edition));
+            let plan_by = in_turn(turned, |edition| store.plan_by(edition));
             if repetition > 0 {
                 samples.split.push(split);
                 samples.plan.push(plan);
+                samples.split_by.push(split_by);
+                samples.plan_by.push(plan_by);
             }
         }
         samples
@@ -88,37 +111,77 @@ impl Timing {
 impl Ready {
     fn new(case: &Case, is_marks: bool) -> Self {
         let (store, table) = (&case.store, case.table);
-        let (mut call, need) = match is_marks {
-            false => (
-                lend::exactly(store, table, &mut Random::new(0)),
-                Need::of(store, table),
-            ),
-            true => (
-                lend::marks_exactly(store, table, &mut Random::new(0)),
-                Need::of_marks(store, table),
-            ),
+        let lent = |edition| {
+            let random = &mut Random::new(0);
+            let (mut call, need) = match is_marks {
+                false => (
+                    lend::exactly(store, table, edition, random),
+                    Need::of(store, table, edition),
+                ),
+                true => (
+                    lend::marks_exactly(store, table, edition, random),
+                    Need::of_marks(store, table, edition),
+                ),
+            };
+            call.scratch.clear();
+            (call, need)
         };
-        call.scratch.clear();
+        let [(first, first_need), (second, second_need)] = Edition::ALL.map(lent);
         Self {
             is_marks,
-            call,
+            calls: Editions { first, second },
             graph: Graph::load(store).expect("a sound store"),
-            need,
+            needs: Editions {
+                first: first_need,
+                second: second_need,
+            },
         }
     }
 
     fn agree(&self) -> Outcome {
         let tally = &mut Tally::default();
+        let Editions { first, second } = &self.calls;
         match self.is_marks {
-            false => as_the_oracle(&Split::by(&Archive, &self.call), tally),
-            true => marks_as_the_oracle(&Split::by(&Marks(&Archive), &self.call), tally),
+            false => {
+                as_the_oracle(&Split::by(&Archive, first), tally)?;
+                all_agree(&Archive, second)?;
+                pairs_guaranteed(&Archive, &Split::by(&Archive, second), tally)
+            }
+            true => {
+                marks_as_the_oracle(&Split::by(&Marks(&Archive), first), tally)?;
+                marks_agree(&Archive, second)?;
+                marks_guaranteed(&Archive, &Split::by(&Marks(&Archive), second), tally)
+            }
+        }
+    }
+
+    fn call(&self, edition: Edition) -> &Call<u32> {
+        match edition {
+            Edition::First => &self.calls.first,
+            Edition::Second => &self.calls.second,
+        }
+    }
+
+    fn split_by(&self, edition: Edition) -> Duration {
+        let mut call = self.call(edition).clone();
+        match self.is_marks {
+            false => time(|| Archive.split(&mut call)),
+            true => time(|| Marks(&Archive).split(&mut call)),
+        }
+    }
+
+    fn plan_by(&self, edition: Edition) -> Duration {
+        let mut plan = self.call(edition).to_plan();
+        match self.is_marks {
+            false => time(|| Archive.plan(&mut plan)),
+            true => time(|| Marks(&Archive).plan(&mut plan)),
         }
     }
 
     fn split(&self) -> Sides<Duration> {
-        let mut call = self.call.clone();
+        let mut call = self.calls.first.clone();
         let mut graph = self.graph_with_room();
-        let table = self.call.table as usize;
+        let table = self.calls.first.table as usize;
         match self.is_marks {
             false => Sides {
                 ours: time(|| Archive.split(&mut call)),
@@ -132,9 +195,9 @@ impl Ready {
     }
 
     fn plan(&self) -> Sides<Duration> {
-        let mut plan = self.call.to_plan();
+        let mut plan = self.calls.first.to_plan();
         let mut graph = self.graph_with_room();
-        let table = self.call.table as usize;
+        let table = self.calls.first.table as usize;
         match self.is_marks {
             false => Sides {
                 ours: time(|| Archive.plan(&mut plan)),
@@ -148,7 +211,7 @@ impl Ready {
     }
 
     fn graph_with_room(&self) -> Graph {
-        let [bytes, objects, _] = self.need.room;
+        let [bytes, objects, _] = self.needs.first.room;
         self.graph.with_room(bytes + SPARE_BYTES, objects)
     }
 }
@@ -157,6 +220,23 @@ impl Sides<Vec<Duration>> {
     fn push(&mut self, times: Sides<Duration>) {
         self.ours.push(times.ours);
         self.oracle.push(times.oracle);
+    }
+}
+
+impl Editions<Vec<Duration>> {
+    fn push(&mut self, times: Editions<Duration>) {
+        self.first.push(times.first);
+        self.second.push(times.second);
+    }
+}
+
+/// The times of both editions, the second of them first where they are turned.
+fn in_turn(turned: bool, time: impl Fn(Edition) -> Duration) -> Editions<Duration> {
+    let early = turned.then(|| time(Edition::Second));
+    let first = time(Edition::First);
+    Editions {
+        first,
+        second: early.unwrap_or_else(|| time(Edition::Second)),
     }
 }
 

@@ -2,7 +2,9 @@
 
 mod agree;
 mod attachments;
+mod counted;
 mod frame;
+mod guaranteed;
 mod lookups;
 mod marks;
 mod oracle;
@@ -13,7 +15,12 @@ pub use agree::{
     split_agrees,
 };
 pub use attachments::{attachments_agree, attachments_stay};
-pub use frame::{again, frame};
+pub use counted::{counted_alike, counted_somehow};
+pub use frame::{again, again_at, frame};
+pub use guaranteed::{
+    again_each, marks_guaranteed, pairs_guaranteed, refused_or_marks_guaranteed,
+    refused_or_pairs_guaranteed,
+};
 pub use lookups::{applied_agree, applied_stay, entered};
 pub use marks::{another_format, marks_as_the_oracle, refused_or_marks_as_the_oracle};
 pub use oracle::{as_the_oracle, refused_or_as_the_oracle};

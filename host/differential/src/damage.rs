@@ -2,6 +2,7 @@
 //!
 //! All start from a call that is lent exactly what it needs and that no check refuses.
 
+mod editions;
 mod links;
 mod lookups;
 mod marks;
@@ -38,7 +39,7 @@ type Named = (&'static str, Apply);
 impl Damage {
     /// A damaged copy of a call, if the call can be damaged so.
     ///
-    /// It may have been damaged before, by what is refused by a higher number.
+    /// It may have been damaged before, by what is looked for later.
     pub fn apply(&self, call: &Call<u32>, random: &mut Random) -> Option<Call<u32>> {
         let mut call = call.clone();
         (self.apply)(&mut call, random)?;
@@ -49,6 +50,7 @@ impl Damage {
 /// All damages of calls for PairPos tables, in the order in which they are looked for.
 pub fn all() -> Vec<Damage> {
     damages(&[
+        ([12, 12, 0], editions::OTHERS),
         ([1, 1, 1], soundness::DAMAGES),
         ([2, 2, 2], table::NUMBERS),
         ([3, 3, 3], table::LENGTHS),
@@ -66,6 +68,7 @@ pub fn all() -> Vec<Damage> {
 /// All damages of calls for MarkBasePos tables, in the same order. These have no sets.
 pub fn marks() -> Vec<Damage> {
     damages(&[
+        ([12, 12, 0], editions::OTHERS),
         ([1, 1, 1], soundness::DAMAGES),
         ([2, 2, 2], table::NUMBERS),
         ([3, 3, 3], marks::LENGTHS),
@@ -82,6 +85,7 @@ pub fn marks() -> Vec<Damage> {
 /// plan and a pair reading do not look at lookups.
 pub fn lookups() -> Vec<Damage> {
     damages(&[
+        ([12, 12, 0], editions::OTHERS),
         ([1, 1, 1], soundness::DAMAGES),
         ([2, 2, 2], table::NUMBERS),
         ([2, 0, 0], lookups::NUMBERS),

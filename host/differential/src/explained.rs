@@ -18,13 +18,14 @@ pub fn lent(store: &Store) -> StoreRef<'_> {
 
 /// Why a split, a cut plan and a reading are refused, if they are.
 pub fn explanations(kind: Kind, call: &Call<u32>) -> [Explanation; 3] {
-    let lengths = lengths(&call.scratch, call.list.len());
+    let edition = call.edition;
+    let lent = lengths(&call.scratch, call.list.len());
     let calls = [
-        explain::Call::Split(lengths),
-        explain::Call::Plan(lengths),
+        explain::Call::Split { edition, lent },
+        explain::Call::Plan { edition, lent },
         explain::Call::Reading,
     ];
-    calls.map(|asked| kind.explain_call(asked, lent(&call.store), call.table))
+    calls.map(|asked| kind.explain_call(asked, self::lent(&call.store), call.table))
 }
 
 fn lengths(scratch: &Scratch, list: usize) -> Lent {

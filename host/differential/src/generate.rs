@@ -17,7 +17,7 @@ use crate::{
         opened::Opened,
         values::ValueFormat,
     },
-    Random,
+    Edition, Random,
 };
 use draft::Draft;
 use oracle::Store;
@@ -84,7 +84,8 @@ pub fn lookups(seed: u64) -> Listed {
     }
 }
 
-/// An object below some item, and the length with which the item's total is next to the limit.
+/// An object below some item, and the length with which the total of that item, or of an empty slot behind it,
+/// is next to the limit, by one of the editions.
 type Landing = fn(&Case, &mut Random) -> Option<(u32, usize)>;
 
 fn finish(draft: Draft, table: usize, random: &mut Random, landing: Landing) -> Case {
@@ -141,14 +142,16 @@ fn landing(opening: Opening<impl Opened>, random: &mut Random) -> Option<(u32, u
     let table = opening.ok()??;
     let target = random.within(65_534..=65_537);
     let objects = table.objects();
-    let mut weighed = table.weigh();
-    weighed.retain(|weighed| !table.links_of_item(weighed.item).is_empty());
+    let weighed = table.weigh(random.pick(&Edition::ALL));
     if weighed.is_empty() {
         return None;
     }
     (0..8).find_map(|_| {
         let here = weighed[random.below(weighed.len())];
-        let [_, _, _, mut object] = random.pick(&table.links_of_item(here.item));
+        let up_to_here = (0..=here.item).rev();
+        let mut links = up_to_here.map(|item| table.links_of_item(item));
+        let links = links.find(|links| !links.is_empty())?;
+        let [_, _, _, mut object] = random.pick(&links);
         if !table.is_free(object) {
             let below = objects.links_of(object);
             object = below.get(random.below(below.len().max(1)))?[3];

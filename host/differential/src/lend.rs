@@ -7,7 +7,7 @@ use crate::{
         lookups::entered,
         opened::Opened,
     },
-    Call, Random, Scratch,
+    Call, Edition, Random, Scratch,
 };
 use oracle::Store;
 
@@ -28,22 +28,22 @@ pub struct Need {
 
 impl Need {
     /// The need of a split of a PairPos table.
-    pub fn of(store: &Store, table: u32) -> Self {
-        Self::of_opened(store, answers::open(store, table))
+    pub fn of(store: &Store, table: u32, edition: Edition) -> Self {
+        Self::of_opened(store, answers::open(store, table), edition)
     }
 
     /// The need of a split of a MarkBasePos table.
-    pub fn of_marks(store: &Store, table: u32) -> Self {
-        Self::of_opened(store, answers::open_marks(store, table))
+    pub fn of_marks(store: &Store, table: u32, edition: Edition) -> Self {
+        Self::of_opened(store, answers::open_marks(store, table), edition)
     }
 
     /// The need of a split of a PairPos table whose new tables are entered in the lookups of a list: as
     /// without them, and the room that these take. Where a lookup has too many subtables it is unknown.
-    pub fn in_lookups(store: &Store, list: u32, table: u32) -> Self {
-        let mut need = Self::of(store, table);
+    pub fn in_lookups(store: &Store, list: u32, table: u32, edition: Edition) -> Self {
+        let mut need = Self::of(store, table, edition);
         let lookups = answers::open_lookups(store, list, table);
         if let (Ok(lookups), Ok(Some(pairpos))) = (lookups, answers::open(store, table)) {
-            let cuts = pairpos.cut_places();
+            let cuts = pairpos.cut_places(edition);
             let written = (!cuts.is_empty()).then(|| pairpos.write(&cuts));
             let written = written.and_then(|it| entered::enter(&pairpos, it, lookups));
             need.room = written.map_or([0; 3], |written| written.need(store));
@@ -52,11 +52,11 @@ impl Need {
     }
 
     /// A table that is refused by 1 to 5, or has another format, needs nothing.
-    fn of_opened(store: &Store, opening: Opening<impl Opened>) -> Self {
+    fn of_opened(store: &Store, opening: Opening<impl Opened>, edition: Edition) -> Self {
         let Ok(Some(table)) = opening else {
             return Self::default();
         };
-        let cuts = table.cut_places();
+        let cuts = table.cut_places(edition);
         let written = (!cuts.is_empty()).then(|| table.write(&cuts));
         Self {
             walk: 2 * table.objects().count(),
@@ -67,7 +67,15 @@ impl Need {
         }
     }
 
-    fn lend(&self, store: &Store, table: u32, random: &mut Random, spare: usize) -> Call<u32> {
+    /// A call that is lent as much, and up to so much to spare of each.
+    fn lend(
+        &self,
+        store: &Store,
+        table: u32,
+        edition: Edition,
+        random: &mut Random,
+        spare: usize,
+    ) -> Call<u32> {
         let mut store = store.clone();
         let [data, objects, links] = self.room;
         let data: Vec<u8> = junk(random, data, spare);
@@ -79,6 +87,7 @@ impl Need {
         Call {
             store,
             table,
+            edition: edition.number(),
             lookup_list: 0,
             scratch: Scratch {
                 walk: junk(random, self.walk, spare),
@@ -94,41 +103,51 @@ impl Need {
 }
 
 /// A call that is lent exactly what it needs. Scratch, list and all that is not in use is junk.
-pub fn exactly(store: &Store, table: u32, random: &mut Random) -> Call<u32> {
-    Need::of(store, table).lend(store, table, random, 0)
+pub fn exactly(store: &Store, table: u32, edition: Edition, random: &mut Random) -> Call<u32> {
+    Need::of(store, table, edition).lend(store, table, edition, random, 0)
 }
 
 /// A call that is lent what it needs or somewhat more.
-pub fn amply(store: &Store, table: u32, random: &mut Random) -> Call<u32> {
-    Need::of(store, table).lend(store, table, random, SPARE)
+pub fn amply(store: &Store, table: u32, edition: Edition, random: &mut Random) -> Call<u32> {
+    Need::of(store, table, edition).lend(store, table, edition, random, SPARE)
 }
 
 /// A call for a MarkBasePos table that is lent exactly what it needs.
-pub fn marks_exactly(store: &Store, table: u32, random: &mut Random) -> Call<u32> {
-    Need::of_marks(store, table).lend(store, table, random, 0)
+pub fn marks_exactly(
+    store: &Store,
+    table: u32,
+    edition: Edition,
+    random: &mut Random,
+) -> Call<u32> {
+    Need::of_marks(store, table, edition).lend(store, table, edition, random, 0)
 }
 
 /// A call for a MarkBasePos table that is lent what it needs or somewhat more.
-pub fn marks_amply(store: &Store, table: u32, random: &mut Random) -> Call<u32> {
-    Need::of_marks(store, table).lend(store, table, random, SPARE)
+pub fn marks_amply(store: &Store, table: u32, edition: Edition, random: &mut Random) -> Call<u32> {
+    Need::of_marks(store, table, edition).lend(store, table, edition, random, SPARE)
 }
 
 /// A call that enters new tables in lookups and is lent exactly what it needs.
-pub fn in_lookups_exactly(case: &Listed, random: &mut Random) -> Call<u32> {
-    lend_in_lookups(case, random, 0)
+pub fn in_lookups_exactly(case: &Listed, edition: Edition, random: &mut Random) -> Call<u32> {
+    lend_in_lookups(case, edition, random, 0)
 }
 
 /// A call that enters new tables in lookups and is lent what it needs or somewhat more.
-pub fn in_lookups_amply(case: &Listed, random: &mut Random) -> Call<u32> {
-    lend_in_lookups(case, random, SPARE)
+pub fn in_lookups_amply(case: &Listed, edition: Edition, random: &mut Random) -> Call<u32> {
+    lend_in_lookups(case, edition, random, SPARE)
 }
 
-fn lend_in_lookups(case: &Listed, random: &mut Random, spare: usize) -> Call<u32> {
+fn lend_in_lookups(
+    case: &Listed,
+    edition: Edition,
+    random: &mut Random,
+    spare: usize,
+) -> Call<u32> {
     let Listed { store, list, table } = case;
-    let need = Need::in_lookups(store, *list, *table);
+    let need = Need::in_lookups(store, *list, *table, edition);
     Call {
         lookup_list: *list,
-        ..need.lend(store, *table, random, spare)
+        ..need.lend(store, *table, edition, random, spare)
     }
 }
 
@@ -147,6 +166,7 @@ impl Call<u32> {
         Call {
             store: self.store.clone(),
             table: self.table,
+            edition: self.edition,
             lookup_list: self.lookup_list,
             scratch: self.scratch.clone(),
             list: self.list.iter().map(|&entry| entry as u16).collect(),

@@ -7,6 +7,9 @@
 //! three, and so is the [`Archive`]. Two subjects agree if a call leaves the same answer and the same
 //! contents, to the last number.
 //!
+//! The rule has two editions. The oracle is of the first alone; what the second guarantees is checked item by
+//! item, and on small tables over all lists of cuts.
+//!
 //! | module | holds |
 //! |---|---|
 //! | [`model`] | the rules: soundness, answers, cut places, what is written, pairs, attachments and lookups |
@@ -17,16 +20,16 @@
 //! | [`compare`] | what is reachable from tables, renumbered, parts by meaning |
 //! | [`product`] | where the 16-bit product of the crate's text shows |
 //! | [`kept_offsets`] | where the crate's text keeps old offsets |
-//! | [`check`] | what must hold of a split, against the oracle and against the model |
+//! | [`check`] | what must hold of a split: against the oracle, against the model, and by the second edition |
 //! | [`explained`] | the host library's explanations, held to the proved functions |
 //! | [`vectors`] | a sample of the answers, stored for the program `vectors` |
 //! | [`runs`] | all that is asked of the store of one seed |
 //!
 //! ```
-//! use differential::{check, generate, lend, Archive, Random, Tally};
+//! use differential::{check, generate, lend, Archive, Edition, Random, Tally};
 //!
 //! let case = generate::format2(7);
-//! let call = lend::amply(&case.store, case.table, &mut Random::new(7));
+//! let call = lend::amply(&case.store, case.table, Edition::First, &mut Random::new(7));
 //! check::split_agrees(&Archive, &call).unwrap();
 //! let split = check::Split::by(&Archive, &call);
 //! check::as_the_oracle(&split, &mut Tally::default()).unwrap();
@@ -53,7 +56,7 @@ mod tally;
 pub mod vectors;
 
 pub use archive::Archive;
-pub use model::Model;
+pub use model::{cuts::Edition, Model};
 pub use random::Random;
 pub use subject::{
     Attachment, Call, InLookups, LookupSubject, MarkSubject, Marks, Pair, Scratch, Splits, Subject,

@@ -8,6 +8,7 @@ pub mod estimate;
 pub mod header;
 pub mod lookups;
 pub mod marks;
+pub mod measure;
 pub mod numbers;
 pub mod objects;
 pub mod opened;
@@ -21,7 +22,6 @@ pub mod written;
 
 use crate::{Attachment, Call, LookupSubject, MarkSubject, Pair, Subject};
 use answers::Opening;
-use opened::Opened;
 use oracle::Store;
 use written::Written;
 
@@ -31,14 +31,12 @@ pub struct Model;
 
 impl Subject for Model {
     fn split_pairpos(&self, call: &mut Call<u32>) -> u32 {
-        let opening = answers::open(&call.store, call.table);
-        let outcome = split_outcome(call, opening);
+        let outcome = answers::split(call, answers::open);
         settle_split(call, outcome)
     }
 
     fn cut_plan(&self, call: &mut Call<u16>) -> u32 {
-        let opening = answers::open(&call.store, call.table);
-        let outcome = answers::plan(opening, &call.scratch, call.list.len());
+        let outcome = answers::plan(call, answers::open);
         settle(call, outcome, |_, places| places)
     }
 
@@ -50,14 +48,12 @@ impl Subject for Model {
 
 impl MarkSubject for Model {
     fn split_markbasepos(&self, call: &mut Call<u32>) -> u32 {
-        let opening = answers::open_marks(&call.store, call.table);
-        let outcome = split_outcome(call, opening);
+        let outcome = answers::split(call, answers::open_marks);
         settle_split(call, outcome)
     }
 
     fn cut_plan_markbasepos(&self, call: &mut Call<u16>) -> u32 {
-        let opening = answers::open_marks(&call.store, call.table);
-        let outcome = answers::plan(opening, &call.scratch, call.list.len());
+        let outcome = answers::plan(call, answers::open_marks);
         settle(call, outcome, |_, places| places)
     }
 
@@ -77,15 +73,9 @@ impl MarkSubject for Model {
 
 impl LookupSubject for Model {
     fn split_in_lookups(&self, call: &mut Call<u32>) -> u32 {
-        let (list, table) = (call.lookup_list, call.table);
-        let (scratch, list_len) = (&call.scratch, call.list.len());
-        let outcome = answers::split_in_lookups(&call.store, list, table, scratch, list_len);
+        let outcome = answers::split_in_lookups(call);
         settle_split(call, outcome)
     }
-}
-
-fn split_outcome(call: &Call<u32>, opening: Opening<impl Opened>) -> Opening<Written> {
-    answers::split(opening, &call.store, &call.scratch, call.list.len())
 }
 
 fn settle_split(call: &mut Call<u32>, outcome: Opening<Written>) -> u32 {

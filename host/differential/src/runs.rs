@@ -2,16 +2,17 @@
 
 use crate::{
     check::{
-        again, all_agree, another_format, applied_agree, applied_stay, as_the_oracle,
-        attachments_agree, attachments_stay, entered, frame, lookups_agree, marks_agree,
-        marks_as_the_oracle, pairs_agree, pairs_stay, refused_or_as_the_oracle,
-        refused_or_marks_as_the_oracle, MOST_TABLES,
+        again, again_each, all_agree, another_format, applied_agree, applied_stay, as_the_oracle,
+        attachments_agree, attachments_stay, counted_alike, entered, frame, lookups_agree,
+        marks_agree, marks_as_the_oracle, marks_guaranteed, pairs_agree, pairs_guaranteed,
+        pairs_stay, refused_or_as_the_oracle, refused_or_marks_as_the_oracle,
+        refused_or_marks_guaranteed, refused_or_pairs_guaranteed, MOST_TABLES,
     },
     check::{Outcome, Split},
     damage::{self, Damage},
     explained::as_answered,
     generate::{Case, Listed},
-    lend, Call, InLookups, LookupSubject, MarkSubject, Marks, Random, Subject, Tally,
+    lend, Call, Edition, InLookups, LookupSubject, MarkSubject, Marks, Random, Subject, Tally,
 };
 use splitter::Kind;
 
@@ -19,16 +20,27 @@ use splitter::Kind;
 const DAMAGES: usize = 4;
 const SCRAMBLES: usize = 4;
 
-/// A store that no check refuses: its call does what the model's and the oracle's do.
+/// A store that no check refuses: its call does what the model's does and, by the first edition, what the
+/// oracle's does; by the second it keeps what that guarantees.
 ///
 /// Half of the calls are lent exactly what they need.
-pub fn whole(subject: &impl Subject, case: &Case, seed: u64, tally: &mut Tally) -> Outcome {
+pub fn whole(
+    subject: &impl Subject,
+    case: &Case,
+    edition: Edition,
+    seed: u64,
+    tally: &mut Tally,
+) -> Outcome {
     let mut random = Random::new(!seed);
     let lend = [lend::exactly, lend::amply][seed as usize % 2];
-    let call = lend(&case.store, case.table, &mut random);
+    let call = lend(&case.store, case.table, edition, &mut random);
     all_agree(subject, &call)?;
     let split = Split::by(subject, &call);
-    as_the_oracle(&split, tally)?;
+    match edition {
+        Edition::First => as_the_oracle(&split, tally)?,
+        Edition::Second => pairs_guaranteed(subject, &split, tally)?,
+    }
+    counted_alike(Kind::Pairs, &split)?;
     frame(&split)?;
     again(subject, &split)?;
     if split.tables().len() <= MOST_TABLES {
@@ -41,15 +53,20 @@ pub fn whole(subject: &impl Subject, case: &Case, seed: u64, tally: &mut Tally) 
 pub fn marks_whole(
     subject: &impl MarkSubject,
     case: &Case,
+    edition: Edition,
     seed: u64,
     tally: &mut Tally,
 ) -> Outcome {
     let mut random = Random::new(!seed);
     let lend = [lend::marks_exactly, lend::marks_amply][seed as usize % 2];
-    let call = lend(&case.store, case.table, &mut random);
+    let call = lend(&case.store, case.table, edition, &mut random);
     marks_agree(subject, &call)?;
     let split = Split::by(&Marks(subject), &call);
-    marks_as_the_oracle(&split, tally)?;
+    match edition {
+        Edition::First => marks_as_the_oracle(&split, tally)?,
+        Edition::Second => marks_guaranteed(subject, &split, tally)?,
+    }
+    counted_alike(Kind::Marks, &split)?;
     frame(&split)?;
     again(&Marks(subject), &split)?;
     another_format(subject, &split, random.pick(&[0, 2, 0x0100, 0xFFFF]))?;
@@ -63,15 +80,23 @@ pub fn marks_whole(
 pub fn lookups_whole(
     subject: &(impl Subject + LookupSubject),
     case: &Listed,
+    edition: Edition,
     seed: u64,
     tally: &mut Tally,
 ) -> Outcome {
     let mut random = Random::new(!seed);
     let lend = [lend::in_lookups_exactly, lend::in_lookups_amply][seed as usize % 2];
-    let call = lend(case, &mut random);
+    let call = lend(case, edition, &mut random);
     lookups_agree(subject, &call)?;
     let split = Split::by(&InLookups(subject), &call);
-    as_the_oracle(&Split::by(subject, &call), tally)?;
+    let plain = Split::by(subject, &call);
+    match edition {
+        Edition::First => as_the_oracle(&plain, tally)?,
+        Edition::Second => {
+            pairs_guaranteed(subject, &plain, tally)?;
+            again_each(&InLookups(subject), &split)?;
+        }
+    }
     entered(subject, &split, tally)?;
     again(&InLookups(subject), &split)?;
     applied_stay(&split, &mut random, tally)?;
@@ -81,17 +106,27 @@ pub fn lookups_whole(
 /// Damaged copies of a store's call: they are refused as by the model, for the reason that the host
 /// library gives, and nothing changes.
 ///
-/// What is damaged at random may still be split, and then it is split as by the oracle.
-pub fn damaged(subject: &impl Subject, case: &Case, seed: u64, tally: &mut Tally) -> Outcome {
+/// What is damaged at random may still be split, and then it is split as by the oracle, or keeps what the
+/// second edition guarantees.
+pub fn damaged(
+    subject: &impl Subject,
+    case: &Case,
+    edition: Edition,
+    seed: u64,
+    tally: &mut Tally,
+) -> Outcome {
     let mut random = Random::new(seed.rotate_left(32));
-    let call = lend::exactly(&case.store, case.table, &mut random);
+    let call = lend::exactly(&case.store, case.table, edition, &mut random);
     let scramble = damage::scramble;
     damage_each(&call, &damage::all(), scramble, &mut random, |call| {
         all_agree(subject, call)?;
         as_answered(Kind::Pairs, call)?;
         let split = Split::by(subject, call);
         frame(&split)?;
-        refused_or_as_the_oracle(&split, tally)?;
+        match Edition::of(call.edition) {
+            Some(Edition::Second) => refused_or_pairs_guaranteed(subject, &split, tally)?,
+            _ => refused_or_as_the_oracle(&split, tally)?,
+        }
         Ok(split.answer)
     })
 }
@@ -100,18 +135,22 @@ pub fn damaged(subject: &impl Subject, case: &Case, seed: u64, tally: &mut Tally
 pub fn marks_damaged(
     subject: &impl MarkSubject,
     case: &Case,
+    edition: Edition,
     seed: u64,
     tally: &mut Tally,
 ) -> Outcome {
     let mut random = Random::new(seed.rotate_left(32));
-    let call = lend::marks_exactly(&case.store, case.table, &mut random);
+    let call = lend::marks_exactly(&case.store, case.table, edition, &mut random);
     let scramble = damage::scramble;
     damage_each(&call, &damage::marks(), scramble, &mut random, |call| {
         marks_agree(subject, call)?;
         as_answered(Kind::Marks, call)?;
         let split = Split::by(&Marks(subject), call);
         frame(&split)?;
-        refused_or_marks_as_the_oracle(&split, tally)?;
+        match Edition::of(call.edition) {
+            Some(Edition::Second) => refused_or_marks_guaranteed(subject, &split, tally)?,
+            _ => refused_or_marks_as_the_oracle(&split, tally)?,
+        }
         Ok(split.answer)
     })
 }
@@ -120,11 +159,12 @@ pub fn marks_damaged(
 pub fn lookups_damaged(
     subject: &(impl Subject + LookupSubject),
     case: &Listed,
+    edition: Edition,
     seed: u64,
     tally: &mut Tally,
 ) -> Outcome {
     let mut random = Random::new(seed.rotate_left(32));
-    let call = lend::in_lookups_exactly(case, &mut random);
+    let call = lend::in_lookups_exactly(case, edition, &mut random);
     let mut others = random.clone();
     let scramble = damage::scramble_lookups;
     damage_each(&call, &damage::lookups(), scramble, &mut random, |call| {

@@ -99,6 +99,8 @@ pub struct Call<N> {
     pub store: Store,
     /// The number of the table.
     pub table: u32,
+    /// The number of the edition by which it is cut.
+    pub edition: u32,
     /// The number of the lookup list, where new tables are entered in lookups; else nobody looks at it.
     pub lookup_list: u32,
     /// Zero after every call.

@@ -1,10 +1,13 @@
 //! How often each case occurred.
 
-use crate::model::cuts::Weighed;
+use crate::{
+    model::{cuts::Weighed, opened::Opened, reach::Seen},
+    Edition,
+};
 use std::fmt::{self, Display, Formatter};
 
 /// How many answer numbers there are.
-pub const ANSWERS: usize = 12;
+pub const ANSWERS: usize = 13;
 
 /// Counts of splits and of what became of them.
 #[derive(Clone, Debug, Default, PartialEq, Eq)]
@@ -22,6 +25,13 @@ pub struct Tally {
     /// Splits in which what the text does otherwise could show and does not, and in which it shows:
     /// a 16-bit product that wraps, or old offsets in a kept array.
     pub differences: [usize; 2],
+    /// Tables that the editions cut in other places.
+    pub other_cuts: usize,
+    /// Tables on which they differ in each of the three ways: an item at a cut of the second that leads to
+    /// what was seen before, a cut of the second at an empty slot, and an item 0 that the first cuts off.
+    pub ways: [usize; 3],
+    /// Tables of which all lists of cuts were measured.
+    pub listed: usize,
     /// Lookups that were written anew.
     pub rewritten: usize,
     /// Lookups that were applied before and after a split, and those of which nothing is promised.
@@ -35,7 +45,7 @@ pub struct Tally {
 impl Tally {
     /// Counts a split by its answer, by the items looked at, and by whether a difference shows.
     pub fn add(&mut self, answer: u32, weighed: &[Weighed], shows: Option<bool>) {
-        let mut cuts = weighed.iter().filter(|weighed| weighed.is_cut());
+        let mut cuts = weighed.iter().filter(|weighed| weighed.is_cut);
         let count = cuts.clone().count();
         self.answers[answer as usize] += 1;
         self.cut_counts[cut_class(count)] += 1;
@@ -48,6 +58,31 @@ impl Tally {
             if let total @ 65_534..=65_537 = weighed.total {
                 self.at_limit[total - 65_534] += 1;
             }
+        }
+    }
+}
+
+impl Tally {
+    /// Counts the ways in which the editions differ on a table.
+    pub fn add_editions(&mut self, table: &impl Opened) {
+        let [first, second] = Edition::ALL.map(|edition| {
+            let mut cuts = table.weigh(edition);
+            cuts.retain(|weighed| weighed.is_cut);
+            cuts
+        });
+        let items = |cuts: &[Weighed]| -> Vec<usize> { cuts.iter().map(|cut| cut.item).collect() };
+        self.other_cuts += usize::from(items(&first) != items(&second));
+        let mut shares = second.iter().map(|cut| {
+            let again = Seen::nothing(table.objects()).count(&table.links_of_item(cut.item));
+            table.own_cost(cut.item) + again > cut.cost
+        });
+        let ways = [
+            shares.any(|shares| shares),
+            second.iter().any(|cut| table.is_empty(cut.item)),
+            first.first().is_some_and(|cut| cut.item == 0),
+        ];
+        for (count, differ) in self.ways.iter_mut().zip(ways) {
+            *count += usize::from(differ);
         }
     }
 }
@@ -71,6 +106,15 @@ impl Display for Tally {
         writeln!(f, "new tables {new_tables}, cuts at 0 {cuts_at_0}")?;
         writeln!(f, "totals of 65,534 to 65,537: {:?}", self.at_limit)?;
         writeln!(f, "differences: hidden {hidden}, shown {shown}")?;
+        let [shared, empty, at_0] = self.ways;
+        if self.listed > 0 {
+            let (other_cuts, listed) = (self.other_cuts, self.listed);
+            writeln!(
+                f,
+                "editions: other cuts {other_cuts}; what a cut shares {shared}, a cut at an empty slot \
+                 {empty}, item 0 too large {at_0}; all lists of cuts measured {listed}"
+            )?;
+        }
         let [applied, left_out] = self.applied;
         if self.rewritten > 0 {
             let rewritten = self.rewritten;

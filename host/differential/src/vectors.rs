@@ -1,14 +1,15 @@
-//! A sample of the oracle's answers, as text for the Rattle program `vectors` to replay.
+//! A sample of the answers, as text for the Rattle program `vectors` to replay.
 //!
 //! # How it is made
 //!
 //! [`sample`] takes hand-made stores, generated ones and damaged ones, lends each to the [`Model`],
 //! and stores what a cut plan, a split and some readings answer and leave. Whatever is not
-//! refused is held against the oracle first: cut places and new tables are the oracle's own, and
-//! the digest of a split is stored only where all that is reachable is as the oracle leaves it and
+//! refused in the first edition is held against the oracle first: cut places and new tables are the oracle's
+//! own, and the digest of a split is stored only where all that is reachable is as the oracle leaves it and
 //! nothing else has changed. What the 16-bit product of the crate's text would change is left out; where
 //! it keeps old offsets in the arrays of a MarkBasePos table, the zeros of the model are stored.
-//! Refusals and readings are the model's, which is that of documents 01 and 02: the oracle has none.
+//! Refusals, readings and the cuts of the second edition are the model's, which is that of documents 01 and
+//! 02: the oracle has none. What the second edition guarantees is checked before it is stored.
 //!
 //! # The text
 //!
@@ -23,6 +24,7 @@
 //! | lookup type | 2 where the table is one of PairPos, 4 where it is one of MarkBasePos: which functions are called; 3 as 2, but that the split enters the new tables in lookups |
 //! | lookup list | behind a 3 alone: the number of the list |
 //! | table | the number of the table |
+//! | edition | the number of the edition, by which both the cut plan and the split are called |
 //! | counts, data, objects, links | the store as it is lent, each an array |
 //! | pairs | how many there are; each is two glyphs, answer, found, and an array of the sixteen values, each raised by 65,536 |
 //! | or attachments | how many there are; each is two glyphs, a mark's and a base's, answer, found, and an array of the two anchors |

@@ -6,10 +6,10 @@ mod damaged;
 
 use damaged::Kind;
 use differential::{
-    check::{all_agree, frame, refused_or_as_the_oracle, Split},
+    check::{all_agree, frame, refused_or_as_the_oracle, refused_or_pairs_guaranteed, Split},
     damage, generate, lend,
     model::{class_def, coverage, numbers},
-    Archive, Call, Model, Pair, Random, Subject, Tally,
+    Archive, Call, Edition, Model, Pair, Random, Subject, Tally,
 };
 
 const STORES: u64 = 80;
@@ -17,7 +17,7 @@ const STORES: u64 = 80;
 const PAIRS: Kind = Kind {
     calls,
     damages: damage::all,
-    order: &[1, 2, 3, 4, 5, 6, 7, 11, 8],
+    order: &[12, 1, 2, 3, 4, 5, 6, 7, 11, 8],
     scramble: damage::scramble,
     answers,
     split: |call| Split::by(&Model, call),
@@ -32,7 +32,8 @@ fn calls() -> Vec<(Call<u32>, Random)> {
     let calls = seeds.map(|(seed, generate)| {
         let case = generate(seed);
         let mut random = Random::new(!seed);
-        let call = lend::exactly(&case.store, case.table, &mut random);
+        let edition = random.pick(&Edition::ALL);
+        let call = lend::exactly(&case.store, case.table, edition, &mut random);
         (call, random)
     });
     calls.collect()
@@ -65,6 +66,11 @@ fn the_first_that_applies_decides() {
 }
 
 #[test]
+fn an_edition_that_is_none_comes_first() {
+    PAIRS.an_edition_that_is_none_comes_first();
+}
+
+#[test]
 fn another_format_is_nothing_to_split() {
     PAIRS.another_format_is_nothing_to_split();
 }
@@ -81,15 +87,21 @@ fn unreadable_parts_are_unreadable() {
     }
 }
 
-/// Whatever a call is lent, it is refused and nothing changes, or it is split as by the oracle.
+/// Whatever a call is lent, it is refused and nothing changes, or it is split as by the oracle, or keeps what
+/// the second edition guarantees.
 #[test]
 fn anything_may_be_wrong() {
     let mut tally = Tally::default();
     PAIRS.anything_may_be_wrong(|call, split| {
         assert_eq!(all_agree(&Archive, call), Ok(()));
-        assert_eq!(refused_or_as_the_oracle(split, &mut tally), Ok(()));
+        let settled = match call.edition {
+            2 => refused_or_pairs_guaranteed(&Archive, split, &mut tally),
+            _ => refused_or_as_the_oracle(split, &mut tally),
+        };
+        assert_eq!(settled, Ok(()));
     });
     println!("{tally}");
-    let [answers @ .., _, _, unsorted] = tally.answers;
-    assert!(unsorted > 0 && answers.iter().all(|&count| count > 0));
+    let [answers @ .., _, _, unsorted, no_edition] = tally.answers;
+    let answers = answers.iter().chain([&unsorted, &no_edition]);
+    assert!(answers.into_iter().all(|&count| count > 0));
 }

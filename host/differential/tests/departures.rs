@@ -10,7 +10,9 @@ use differential::{
     compare::Objects,
     lend,
     model::{class_def, coverage, numbers::bytes},
-    Archive, Model, Pair, Random, Subject, Tally,
+    Archive,
+    Edition::First,
+    Model, Pair, Random, Subject, Tally,
 };
 use oracle::Store;
 use std::collections::BTreeSet;
@@ -22,7 +24,7 @@ const LIMIT: usize = 65_535;
 
 /// The split that the model makes, the archive too, and the text.
 fn split(store: &Store, table: u32) -> Split {
-    let call = lend::exactly(store, table, &mut Random::new(0));
+    let call = lend::exactly(store, table, First, &mut Random::new(0));
     assert_eq!(all_agree(&Archive, &call), Ok(()));
     let split = Split::by(&Model, &call);
     assert_eq!(as_the_oracle(&split, &mut Tally::default()), Ok(()));
@@ -159,7 +161,7 @@ fn unsorted_sets_are_split_by_the_text_and_refused_by_the_port() {
             let theirs = oracle::split(&store, TABLE as usize).unwrap();
             assert_eq!(theirs.cuts, places);
 
-            let call = lend::exactly(&store, TABLE, &mut Random::new(0));
+            let call = lend::exactly(&store, TABLE, First, &mut Random::new(0));
             assert_eq!(all_agree(&Archive, &call), Ok(()));
             let ours = Split::by(&Archive, &call);
             assert_eq!((ours.answer, ours.places.len()), (11, 0));

@@ -5,7 +5,7 @@ use differential::{
     damage::{self, Damage},
     explained::{as_answered, explanations, mend, proved_answers},
     generate::{self, Case},
-    lend, Call, Random,
+    lend, Call, Edition, Random,
 };
 use oracle::Store;
 use splitter::{
@@ -21,7 +21,7 @@ const SCRAMBLES: usize = 24;
 const MOST_MENDS: usize = 40;
 
 type Generate = fn(u64) -> Case;
-type Exactly = fn(&Store, u32, &mut Random) -> Call<u32>;
+type Exactly = fn(&Store, u32, Edition, &mut Random) -> Call<u32>;
 
 /// All generated calls of both kinds, with the damages of each.
 fn for_each(mut check: impl FnMut(Kind, &Call<u32>, &[Damage], &mut Random)) {
@@ -40,7 +40,8 @@ fn for_each(mut check: impl FnMut(Kind, &Call<u32>, &[Damage], &mut Random)) {
             for generate in generators {
                 let case = generate(seed);
                 let mut random = Random::new(seed);
-                let call = exactly(&case.store, case.table, &mut random);
+                let edition = random.pick(&Edition::ALL);
+                let call = exactly(&case.store, case.table, edition, &mut random);
                 check(kind, &call, &damages, &mut random);
             }
         }
@@ -97,7 +98,7 @@ fn each_damage_is_explained_and_mended() {
 
 #[test]
 fn whatever_is_wrong_is_explained() {
-    let mut answers = [0; 12];
+    let mut answers = [0; 13];
     let [mut mended, mut not] = [0; 2];
     for_each(|kind, call, _, random| {
         for _ in 0..SCRAMBLES {
@@ -114,7 +115,7 @@ fn whatever_is_wrong_is_explained() {
     });
     println!("answers {answers:?}, mended {mended}, not {not}");
     // 9 and 10 are those of a call over lookups.
-    assert!((0..=8).chain([11]).all(|answer| answers[answer] > 0));
+    assert!((0..=8).chain([11, 12]).all(|answer| answers[answer] > 0));
     assert!(mended > 8 * not);
 }
 

@@ -6,7 +6,9 @@ use differential::{
     check::all_agree,
     lend,
     model::{class_def, coverage, numbers::bytes, values::ValueFormat},
-    Archive, Call, Random, Subject,
+    Archive, Call,
+    Edition::First,
+    Random, Subject,
 };
 use oracle::Store;
 
@@ -17,7 +19,7 @@ const THREE: [u16; 3] = [10, 20, 30];
 
 /// The call after a split, and the places of a cut plan.
 fn split(store: &Store) -> (Call<u32>, Vec<u16>) {
-    let mut call = lend::exactly(store, TABLE, &mut Random::new(0));
+    let mut call = lend::exactly(store, TABLE, First, &mut Random::new(0));
     assert_eq!(all_agree(&Archive, &call), Ok(()));
     let mut plan = call.to_plan();
     assert_eq!(Archive.cut_plan(&mut plan), 0);

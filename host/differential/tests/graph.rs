@@ -6,7 +6,7 @@ use differential::{
     compare::{reachable, reachable_marks, Node, Objects},
     damage, generate, kept_offsets, lend,
     model::answers,
-    product, Archive, Call, Marks, Random,
+    product, Archive, Call, Edition, Marks, Random,
 };
 use oracle::{Graph, ObjIdx, Store};
 use splitter::{GraphStore, Kind, ObjectGraph, Refusal, Scratch};
@@ -81,18 +81,22 @@ fn differs_by_the_text(kind: Kind, split: &Split) -> bool {
     }
 }
 
-/// Calls of both kinds.
+/// Calls of both kinds, by both editions.
 fn for_each(mut check: impl FnMut(Kind, Call<u32>, Random)) {
-    for seed in 0..STORES {
+    for (seed, edition) in (0..STORES).flat_map(|seed| Edition::ALL.map(|by| (seed, by))) {
         let mut random = Random::new(seed);
         for case in [generate::format1(seed), generate::format2(seed)] {
-            let call = lend::exactly(&case.store, case.table, &mut random);
+            let call = lend::exactly(&case.store, case.table, edition, &mut random);
             check(Kind::Pairs, call, Random::new(seed));
         }
         let case = generate::marks(seed);
-        let call = lend::marks_exactly(&case.store, case.table, &mut random);
+        let call = lend::marks_exactly(&case.store, case.table, edition, &mut random);
         check(Kind::Marks, call, Random::new(seed));
     }
+}
+
+fn edition(call: &Call<u32>) -> splitter::Edition {
+    splitter::Edition::from_number(call.edition).unwrap()
 }
 
 #[test]
@@ -103,7 +107,9 @@ fn graphs_become_what_the_crate_makes_of_them() {
         let (store, table) = (&call.store, call.table as ObjIdx);
         let mut host = Host::of(store);
         let before = host.objects();
-        let new_tables = kind.split_graph(&mut host, table, &mut scratch).unwrap();
+        let new_tables = kind
+            .split_graph(&mut host, table, edition(&call), &mut scratch)
+            .unwrap();
         let tables = [&[table], &new_tables[..]].concat();
         let ours = reached(kind, &host.0, &tables);
 
@@ -115,16 +121,18 @@ fn graphs_become_what_the_crate_makes_of_them() {
         let of_split: Vec<ObjIdx> = split.tables().iter().map(|&it| it as ObjIdx).collect();
         assert!(ours == reached(kind, &split.after.store, &of_split));
 
-        // As the crate's own function leaves the graph.
-        let theirs = match kind {
-            Kind::Pairs => oracle::split(store, table),
-            Kind::Marks => oracle::split_markbase(store, table),
-        };
-        let theirs = theirs.unwrap();
-        let their_tables = [&[table], &theirs.new_tables[..]].concat();
-        let is_same = ours == reached(kind, &theirs.graph, &their_tables);
-        assert_eq!(is_same, !differs_by_the_text(kind, &split));
-        differing += usize::from(!is_same);
+        // As the crate's own function leaves the graph, by the first edition.
+        if edition(&call) == splitter::Edition::First {
+            let theirs = match kind {
+                Kind::Pairs => oracle::split(store, table),
+                Kind::Marks => oracle::split_markbase(store, table),
+            };
+            let theirs = theirs.unwrap();
+            let their_tables = [&[table], &theirs.new_tables[..]].concat();
+            let is_same = ours == reached(kind, &theirs.graph, &their_tables);
+            assert_eq!(is_same, !differs_by_the_text(kind, &split));
+            differing += usize::from(!is_same);
+        }
 
         // No other object has changed, and none without a cut.
         for (object, (old, new)) in before.iter().zip(host.objects()).enumerate() {
@@ -143,7 +151,7 @@ fn graphs_become_what_the_crate_makes_of_them() {
 #[test]
 fn refused_graphs_stay() {
     let mut scratch = Scratch::new();
-    let mut refused = [0; 12];
+    let mut refused = [0; 13];
     for_each(|kind, call, mut random| {
         let damages = match kind {
             Kind::Pairs => damage::all(),
@@ -156,7 +164,12 @@ fn refused_graphs_stay() {
         };
         let mut host = Host::of(&call.store);
         let before = host.objects();
-        let split = kind.split_graph(&mut host, call.table as ObjIdx, &mut scratch);
+        let split = kind.split_graph(
+            &mut host,
+            call.table as ObjIdx,
+            edition(&call),
+            &mut scratch,
+        );
         let refusal = split.unwrap_err();
         assert_eq!(refusal.number(), damage.answers[0], "{}", damage.name);
         assert!(host.objects() == before);
@@ -203,9 +216,12 @@ fn graphs_that_are_not_sound() {
     }
 
     for links in [vec![(3, 1)], vec![(2, 1), (2, 2)], vec![(u32::MAX, 1)]] {
-        let split = splitter::split_graph(&mut Odd(links), 0);
+        let split = splitter::split_graph(&mut Odd(links), 0, splitter::Edition::First);
         assert_eq!(split, Err(Refusal::Unsound));
     }
     let mut many = Odd((0..70_000).map(|child| (2, child)).collect());
-    assert_eq!(splitter::split_graph(&mut many, 0), Err(Refusal::NoRoom));
+    assert_eq!(
+        splitter::split_graph(&mut many, 0, splitter::Edition::First),
+        Err(Refusal::NoRoom)
+    );
 }

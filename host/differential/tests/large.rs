@@ -8,7 +8,9 @@ use differential::{
     },
     lend::{self, Need},
     model::soundness::MAXIMA,
-    Archive, Marks, Random, Tally,
+    Archive,
+    Edition::{self, First},
+    Marks, Random, Tally,
 };
 use oracle::Store;
 
@@ -17,8 +19,8 @@ fn figures(case: &Case) -> [usize; 3] {
     figures_by(Need::of, case)
 }
 
-fn figures_by(need: fn(&Store, u32) -> Need, case: &Case) -> [usize; 3] {
-    let need = need(&case.store, case.table);
+fn figures_by(need: fn(&Store, u32, Edition) -> Need, case: &Case) -> [usize; 3] {
+    let need = need(&case.store, case.table, First);
     let [data, objects, links] = case.store.counts.map(|count| count as usize);
     println!("{data} bytes, {objects} objects, {links} links, {need:?}");
     for (i, in_use) in [data, objects, links].into_iter().enumerate() {
@@ -48,7 +50,7 @@ fn the_largest_just_fit() {
         let format2 = large::format2(large::MOST_FORMAT2, order, seed);
         for case in [format1, format2] {
             let [objects, ..] = figures(&case);
-            let after = objects + Need::of(&case.store, case.table).room[1];
+            let after = objects + Need::of(&case.store, case.table, First).room[1];
             assert!((65_500..=65_536).contains(&after), "{after}");
         }
     }
@@ -74,8 +76,8 @@ fn many_glyphs_are_cut_in_several_places() {
                 Spread::Sparse => count.min(32_768),
                 Spread::Dense | Spread::Alone => count,
             };
-            assert_eq!(Need::of(&case.store, case.table).glyphs, covered);
-            let call = lend::exactly(&case.store, case.table, &mut Random::new(0));
+            assert_eq!(Need::of(&case.store, case.table, First).glyphs, covered);
+            let call = lend::exactly(&case.store, case.table, First, &mut Random::new(0));
             let split = Split::by(&Archive, &call);
             assert_eq!(check::as_the_oracle(&split, &mut Tally::default()), Ok(()));
         }
@@ -100,7 +102,7 @@ fn anchors_grow_with_their_classes() {
 }
 
 fn as_the_oracle(case: &Case) -> Outcome {
-    let call = lend::marks_exactly(&case.store, case.table, &mut Random::new(0));
+    let call = lend::marks_exactly(&case.store, case.table, First, &mut Random::new(0));
     let split = Split::by(&Marks(&Archive), &call);
     marks_as_the_oracle(&split, &mut Tally::default())
 }

@@ -6,8 +6,8 @@ use differential::{
     generate::{self, Case},
     lend,
     model::lookups::applied::Subtables,
-    Attachment, Call, InLookups, LookupSubject, MarkSubject, Marks, Model, Pair, Random, Scratch,
-    Splits, Subject,
+    Attachment, Call, Edition, InLookups, LookupSubject, MarkSubject, Marks, Model, Pair, Random,
+    Scratch, Splits, Subject,
 };
 use oracle::Store;
 use splitter::{
@@ -25,7 +25,7 @@ const SCRAMBLES: usize = 60;
 struct Tables {
     kind: Kind,
     generate: &'static [fn(u64) -> Case],
-    exactly: fn(&Store, u32, &mut Random) -> Call<u32>,
+    exactly: fn(&Store, u32, Edition, &mut Random) -> Call<u32>,
     damages: fn() -> Vec<Damage>,
     plan: fn(&mut Call<u16>) -> u32,
     split: fn(&Call<u32>) -> Split,
@@ -55,8 +55,8 @@ impl Tables {
         (0..seeds).flat_map(|seed| self.generate.iter().map(move |generate| generate(seed)))
     }
 
-    fn call(&self, case: &Case, random: &mut Random) -> Call<u32> {
-        (self.exactly)(&case.store, case.table, random)
+    fn call(&self, case: &Case, edition: Edition, random: &mut Random) -> Call<u32> {
+        (self.exactly)(&case.store, case.table, edition, random)
     }
 
     /// What the model plans with all the scratch and list that any table may need.
@@ -78,8 +78,11 @@ impl Tables {
     /// Whether a split is refused, as the model refuses it. The store then stays.
     fn is_refused(&self, call: &Call<u32>, scratch: &mut splitter::Scratch) -> bool {
         let (answer, places) = self.model_plan(call);
+        let Some(edition) = splitter::Edition::from_number(call.edition) else {
+            return answer == 12;
+        };
         let mut store = owned(&call.store);
-        match self.kind.split(&mut store, call.table, scratch) {
+        match self.kind.split(&mut store, call.table, edition, scratch) {
             Ok(new_tables) => assert_eq!((0, new_tables.len()), (answer, places.len())),
             Err(refusal) => {
                 assert_eq!(refusal.number(), answer);
@@ -91,11 +94,20 @@ impl Tables {
 
     fn assert_planned(&self, call: &Call<u32>, scratch: &mut splitter::Scratch, name: &str) {
         let (answer, places) = self.model_plan(call);
-        match self.kind.cut_plan(lent(&call.store), call.table, scratch) {
+        let Some(edition) = splitter::Edition::from_number(call.edition) else {
+            assert_eq!(answer, 12, "{name}");
+            return;
+        };
+        let store = lent(&call.store);
+        match self.kind.cut_plan(store, call.table, edition, scratch) {
             Ok(ours) => assert_eq!((0, ours), (answer, places), "{name}"),
             Err(refusal) => assert_eq!(refusal.number(), answer, "{name}"),
         }
     }
+}
+
+fn any_edition(random: &mut Random) -> Edition {
+    random.pick(&Edition::ALL)
 }
 
 fn lent(store: &Store) -> StoreRef<'_> {
@@ -108,9 +120,11 @@ fn plans() {
     let mut scratch = splitter::Scratch::new();
     for tables in TABLES {
         for case in tables.cases(STORES) {
-            let call = tables.call(&case, &mut Random::new(0));
-            tables.assert_planned(&call, &mut scratch, "");
-            tables.assert_planned(&call, &mut splitter::Scratch::new(), "");
+            for edition in Edition::ALL {
+                let call = tables.call(&case, edition, &mut Random::new(0));
+                tables.assert_planned(&call, &mut scratch, "");
+                tables.assert_planned(&call, &mut splitter::Scratch::new(), "");
+            }
         }
     }
 }
@@ -122,7 +136,7 @@ fn plans_of_damaged_stores() {
         let damages = (tables.damages)();
         for case in tables.cases(DAMAGED) {
             let mut random = Random::new(case.table.into());
-            let call = tables.call(&case, &mut random);
+            let call = tables.call(&case, any_edition(&mut random), &mut random);
             for damage in &damages {
                 if let Some(call) = damage.apply(&call, &mut random) {
                     tables.assert_planned(&call, &mut scratch, damage.name);
@@ -164,27 +178,30 @@ fn in_use(store: splitter::Store) -> Store {
 #[test]
 fn splits() {
     let mut scratch = splitter::Scratch::new();
-    for tables in TABLES {
+    for (tables, edition) in TABLES.iter().flat_map(|it| Edition::ALL.map(|by| (it, by))) {
         let cut = tables.cases(STORES).filter(|case| {
-            let call = tables.call(case, &mut Random::new(0));
+            let call = tables.call(case, edition, &mut Random::new(0));
             let model = (tables.split)(&call);
             assert_split(tables.kind, case, &model, &mut scratch);
             !model.places.is_empty()
         });
-        assert!(cut.count() > 300);
+        let cut = cut.count();
+        println!("{:?} by {edition:?}: {cut} cut", tables.kind);
+        assert!(cut > 250);
     }
 }
 
 /// The store is split as by the model, and grows where it is cut.
 fn assert_split(kind: Kind, case: &Case, model: &Split, scratch: &mut splitter::Scratch) {
+    let edition = splitter::Edition::from_number(model.before.edition).unwrap();
     let mut store = owned(&case.store);
     let mut list = vec![0; model.places.len()];
-    let answer = kind.split_into(&mut store, case.table, scratch, &mut list);
+    let answer = kind.split_into(&mut store, case.table, edition, scratch, &mut list);
     if !model.places.is_empty() {
         assert_eq!(answer, Err(Refusal::NoRoom));
     }
     assert_eq!(in_use(store.clone()), case.store);
-    let new_tables = kind.split(&mut store, case.table, scratch);
+    let new_tables = kind.split(&mut store, case.table, edition, scratch);
     assert_eq!(new_tables.as_deref(), Ok(model.new_tables()));
     assert!(store.view().is_sound());
     assert_eq!(in_use(store), model.after.store);
@@ -198,7 +215,7 @@ fn splits_of_damaged_stores() {
         let mut refused = 0;
         for case in tables.cases(DAMAGED) {
             let mut random = Random::new(case.table.into());
-            let call = tables.call(&case, &mut random);
+            let call = tables.call(&case, any_edition(&mut random), &mut random);
             for _ in 0..SCRAMBLES {
                 let mut call = damage::scramble(&call, &mut random);
                 if !lent(&call.store).is_sound() {
@@ -259,11 +276,15 @@ fn anchors_have_their_names() {
 fn splits_in_lookups() {
     let mut scratch = splitter::Scratch::new();
     let mut cut = 0;
-    for case in (0..300).map(generate::lookups) {
-        let call = lend::in_lookups_exactly(&case, &mut Random::new(0));
+    for seed in 0..300 {
+        let case = generate::lookups(seed);
+        let edition = Edition::ALL[seed as usize % 2];
+        let call = lend::in_lookups_exactly(&case, edition, &mut Random::new(0));
         let model = Split::by(&InLookups(&Model), &call);
+        let edition = splitter::Edition::from_number(call.edition).unwrap();
         let mut store = owned(&case.store);
-        let new_tables = split_in_lookups(&mut store, case.list, case.table, &mut scratch);
+        let (list, table) = (case.list, case.table);
+        let new_tables = split_in_lookups(&mut store, list, table, edition, &mut scratch);
         assert_eq!(new_tables.as_deref(), Ok(model.new_tables()));
         assert!(store.view().is_sound());
         let room = store.room();
@@ -284,7 +305,7 @@ fn splits_in_lookups_of_damaged_stores() {
     let (mut refused, mut entered) = (0, 0);
     for case in (0..DAMAGED).map(generate::lookups) {
         let mut random = Random::new(case.table.into());
-        let call = lend::in_lookups_exactly(&case, &mut random);
+        let call = lend::in_lookups_exactly(&case, any_edition(&mut random), &mut random);
         for _ in 0..SCRAMBLES {
             let call = damage::scramble_lookups(&call, &mut random);
             if !lent(&call.store).is_sound() {
@@ -293,9 +314,13 @@ fn splits_in_lookups_of_damaged_stores() {
             let with_room = enough(&call);
             let mut model = with_room.clone();
             let answer = Model.split_in_lookups(&mut model);
+            let Some(edition) = splitter::Edition::from_number(call.edition) else {
+                assert_eq!(answer, 12);
+                continue;
+            };
             let (list, table) = (call.lookup_list, call.table);
             let mut store = owned(&call.store);
-            match split_in_lookups(&mut store, list, table, &mut scratch) {
+            match split_in_lookups(&mut store, list, table, edition, &mut scratch) {
                 Ok(new_tables) => {
                     assert_eq!((0, model.count as usize), (answer, new_tables.len()));
                     assert_eq!(in_use(store), in_use(owned(&model.store)));

@@ -7,8 +7,8 @@ mod damaged;
 use damaged::Kind;
 use differential::{
     check::{applied_stay, entered, lookups_agree, Outcome, Split},
-    damage, generate, lend, Archive, Call, InLookups, LookupSubject, Model, Pair, Random, Subject,
-    Tally,
+    damage, generate, lend, Archive, Call, Edition, InLookups, LookupSubject, Model, Pair, Random,
+    Subject, Tally,
 };
 
 const STORES: u64 = 160;
@@ -16,7 +16,7 @@ const STORES: u64 = 160;
 const LOOKUPS: Kind = Kind {
     calls,
     damages: damage::lookups,
-    order: &[1, 2, 9, 3, 4, 5, 6, 7, 11, 10, 8],
+    order: &[12, 1, 2, 9, 3, 4, 5, 6, 7, 11, 10, 8],
     scramble: damage::scramble_lookups,
     answers,
     split: |call| Split::by(&InLookups(&Model), call),
@@ -27,7 +27,9 @@ const LOOKUPS: Kind = Kind {
 fn calls() -> Vec<(Call<u32>, Random)> {
     let calls = (0..STORES).map(|seed| {
         let mut random = Random::new(!seed);
-        let call = lend::in_lookups_exactly(&generate::lookups(seed), &mut random);
+        let edition = random.pick(&Edition::ALL);
+        let case = generate::lookups(seed);
+        let call = lend::in_lookups_exactly(&case, edition, &mut random);
         (call, random)
     });
     calls.collect()
@@ -64,6 +66,11 @@ fn the_first_that_applies_decides() {
 }
 
 #[test]
+fn an_edition_that_is_none_comes_first() {
+    LOOKUPS.an_edition_that_is_none_comes_first();
+}
+
+#[test]
 fn another_format_is_nothing_to_split() {
     LOOKUPS.another_format_is_nothing_to_split();
 }
@@ -80,7 +87,7 @@ fn anything_may_be_wrong() {
     });
     println!("{tally}");
     let may_be_rare = [5, 10];
-    let common = (0..12).filter(|answer| !may_be_rare.contains(answer));
+    let common = (0..13).filter(|answer| !may_be_rare.contains(answer));
     assert!(common
         .map(|answer| tally.answers[answer])
         .all(|count| count > 0));

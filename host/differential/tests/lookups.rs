@@ -8,7 +8,9 @@ use differential::{
     generate::Listed,
     lend::{self, Need},
     model::{lookups::applied::Subtables, numbers::bytes},
-    Archive, Call, InLookups, LookupSubject, Pair, Random, Subject, Tally,
+    Archive, Call,
+    Edition::First,
+    InLookups, LookupSubject, Pair, Random, Subject, Tally,
 };
 use oracle::Store;
 
@@ -45,7 +47,7 @@ fn call(store: &Store, list: u32) -> Call<u32> {
         list,
         table: TABLE,
     };
-    lend::in_lookups_exactly(&case, &mut Random::new(0))
+    lend::in_lookups_exactly(&case, First, &mut Random::new(0))
 }
 
 /// The split, which is the model's and changes nothing that it must not.
@@ -134,7 +136,7 @@ fn all_that_is_written() {
 #[test]
 fn what_is_needed() {
     let (store, list) = two_lookups();
-    let need = Need::in_lookups(&store, list, TABLE);
+    let need = Need::in_lookups(&store, list, TABLE, First);
     let lookups = store.bytes(5).len() + store.bytes(6).len() + 3 * 2;
     assert_eq!(need.room, [26 + lookups, 3 + 2, 1 + 3 + 3 + 3]);
     assert_eq!([need.walk, need.glyphs, need.items], [18, 3, 3]);

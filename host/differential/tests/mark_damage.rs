@@ -6,8 +6,11 @@ mod damaged;
 
 use damaged::Kind;
 use differential::{
-    check::{frame, marks_agree, refused_or_marks_as_the_oracle, Split},
-    damage, generate, lend, Archive, Attachment, Call, MarkSubject, Marks, Model, Random, Tally,
+    check::{
+        frame, marks_agree, refused_or_marks_as_the_oracle, refused_or_marks_guaranteed, Split,
+    },
+    damage, generate, lend, Archive, Attachment, Call, Edition, MarkSubject, Marks, Model, Random,
+    Tally,
 };
 
 const STORES: u64 = 160;
@@ -15,7 +18,7 @@ const STORES: u64 = 160;
 const MARKS: Kind = Kind {
     calls,
     damages: damage::marks,
-    order: &[1, 2, 3, 4, 5, 6, 7, 8],
+    order: &[12, 1, 2, 3, 4, 5, 6, 7, 8],
     scramble: damage::scramble,
     answers,
     split: |call| Split::by(&Marks(&Model), call),
@@ -27,7 +30,8 @@ fn calls() -> Vec<(Call<u32>, Random)> {
     let calls = (0..STORES).map(|seed| {
         let case = generate::marks(seed);
         let mut random = Random::new(!seed);
-        let call = lend::marks_exactly(&case.store, case.table, &mut random);
+        let edition = random.pick(&Edition::ALL);
+        let call = lend::marks_exactly(&case.store, case.table, edition, &mut random);
         (call, random)
     });
     calls.collect()
@@ -60,18 +64,29 @@ fn the_first_that_applies_decides() {
 }
 
 #[test]
+fn an_edition_that_is_none_comes_first() {
+    MARKS.an_edition_that_is_none_comes_first();
+}
+
+#[test]
 fn another_format_is_nothing_to_split() {
     MARKS.another_format_is_nothing_to_split();
 }
 
-/// Whatever a call is lent, it is refused and nothing changes, or it is split as by the oracle.
+/// Whatever a call is lent, it is refused and nothing changes, or it is split as by the oracle, or keeps what
+/// the second edition guarantees.
 #[test]
 fn anything_may_be_wrong() {
     let mut tally = Tally::default();
     MARKS.anything_may_be_wrong(|call, split| {
         assert_eq!(marks_agree(&Archive, call), Ok(()));
-        assert_eq!(refused_or_marks_as_the_oracle(split, &mut tally), Ok(()));
+        let settled = match call.edition {
+            2 => refused_or_marks_guaranteed(&Archive, split, &mut tally),
+            _ => refused_or_marks_as_the_oracle(split, &mut tally),
+        };
+        assert_eq!(settled, Ok(()));
     });
     println!("{tally}");
-    assert!(tally.answers[..9].iter().all(|&count| count > 0));
+    let [answers @ .., _, _, _, no_edition] = tally.answers;
+    assert!(no_edition > 0 && answers.iter().all(|&count| count > 0));
 }

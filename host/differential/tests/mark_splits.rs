@@ -7,7 +7,9 @@ use differential::{
     edit, lend,
     lend::Need,
     model::{coverage, numbers::bytes, soundness::MAXIMA},
-    Archive, MarkSubject, Marks, Random, Tally,
+    Archive,
+    Edition::First,
+    MarkSubject, Marks, Random, Tally,
 };
 use oracle::Store;
 
@@ -15,7 +17,7 @@ const TABLE: u32 = 0;
 
 /// The split, which is the model's and the oracle's.
 fn split(store: &Store) -> Split {
-    let call = lend::marks_exactly(store, TABLE, &mut Random::new(0));
+    let call = lend::marks_exactly(store, TABLE, First, &mut Random::new(0));
     assert_eq!(marks_agree(&Archive, &call), Ok(()));
     let split = Split::by(&Marks(&Archive), &call);
     assert_eq!(split.answer, 0);
@@ -103,7 +105,7 @@ fn all_that_is_written() {
 /// 4K + 3 objects, and 4K links plus those of both arrays.
 #[test]
 fn what_is_needed() {
-    let need = Need::of_marks(&three_classes(), TABLE);
+    let need = Need::of_marks(&three_classes(), TABLE, First);
     assert_eq!(need.room[1..], [4 * 2 + 3, 4 * 2 + 4 + 2]);
     assert_eq!([need.walk, need.glyphs, need.items], [22, 4, 3]);
     assert_eq!(need.list, 2);
@@ -211,7 +213,7 @@ fn a_glyph_past_the_marks_goes_to_no_table() {
     let mut store = marks(2, &[0, 1], 0);
     edit::replace(&mut store, 1, &coverage::write(&[10, 20, 30]));
     push_anchor(&mut store, MARK_ARRAY, 8, 65_530);
-    assert_eq!(Need::of_marks(&store, TABLE).glyphs, 3);
+    assert_eq!(Need::of_marks(&store, TABLE, First).glyphs, 3);
     let split = split(&store);
     assert_eq!(split.places, [1]);
     let covered = split.tables().into_iter().flat_map(|table| {
@@ -229,7 +231,10 @@ fn one_object_may_be_both_arrays() {
     edit::link(&mut store, TABLE, 10, MARK_ARRAY);
     let first = push_anchor(&mut store, MARK_ARRAY, 4, 6);
     let second = push_anchor(&mut store, MARK_ARRAY, 8, 65_500);
-    assert_eq!(Need::of_marks(&store, TABLE).room[1..], [7, 4 + 2 + 2]);
+    assert_eq!(
+        Need::of_marks(&store, TABLE, First).room[1..],
+        [7, 4 + 2 + 2]
+    );
     let split = split(&store);
     assert_eq!(split.places, [1]);
     let after = &split.after.store;
@@ -268,7 +273,7 @@ fn all_cuts(classes: u16) -> (Store, u32) {
         BASE_COVERAGE,
         &bytes([1, 32_760].into_iter().chain(0..32_760)),
     );
-    let mut call = lend::marks_exactly(&store, TABLE, &mut Random::new(0));
+    let mut call = lend::marks_exactly(&store, TABLE, First, &mut Random::new(0));
     call.store.data.resize(MAXIMA[0] + 100, 7);
     call.store.objects.resize(2 * (MAXIMA[1] + 100), 7);
     call.store.links.resize(4 * (MAXIMA[2] + 100), 7);
@@ -297,7 +302,7 @@ fn half_of_the_links_can_be_split() {
         let rows = (0..links).flat_map(|slot| [BASE_ARRAY, 2 + 2 * slot, 2, BASE_COVERAGE]);
         store.links.extend(rows);
         store.counts[2] += links;
-        let mut call = lend::marks_exactly(&store, TABLE, &mut Random::new(0));
+        let mut call = lend::marks_exactly(&store, TABLE, First, &mut Random::new(0));
         assert_eq!(call.list.len(), 2);
         call.store.links.resize(4 * (MAXIMA[2] + 100), 7);
         assert_eq!(marks_agree(&Archive, &call), Ok(()));

@@ -4,7 +4,9 @@ use differential::{
     check::{all_agree, as_the_oracle, frame, split_agrees, Outcome, Split},
     edit, lend,
     model::{class_def, coverage, numbers::bytes, soundness::MAXIMA},
-    Archive, Random, Subject, Tally,
+    Archive,
+    Edition::First,
+    Random, Subject, Tally,
 };
 use oracle::Store;
 
@@ -27,7 +29,7 @@ fn all_cuts(slots: u16) -> Store {
 
 /// The answer of a split that is lent far more than the maxima.
 fn answer(store: &Store) -> u32 {
-    let mut call = lend::exactly(store, 0, &mut Random::new(0));
+    let mut call = lend::exactly(store, 0, First, &mut Random::new(0));
     call.store.data.resize(MAXIMA[0] + 100, 7);
     call.store.objects.resize(2 * (MAXIMA[1] + 100), 7);
     call.store.links.resize(4 * (MAXIMA[2] + 100), 7);
@@ -38,7 +40,7 @@ fn answer(store: &Store) -> u32 {
 }
 
 fn compare(store: &Store) -> Outcome {
-    let call = lend::exactly(store, 0, &mut Random::new(0));
+    let call = lend::exactly(store, 0, First, &mut Random::new(0));
     all_agree(&Archive, &call)?;
     let split = Split::by(&Archive, &call);
     frame(&split)?;
@@ -133,7 +135,7 @@ fn a_class_definition_over_all_glyphs_has_65_535_ranges() {
     }
     assert_eq!(compare(&store), Ok(()));
 
-    let call = lend::exactly(&store, 0, &mut Random::new(0));
+    let call = lend::exactly(&store, 0, First, &mut Random::new(0));
     let split = Split::by(&Archive, &call);
     let class_def1 = edit::child_at(&split.after.store, 0, 8).unwrap();
     assert_eq!(edit::bytes(&split.after.store, class_def1).len(), 393_214);

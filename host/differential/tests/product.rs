@@ -4,7 +4,9 @@ use differential::{
     check::{as_the_oracle, frame, Split},
     lend,
     model::numbers::bytes,
-    Archive, Random, Tally,
+    Archive,
+    Edition::First,
+    Random, Tally,
 };
 use oracle::Store;
 
@@ -34,7 +36,7 @@ fn the_product_shows_at_its_edges() {
     let shown = [0, 1, 462, 463, 65_536, 65_537, 65_700, 65_999];
     let mut tally = Tally::default();
     for record in hidden.into_iter().chain(shown) {
-        let call = lend::exactly(&one_device(record), 0, &mut Random::new(0));
+        let call = lend::exactly(&one_device(record), 0, First, &mut Random::new(0));
         let split = Split::by(&Archive, &call);
         assert_eq!(split.places, [109, 218]);
         assert_eq!(frame(&split), Ok(()));

@@ -7,8 +7,9 @@ use differential::{
     },
     edit, generate,
     lend::{self, Need},
-    Attachment, Call, InLookups, LookupSubject, MarkSubject, Marks, Model, Pair, Random, Subject,
-    Tally,
+    Attachment, Call,
+    Edition::First,
+    InLookups, LookupSubject, MarkSubject, Marks, Model, Pair, Random, Subject, Tally,
 };
 use oracle::Store;
 
@@ -75,22 +76,23 @@ fn move_last_place(call: &mut Call<u16>) {
 /// Splits of PairPos tables that are cut more than once.
 fn calls() -> impl Iterator<Item = Call<u32>> {
     let cases = (0..40).flat_map(|seed| [generate::format1(seed), generate::format2(seed)]);
-    let cut = cases.filter(|case| Need::of(&case.store, case.table).list > 1);
-    cut.map(|case| lend::amply(&case.store, case.table, &mut Random::new(0)))
+    let cut = cases.filter(|case| Need::of(&case.store, case.table, First).list > 1);
+    cut.map(|case| lend::amply(&case.store, case.table, First, &mut Random::new(0)))
 }
 
 /// Splits of MarkBasePos tables that are cut more than once.
 fn mark_calls() -> impl Iterator<Item = Call<u32>> {
     let cases = (0..80).map(generate::marks);
-    let cut = cases.filter(|case| Need::of_marks(&case.store, case.table).list > 1);
-    cut.map(|case| lend::marks_amply(&case.store, case.table, &mut Random::new(0)))
+    let cut = cases.filter(|case| Need::of_marks(&case.store, case.table, First).list > 1);
+    cut.map(|case| lend::marks_amply(&case.store, case.table, First, &mut Random::new(0)))
 }
 
 /// Splits of PairPos tables that are cut more than once, in lookups.
 fn lookup_calls() -> impl Iterator<Item = Call<u32>> {
-    let calls = (0..80)
-        .map(|seed| lend::in_lookups_amply(&generate::lookups(seed), &mut Random::new(seed)));
-    calls.filter(|call| Need::of(&call.store, call.table).list > 1)
+    let calls = (0..80).map(|seed| {
+        lend::in_lookups_amply(&generate::lookups(seed), First, &mut Random::new(seed))
+    });
+    calls.filter(|call| Need::of(&call.store, call.table, First).list > 1)
 }
 
 fn assert_found(wrong: Way) {

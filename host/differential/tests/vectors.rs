@@ -27,7 +27,8 @@ fn all_that_is_to_be_replayed_occurs() {
     let tally = &sample.tally;
     let [found, with_device] = sample.pairs_found;
     println!("{} bytes\n{}", sample.input.len(), sample.output);
-    assert!(sample.input.len() <= 220_000);
+    // The program has room for 262,144 bytes.
+    assert!(sample.input.len() <= 250_000);
     let of_lookups = 9..11;
     for (kind, &count) in sample.kinds.iter().enumerate() {
         assert_eq!(count == 0, of_lookups.contains(&kind), "{kind}");

@@ -95,7 +95,7 @@ impl Kind {
     /// Nothing where it has a format that is not split, or where it or a part of it cannot be read. Of a
     /// table that a split refuses for another reason the number means nothing.
     pub fn fit<'a>(self, store: impl Into<StoreRef<'a>>, table: u32) -> Option<Fit> {
-        Counted::new(self, store.into(), table).map(Counted::as_it_stands)
+        Counted::new(self, store.into(), table).map(Counted::uncut)
     }
 
     /// What the tables would take that these cuts make of a table of this kind, the kept one first. With
@@ -113,7 +113,7 @@ impl Kind {
         let cuts: Vec<usize> = cuts.iter().map(|&cut| cut.into()).collect();
         let ascend = cuts.windows(2).all(|cuts| cuts[0] < cuts[1]);
         match cuts.last() {
-            None => Some(vec![counted.as_it_stands()]),
+            None => Some(vec![counted.uncut()]),
             Some(&last) if ascend && last < counted.table.items() => Some(counted.cut_at(&cuts)),
             Some(_) => None,
         }
@@ -138,7 +138,8 @@ impl<'a> Counted<'a> {
         })
     }
 
-    fn as_it_stands(mut self) -> Fit {
+    /// The table as it stands.
+    fn uncut(mut self) -> Fit {
         let own_parts: &[Part] = match (self.table.kind, self.table.format()) {
             (Kind::Pairs, 1) => &[Part::Coverage],
             (Kind::Pairs, _) => &[Part::Coverage, Part::ClassDef1],
@@ -155,6 +156,7 @@ impl<'a> Counted<'a> {
         Fit { items, bytes, past }
     }
 
+    /// The tables that cuts make of it.
     fn cut_at(mut self, cuts: &[usize]) -> Vec<Fit> {
         let pieces = pieces(self.table, cuts).into_iter();
         let fit = |piece: Piece| {

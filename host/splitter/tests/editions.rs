@@ -8,7 +8,6 @@ use splitter::{
     Edition::{self, First, Second},
     Fit, Kind, ObjectGraph, Past, Scratch, Store,
 };
-use std::ops::Range;
 
 /// Where each edition cuts a table, object 0.
 fn places(kind: Kind, store: &Store) -> [Vec<u16>; 2] {
@@ -161,14 +160,18 @@ fn rows_but_for_the_largest_part() {
 fn what_is_not_counted() {
     let (sets, _) = w7();
     let fits = |cuts: &[u16]| Kind::Pairs.fits_at(&sets, 0, cuts);
-    let items = |cuts: &[u16]| -> Option<Vec<Range<usize>>> {
-        Some(fits(cuts)?.into_iter().map(|fit| fit.items).collect())
+    let ends = |cuts: &[u16]| -> Option<Vec<usize>> {
+        let fits = fits(cuts)?;
+        let starts = fits.iter().map(|fit| fit.items.start);
+        let ends = fits.iter().map(|fit| fit.items.end);
+        assert!(starts.eq([0].into_iter().chain(ends.clone()).take(fits.len())));
+        Some(ends.collect())
     };
-    assert_eq!(items(&[]), Some(vec![0..3]));
-    assert_eq!(items(&[0]), Some(vec![0..0, 0..3]));
-    assert_eq!(items(&[1, 2]), Some(vec![0..1, 1..2, 2..3]));
+    assert_eq!(ends(&[]), Some(vec![3]));
+    assert_eq!(ends(&[0]), Some(vec![0, 3]));
+    assert_eq!(ends(&[1, 2]), Some(vec![1, 2, 3]));
     for cuts in [&[3][..], &[2, 1], &[1, 1], &[1, 3]] {
-        assert_eq!(items(cuts), None);
+        assert_eq!(ends(cuts), None);
     }
     assert_eq!(Kind::Marks.fit(&sets, 0), None);
     for table in [1, 2, 5, u32::MAX] {

@@ -14,6 +14,7 @@ impl LookupSubject for Archive {
             &mut store.counts,
             call.lookup_list,
             call.table,
+            call.edition,
             &mut scratch.walk,
             &mut scratch.glyph_set,
             &mut scratch.glyphs,

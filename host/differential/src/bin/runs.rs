@@ -1,17 +1,17 @@
 //! Runs of the splitter against the model and the oracle, over as many seeds as one likes.
 //!
 //! ```text
-//! runs --seeds A..B [--subject archive|model] [--kind pairs|marks|lookups] [--format 1|2]
+//! runs --seeds A..B [--subject archive|model] [--kind pairs|marks|lookups] [--format 1|2] [--edition 1|2]
 //! ```
 //!
 //! Each seed makes a store of each format of PairPos, or one with a MarkBasePos table, or one with a
-//! PairPos table in lookups, which is split whole and damaged. The first difference ends the run, with the seed. Otherwise it ends with how
-//! often each case occurred.
+//! PairPos table in lookups, which is split whole and damaged, by both editions or by one. The first difference
+//! ends the run, with the seed. Otherwise it ends with how often each case occurred, in each edition.
 
 use differential::{
     check::Outcome,
     generate::{self, Case, Listed},
-    runs, Archive, LookupSubject, MarkSubject, Model, Subject, Tally,
+    runs, Archive, Edition, LookupSubject, MarkSubject, Model, Subject, Tally,
 };
 use std::{
     env,
@@ -21,8 +21,8 @@ use std::{
     time::{Duration, Instant},
 };
 
-const USAGE: &str =
-    "runs --seeds A..B [--subject archive|model] [--kind pairs|marks|lookups] [--format 1|2]";
+const USAGE: &str = "runs --seeds A..B [--subject archive|model] [--kind pairs|marks|lookups] \
+                     [--format 1|2] [--edition 1|2]";
 
 /// How often it says how far it is.
 const PROGRESS: Duration = Duration::from_secs(5);
@@ -32,6 +32,7 @@ struct Args {
     seeds: Range<u64>,
     is_model: bool,
     kinds: &'static [Kind],
+    editions: &'static [Edition],
 }
 
 /// A kind of table.
@@ -67,6 +68,7 @@ impl Args {
             seeds: 0..0,
             is_model: false,
             kinds: &[Kind::Format1, Kind::Format2],
+            editions: &Edition::ALL,
         };
         while let Some(name) = words.next() {
             let word = words.next()?;
@@ -82,6 +84,8 @@ impl Args {
                 ("--kind", "lookups") => args.kinds = &[Kind::Lookups],
                 ("--format", "1") => args.kinds = &[Kind::Format1],
                 ("--format", "2") => args.kinds = &[Kind::Format2],
+                ("--edition", "1") => args.editions = &[Edition::First],
+                ("--edition", "2") => args.editions = &[Edition::Second],
                 _ => return None,
             }
         }
@@ -97,12 +101,17 @@ impl<S: Subject + MarkSubject + LookupSubject> Whole for S {}
 fn run(subject: &impl Whole, args: &Args) -> Outcome {
     let start = Instant::now();
     let mut said = start;
-    let mut tally = Tally::default();
+    let mut tallies = vec![Tally::default(); args.editions.len()];
     let mut stores = 0;
     for seed in args.seeds.clone() {
         for &kind in args.kinds {
-            let outcome = check(subject, kind, seed, &mut tally);
-            outcome.map_err(|reason| format!("{kind:?}, seed {seed}: {reason}"))?;
+            for (&edition, tally) in args.editions.iter().zip(&mut tallies) {
+                let outcome = check(subject, kind, edition, seed, tally);
+                outcome.map_err(|reason| {
+                    let edition = edition.number();
+                    format!("{kind:?}, edition {edition}, seed {seed}: {reason}")
+                })?;
+            }
             stores += 1;
         }
         if said.elapsed() >= PROGRESS {
@@ -111,38 +120,64 @@ fn run(subject: &impl Whole, args: &Args) -> Outcome {
             eprintln!("seed {seed} of {:?}: {rate} stores a second", args.seeds);
         }
     }
-    let calls: usize = tally.answers.iter().sum();
+    let calls: usize = tallies.iter().flat_map(|tally| tally.answers).sum();
     let seconds = start.elapsed().as_secs();
     println!("{stores} stores in {calls} calls, no difference");
-    println!("{tally}");
+    for (edition, tally) in args.editions.iter().zip(&tallies) {
+        println!("edition {}\n{tally}", edition.number());
+    }
     println!("{seconds} seconds, {} stores a second", rate(stores, start));
     Ok(())
 }
 
 /// The store of a seed, whole and damaged. A panic is a difference too.
-fn check(subject: &impl Whole, kind: Kind, seed: u64, tally: &mut Tally) -> Outcome {
+fn check(
+    subject: &impl Whole,
+    kind: Kind,
+    edition: Edition,
+    seed: u64,
+    tally: &mut Tally,
+) -> Outcome {
     let checked = catch_unwind(AssertUnwindSafe(|| match kind {
-        Kind::Format1 => check_pairs(subject, &generate::format1(seed), seed, tally),
-        Kind::Format2 => check_pairs(subject, &generate::format2(seed), seed, tally),
-        Kind::Marks => check_marks(subject, &generate::marks(seed), seed, tally),
-        Kind::Lookups => check_lookups(subject, &generate::lookups(seed), seed, tally),
+        Kind::Format1 => check_pairs(subject, &generate::format1(seed), edition, seed, tally),
+        Kind::Format2 => check_pairs(subject, &generate::format2(seed), edition, seed, tally),
+        Kind::Marks => check_marks(subject, &generate::marks(seed), edition, seed, tally),
+        Kind::Lookups => check_lookups(subject, &generate::lookups(seed), edition, seed, tally),
     }));
     checked.unwrap_or(Err("panicked".into()))
 }
 
-fn check_pairs(subject: &impl Subject, case: &Case, seed: u64, tally: &mut Tally) -> Outcome {
-    runs::whole(subject, case, seed, tally)?;
-    runs::damaged(subject, case, seed, tally)
+fn check_pairs(
+    subject: &impl Subject,
+    case: &Case,
+    edition: Edition,
+    seed: u64,
+    tally: &mut Tally,
+) -> Outcome {
+    runs::whole(subject, case, edition, seed, tally)?;
+    runs::damaged(subject, case, edition, seed, tally)
 }
 
-fn check_marks(subject: &impl MarkSubject, case: &Case, seed: u64, tally: &mut Tally) -> Outcome {
-    runs::marks_whole(subject, case, seed, tally)?;
-    runs::marks_damaged(subject, case, seed, tally)
+fn check_marks(
+    subject: &impl MarkSubject,
+    case: &Case,
+    edition: Edition,
+    seed: u64,
+    tally: &mut Tally,
+) -> Outcome {
+    runs::marks_whole(subject, case, edition, seed, tally)?;
+    runs::marks_damaged(subject, case, edition, seed, tally)
 }
 
-fn check_lookups(subject: &impl Whole, case: &Listed, seed: u64, tally: &mut Tally) -> Outcome {
-    runs::lookups_whole(subject, case, seed, tally)?;
-    runs::lookups_damaged(subject, case, seed, tally)
+fn check_lookups(
+    subject: &impl Whole,
+    case: &Listed,
+    edition: Edition,
+    seed: u64,
+    tally: &mut Tally,
+) -> Outcome {
+    runs::lookups_whole(subject, case, edition, seed, tally)?;
+    runs::lookups_damaged(subject, case, edition, seed, tally)
 }
 
 fn rate(stores: u64, start: Instant) -> u64 {

@@ -63,7 +63,13 @@ fn others_stay(old: &Store, new: &Store, table: u32, now: impl Fn(u32) -> u32) -
 
 /// Splitting the kept table again, with scratch enough, changes nothing.
 pub fn again(subject: &impl Splits, split: &Split) -> Outcome {
+    again_at(subject, split, split.before.table)
+}
+
+/// Splitting a table that was left, with scratch enough, changes nothing.
+pub fn again_at(subject: &impl Splits, split: &Split, table: u32) -> Outcome {
     let mut call = split.after.clone();
+    call.table = table;
     call.scratch
         .walk
         .resize(2 * call.store.counts[1] as usize, 0);

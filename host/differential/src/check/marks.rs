@@ -6,22 +6,23 @@ use crate::{
     edit, kept_offsets,
     model::{answers, opened::Opened},
     subject::differ,
-    MarkSubject, Marks, Tally,
+    Edition, MarkSubject, Marks, Tally,
 };
 
 /// The text copies both arrays before it adds its first new table; the port's come last.
 const COPIED_ARRAYS: u32 = 2;
 
-/// A split is the oracle's, but for the old offsets that the text leaves in kept arrays. Its call is
-/// one that is not refused.
+/// A split by the first edition is the oracle's, but for the old offsets that the text leaves in kept arrays.
+/// Its call is one that is not refused.
 pub fn marks_as_the_oracle(split: &Split, tally: &mut Tally) -> Outcome {
     let marks = opened_marks(&split.before.store, split.before.table)?;
     let shows = as_the_text(split)?;
-    tally.add(split.answer, &marks.weigh(), shows);
+    tally.add(split.answer, &marks.weigh(Edition::First), shows);
     Ok(())
 }
 
-/// A split is the oracle's where it is not refused, and the table has the format that is split.
+/// A split by the first edition is the oracle's where it is not refused, and the table has the format that is
+/// split.
 pub fn refused_or_marks_as_the_oracle(split: &Split, tally: &mut Tally) -> Outcome {
     let (store, table) = (&split.before.store, split.before.table);
     match answers::open_marks(store, table) {
@@ -34,13 +35,15 @@ pub fn refused_or_marks_as_the_oracle(split: &Split, tally: &mut Tally) -> Outco
 }
 
 /// The same table under another format is nothing to split. The text asks no format: it splits the
-/// table as one of format 1, and gives format 1 to the new tables alone.
+/// table as one of format 1, by the first edition, and gives format 1 to the new tables alone.
 pub fn another_format(subject: &impl MarkSubject, split: &Split, format: u16) -> Outcome {
     let mut other = split.clone();
     let table = split.before.table;
     edit::set_word(&mut other.before.store, table, 0, format);
     edit::set_word(&mut other.after.store, table, 0, format);
-    as_the_text(&other).map_err(|reason| format!("format {format}: {reason}"))?;
+    if split.before.edition == Edition::First.number() {
+        as_the_text(&other).map_err(|reason| format!("format {format}: {reason}"))?;
+    }
 
     let untouched = Split::by(&Marks(subject), &other.before);
     ensure(

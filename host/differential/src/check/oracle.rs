@@ -3,13 +3,14 @@
 use super::{ensure, opened, same, Outcome, Split};
 use crate::{
     compare::reachable,
-    model::{answers, cuts::weigh},
+    model::{answers, opened::Opened},
     product,
     subject::differ,
-    Tally,
+    Edition, Tally,
 };
 
-/// A split is the oracle's, but for the 16-bit product. Its call is one that is not refused.
+/// A split by the first edition is the oracle's, but for the 16-bit product. Its call is one that is not
+/// refused.
 pub fn as_the_oracle(split: &Split, tally: &mut Tally) -> Outcome {
     let (before, after) = (&split.before, &split.after);
     let theirs = oracle::split(&before.store, before.table as usize);
@@ -23,14 +24,15 @@ pub fn as_the_oracle(split: &Split, tally: &mut Tally) -> Outcome {
     let theirs = reachable(&theirs.graph, &split.tables());
     let pairpos = opened(&before.store, before.table)?;
     let shows = product::shows(&pairpos, &split.places);
-    tally.add(split.answer, &weigh(&pairpos), shows);
+    tally.add(split.answer, &pairpos.weigh(Edition::First), shows);
     ensure((ours != theirs) == (shows == Some(true)), || {
         let difference = differ("objects", &ours, &theirs);
         difference.unwrap_or("the 16-bit product does not show".into())
     })
 }
 
-/// A split is the oracle's where it is not refused, and the table has a format that is split.
+/// A split by the first edition is the oracle's where it is not refused, and the table has a format that is
+/// split.
 pub fn refused_or_as_the_oracle(split: &Split, tally: &mut Tally) -> Outcome {
     let (store, table) = (&split.before.store, split.before.table);
     match answers::open(store, table) {

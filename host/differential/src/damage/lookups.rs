@@ -10,7 +10,7 @@ use crate::{
         numbers::u16_at,
         opened::Opened,
     },
-    Call, Random,
+    Call, Edition, Random,
 };
 
 pub const NUMBERS: &[Named] = &[
@@ -182,9 +182,10 @@ fn lengthen(
 ) -> Option<()> {
     let lookups = rewritten(call)?;
     let lookup = &lookups[random.below(lookups.len())];
+    let edition = Edition::of(call.edition)?;
     let cuts = answers::open(&call.store, call.table)
         .ok()??
-        .cut_places()
+        .cut_places(edition)
         .len();
     (cuts > 0).then_some(())?;
     let slots = slots(cuts * listings(lookup, call.table).count());

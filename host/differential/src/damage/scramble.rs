@@ -6,7 +6,7 @@ use crate::{edit, model::numbers, Call, Random};
 pub fn scramble(call: &Call<u32>, random: &mut Random) -> Call<u32> {
     let mut call = call.clone();
     for _ in 0..random.within(1..=3) {
-        match random.below(10) {
+        match random.below(11) {
             0 => nudge_any(&mut call.store.objects, random),
             1 => nudge_any(&mut call.store.links, random),
             2 => nudge_any(&mut call.store.counts, random),
@@ -14,6 +14,7 @@ pub fn scramble(call: &Call<u32>, random: &mut Random) -> Call<u32> {
             4 => shorten_any(&mut call, random),
             5 => relink(&mut call, random),
             6 => cover(&mut call, random),
+            7 => call.edition = nudged(call.edition, random),
             _ => change_byte(&mut call, random),
         }
     }

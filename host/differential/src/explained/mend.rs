@@ -65,6 +65,7 @@ fn nearest(wanted: Wanted, found: u64) -> Option<usize> {
 fn set(call: &mut Call<u32>, place: &Place, number: usize) -> Option<()> {
     let store = &mut call.store;
     match *place {
+        Place::Edition => call.edition = number as u32,
         Place::Table => call.table = number as u32,
         Place::Count(name) => store.counts[buffer(name)?] = number as u32,
         Place::Head(row) => store.objects[2 * row] = number as u32,

@@ -1,6 +1,7 @@
 //! The answer numbers: a call is refused by the first that applies.
 
 use super::{
+    cuts::Edition,
     header::{Format, Header},
     lookups::{self, entered, Lookup},
     marks::MarkBasePos,
@@ -11,12 +12,14 @@ use super::{
     table::{PairPos, Parts},
     written::Written,
 };
-use crate::Scratch;
+use crate::{Call, Scratch};
 use oracle::Store;
 
 /// Why a call is refused, in the order in which it is asked.
 #[derive(Clone, Copy, Debug, PartialEq, Eq)]
 pub enum Refusal {
+    /// The edition is not 1 or 2.
+    BadEdition = 12,
     /// The store is not sound.
     Unsound = 1,
     /// The table's number is not in use, or the lookup list's is not.
@@ -119,8 +122,17 @@ fn start(store: &Store, table: u32) -> Result<(Objects<'_>, &[u8], u16), Refusal
     Ok((objects, bytes, format))
 }
 
+/// The edition of a call, by check 12.
+fn edition<N>(call: &Call<N>) -> Result<Edition, Refusal> {
+    Edition::of(call.edition).ok_or(Refusal::BadEdition)
+}
+
 /// A table and its cut places by checks 1 to 7 and 11.
-fn cut<T: Opened>(opening: Opening<T>, scratch: &Scratch) -> Opening<(T, Vec<usize>)> {
+fn cut<T: Opened>(
+    opening: Opening<T>,
+    edition: Edition,
+    scratch: &Scratch,
+) -> Opening<(T, Vec<usize>)> {
     let Some(table) = opening? else {
         return Ok(None);
     };
@@ -133,7 +145,7 @@ fn cut<T: Opened>(opening: Opening<T>, scratch: &Scratch) -> Opening<(T, Vec<usi
     if !table.sets_are_sorted() {
         return Err(Refusal::UnsortedSets);
     }
-    let cuts = table.cut_places();
+    let cuts = table.cut_places(edition);
     Ok(Some((table, cuts)))
 }
 
@@ -145,33 +157,29 @@ fn scratch_suffices(table: &impl Opened, scratch: &Scratch) -> bool {
         && scratch.cuts.len() >= table.item_count()
 }
 
-/// What a split writes; nothing where there is nothing to split.
-pub fn split(
-    opening: Opening<impl Opened>,
-    store: &Store,
-    scratch: &Scratch,
-    list_len: usize,
+/// What a split writes of the table that is opened so; nothing where there is nothing to split.
+pub fn split<'a, T: Opened>(
+    call: &'a Call<u32>,
+    open: impl FnOnce(&'a Store, u32) -> Opening<T>,
 ) -> Opening<Written> {
-    let Some((table, cuts)) = cut(opening, scratch)? else {
+    let edition = edition(call)?;
+    let opening = open(&call.store, call.table);
+    let Some((table, cuts)) = cut(opening, edition, &call.scratch)? else {
         return Ok(None);
     };
     if cuts.is_empty() {
         return Ok(None);
     }
-    within_room(table.write(&cuts), store, list_len)
+    within_room(table.write(&cuts), call)
 }
 
 /// What a split writes that enters its new tables in the lookups of a list; nothing where there is nothing
 /// to split.
-pub fn split_in_lookups(
-    store: &Store,
-    list: u32,
-    table: u32,
-    scratch: &Scratch,
-    list_len: usize,
-) -> Opening<Written> {
-    let lookups = open_lookups(store, list, table)?;
-    let Some((pairpos, cuts)) = cut(open(store, table), scratch)? else {
+pub fn split_in_lookups(call: &Call<u32>) -> Opening<Written> {
+    let edition = edition(call)?;
+    let lookups = open_lookups(&call.store, call.lookup_list, call.table)?;
+    let opening = open(&call.store, call.table);
+    let Some((pairpos, cuts)) = cut(opening, edition, &call.scratch)? else {
         return Ok(None);
     };
     if cuts.is_empty() {
@@ -179,27 +187,28 @@ pub fn split_in_lookups(
     }
     let entered = entered::enter(&pairpos, pairpos.write(&cuts), lookups);
     let written = entered.ok_or(Refusal::ManySubtables)?;
-    within_room(written, store, list_len)
+    within_room(written, call)
 }
 
 /// What is written, if there is room for it, and for its new tables in the list.
-fn within_room(written: Written, store: &Store, list_len: usize) -> Opening<Written> {
-    match written.fits(store) && written.new_tables.len() <= list_len {
+fn within_room(written: Written, call: &Call<u32>) -> Opening<Written> {
+    match written.fits(&call.store) && written.new_tables.len() <= call.list.len() {
         true => Ok(Some(written)),
         false => Err(Refusal::NoRoom),
     }
 }
 
-/// The places of a cut plan; nothing where the table has another format.
-pub fn plan(
-    opening: Opening<impl Opened>,
-    scratch: &Scratch,
-    list_len: usize,
+/// The places of a cut plan of the table that is opened so; nothing where it has another format.
+pub fn plan<'a, T: Opened>(
+    call: &'a Call<u16>,
+    open: impl FnOnce(&'a Store, u32) -> Opening<T>,
 ) -> Opening<Vec<u16>> {
-    let Some((_, cuts)) = cut(opening, scratch)? else {
+    let edition = edition(call)?;
+    let opening = open(&call.store, call.table);
+    let Some((_, cuts)) = cut(opening, edition, &call.scratch)? else {
         return Ok(None);
     };
-    if list_len < cuts.len() {
+    if call.list.len() < cuts.len() {
         return Err(Refusal::NoRoom);
     }
     Ok(Some(cuts.iter().map(|&cut| cut as u16).collect()))

@@ -1,12 +1,11 @@
 //! MarkBasePos tables: mark glyphs attached to base glyphs, cut by mark class.
 
 pub mod attachments;
-mod cuts;
 mod written;
 
 use super::{
     coverage,
-    cuts::Weighed,
+    cuts::Beside,
     numbers::{head, u16_at, words},
     objects::{Link, Objects},
     opened::Opened,
@@ -81,6 +80,14 @@ impl<'a> MarkBasePos<'a> {
         })
     }
 
+    /// How many marks a class has.
+    fn mark_count(&self, class: usize) -> usize {
+        let classes = self.mark_classes.iter();
+        classes
+            .filter(|&&other| usize::from(other) == class)
+            .count()
+    }
+
     /// The links of the mark array that stand at slots, each with its mark.
     fn mark_links(&self) -> impl Iterator<Item = (usize, Link)> + 'a {
         let links = self.objects.links_of(self.mark_array).iter();
@@ -138,6 +145,26 @@ fn base_slot_at(position: usize) -> Option<usize> {
     (past_first % 2 == 0).then_some(past_first / 2)
 }
 
+/// The coverage of the marks of some classes, which is never that of the whole table.
+struct BesideClasses<'a> {
+    marks: &'a MarkBasePos<'a>,
+    partial: usize,
+}
+
+impl Beside for BesideClasses<'_> {
+    fn restart(&mut self) {
+        self.partial = 4;
+    }
+
+    fn add(&mut self, class: usize) {
+        self.partial += 2 * self.marks.mark_count(class);
+    }
+
+    fn bytes(&self) -> usize {
+        self.partial
+    }
+}
+
 impl Opened for MarkBasePos<'_> {
     fn objects(&self) -> Objects<'_> {
         self.objects
@@ -183,8 +210,25 @@ impl Opened for MarkBasePos<'_> {
         links.map(|link| link[3]).collect()
     }
 
-    fn weigh(&self) -> Vec<Weighed> {
-        cuts::weigh(self)
+    fn start(&self) -> usize {
+        16 + self.objects.bytes(self.base_coverage).len()
+    }
+
+    fn own_cost(&self, class: usize) -> usize {
+        2 * self.base_count + 4 * self.mark_count(class)
+    }
+
+    fn beside(&self) -> Box<dyn Beside + '_> {
+        Box::new(BesideClasses {
+            marks: self,
+            partial: 4,
+        })
+    }
+
+    fn parts_together(&self) -> usize {
+        let parts = OFFSETS.map(|position| self.objects.child_at(self.table, position));
+        let parts = parts.into_iter().flatten();
+        parts.map(|part| self.objects.bytes(part).len()).sum()
     }
 
     fn write(&self, cuts: &[usize]) -> Written {

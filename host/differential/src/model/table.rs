@@ -3,7 +3,8 @@
 use super::{
     class_def::{self, ClassDef},
     coverage,
-    cuts::{weigh, Weighed},
+    cuts::Beside,
+    estimate::Estimate,
     header::{Format, Header, CLASS_DEF1_POS, CLASS_DEF2_POS, COVERAGE_POS},
     objects::{Link, Objects},
     opened::Opened,
@@ -41,6 +42,8 @@ pub struct Parts {
 pub struct ClassDefs {
     /// The classes of first glyphs.
     pub first: ClassDef,
+    /// The length of class definition 1.
+    pub first_len: usize,
     /// The classes of second glyphs.
     pub second: ClassDef,
     /// The object that holds class definition 2.
@@ -70,6 +73,7 @@ impl ClassDefs {
         let second = objects.child_at(table, CLASS_DEF2_POS)?;
         Some(Self {
             first: class_def::read(objects.bytes(first))?,
+            first_len: objects.bytes(first).len(),
             second: class_def::read(objects.bytes(second))?,
             second_object: second,
             second_len: objects.bytes(second).len(),
@@ -121,6 +125,67 @@ impl<'a> PairPos<'a> {
     }
 }
 
+impl PairPos<'_> {
+    /// The covered glyphs of each class that has a row.
+    fn class_glyphs(&self) -> Vec<Vec<u16>> {
+        let mut classes = vec![Vec::new(); self.header.items];
+        for (glyph, class) in self.glyph_items() {
+            if let Some(glyphs) = classes.get_mut(class) {
+                glyphs.push(glyph);
+            }
+        }
+        classes
+    }
+}
+
+/// The coverage of pair sets: partial, but no longer than the coverage object is.
+struct BesideSets {
+    partial: usize,
+    whole: usize,
+}
+
+impl Beside for BesideSets {
+    fn restart(&mut self) {
+        self.partial = 4;
+    }
+
+    fn add(&mut self, _item: usize) {
+        self.partial += 2;
+    }
+
+    fn bytes(&self) -> usize {
+        self.partial.min(self.whole)
+    }
+}
+
+/// The coverage and the class definitions of rows, but for the largest of them.
+struct BesideRows {
+    /// Of each class.
+    glyphs: Vec<Vec<u16>>,
+    estimate: Estimate,
+    class_def2: usize,
+}
+
+impl Beside for BesideRows {
+    fn restart(&mut self) {
+        self.estimate = Estimate::empty();
+    }
+
+    fn add(&mut self, item: usize) {
+        self.estimate.add(item, &self.glyphs[item]);
+    }
+
+    fn bytes(&self) -> usize {
+        let estimates = [self.estimate.coverage(), self.estimate.class_def()];
+        but_largest([estimates[0], estimates[1], self.class_def2])
+    }
+}
+
+/// The sum without the largest of three.
+fn but_largest(parts: [usize; 3]) -> usize {
+    parts.iter().sum::<usize>() - parts[0].max(parts[1]).max(parts[2])
+}
+
 impl Opened for PairPos<'_> {
     fn objects(&self) -> Objects<'_> {
         self.objects
@@ -163,8 +228,42 @@ impl Opened for PairPos<'_> {
         parts.map(|link| link[3]).collect()
     }
 
-    fn weigh(&self) -> Vec<Weighed> {
-        weigh(self)
+    fn start(&self) -> usize {
+        self.header.format.min_size()
+    }
+
+    fn is_empty(&self, item: usize) -> bool {
+        self.header.format == Format::One && self.item_links(item).is_empty()
+    }
+
+    fn own_cost(&self, _item: usize) -> usize {
+        self.header.item_size()
+    }
+
+    fn beside(&self) -> Box<dyn Beside + '_> {
+        match &self.parts.class_defs {
+            None => Box::new(BesideSets {
+                partial: 4,
+                whole: self.parts.coverage_len,
+            }),
+            Some(class_defs) => Box::new(BesideRows {
+                glyphs: self.class_glyphs(),
+                estimate: Estimate::empty(),
+                class_def2: class_defs.second_len,
+            }),
+        }
+    }
+
+    fn parts_together(&self) -> usize {
+        let coverage = self.parts.coverage_len;
+        match &self.parts.class_defs {
+            None => coverage,
+            Some(ClassDefs {
+                first_len,
+                second_len,
+                ..
+            }) => but_largest([coverage, *first_len, *second_len]),
+        }
     }
 
     fn write(&self, cuts: &[usize]) -> Written {

@@ -1,15 +1,18 @@
-//! What a stored call answers and leaves, as the oracle has it.
+//! What a stored call answers and leaves, as the oracle has it, or in the second edition the model.
 
 use super::{
     cases::{Case, Functions},
     readings::{self, Reading},
 };
 use crate::{
-    check::{as_the_oracle, entered, frame, marks_as_the_oracle, Split},
+    check::{
+        as_the_oracle, entered, frame, marks_as_the_oracle, refused_or_marks_guaranteed,
+        refused_or_pairs_guaranteed, Split,
+    },
     model::answers,
     product,
     tally::ANSWERS,
-    Call, InLookups, Marks, Model, Scratch, Splits, Tally,
+    Call, Edition, InLookups, Marks, Model, Scratch, Splits, Tally,
 };
 use splitter::Kind;
 
@@ -33,23 +36,28 @@ pub struct Answers {
 }
 
 impl Answers {
-    /// What the model answers, if it is what the oracle answers.
+    /// What the model answers, if it is what the oracle answers or what the second edition guarantees.
     pub fn of(case: &Case, tally: &mut Tally) -> Result<Self, String> {
+        let is_second = case.call.edition == Edition::Second.number();
+        let [pairs, marks, lookups]: [Expected; 3] = match is_second {
+            false => [
+                pairs_by_the_oracle,
+                marks_by_the_oracle,
+                lookups_by_the_oracle,
+            ],
+            true => [pairs_by_the_model, marks_by_the_model, lookups_by_the_model],
+        };
         match case.functions {
-            Functions::Of(Kind::Pairs) => Self::by(&Model, case, pairs_by_the_oracle, tally),
-            Functions::Of(Kind::Marks) => {
-                Self::by(&Marks(&Model), case, marks_by_the_oracle, tally)
-            }
-            Functions::InLookups => {
-                Self::by(&InLookups(&Model), case, lookups_by_the_oracle, tally)
-            }
+            Functions::Of(Kind::Pairs) => Self::by(&Model, case, pairs, tally),
+            Functions::Of(Kind::Marks) => Self::by(&Marks(&Model), case, marks, tally),
+            Functions::InLookups => Self::by(&InLookups(&Model), case, lookups, tally),
         }
     }
 
     fn by(
         model: &impl Splits,
         case: &Case,
-        by_the_oracle: ByTheOracle,
+        expected: Expected,
         tally: &mut Tally,
     ) -> Result<Self, String> {
         let split = Split::by(model, &case.call);
@@ -60,13 +68,13 @@ impl Answers {
         }
         let (mut new_tables, mut places) = (Vec::new(), Vec::new());
         if plan_answer == 0 {
-            (new_tables, places) = by_the_oracle(&split, tally)?;
+            (new_tables, places) = expected(&split, tally)?;
         }
         if split.answer != 0 {
             new_tables.clear();
         }
         if split.places != places || split.new_tables() != new_tables {
-            return Err("other cuts than the oracle's".into());
+            return Err("other cuts than those expected".into());
         }
         let kind = case.functions.kind();
         let readings = readings::stored(kind, &split);
@@ -92,8 +100,8 @@ impl Answers {
     }
 }
 
-/// The oracle's new tables and cut places of a call whose cut plan is not refused.
-type ByTheOracle = fn(&Split, &mut Tally) -> Result<(Vec<u32>, Vec<u16>), String>;
+/// The new tables and cut places that are expected of a call whose cut plan is not refused.
+type Expected = fn(&Split, &mut Tally) -> Result<(Vec<u32>, Vec<u16>), String>;
 
 fn pairs_by_the_oracle(split: &Split, tally: &mut Tally) -> Result<(Vec<u32>, Vec<u16>), String> {
     let (store, table) = (&split.before.store, split.before.table);
@@ -134,6 +142,24 @@ fn marks_by_the_oracle(split: &Split, tally: &mut Tally) -> Result<(Vec<u32>, Ve
     }
     let new_tables = theirs.new_tables.iter().map(|&table| table as u32 - 2);
     Ok((new_tables.collect(), theirs.cuts))
+}
+
+fn pairs_by_the_model(split: &Split, tally: &mut Tally) -> Result<(Vec<u32>, Vec<u16>), String> {
+    frame(split)?;
+    refused_or_pairs_guaranteed(&Model, split, tally)?;
+    Ok((split.new_tables().to_vec(), split.places.clone()))
+}
+
+fn marks_by_the_model(split: &Split, tally: &mut Tally) -> Result<(Vec<u32>, Vec<u16>), String> {
+    frame(split)?;
+    refused_or_marks_guaranteed(&Model, split, tally)?;
+    Ok((split.new_tables().to_vec(), split.places.clone()))
+}
+
+fn lookups_by_the_model(split: &Split, tally: &mut Tally) -> Result<(Vec<u32>, Vec<u16>), String> {
+    entered(&Model, split, tally)?;
+    let plain = Split::by(&Model, &split.before);
+    pairs_by_the_model(&plain, tally)
 }
 
 fn split_digest(call: &Call<u32>) -> u32 {

@@ -9,7 +9,7 @@ use super::plain;
 use crate::{
     damage::{self, Damage},
     generate::{self, Listed},
-    lend, Call, Random,
+    lend, Call, Edition, Random,
 };
 use oracle::Store;
 use splitter::Kind;
@@ -47,10 +47,11 @@ impl Functions {
 const PAIRS: Functions = Functions::Of(Kind::Pairs);
 const MARKS: Functions = Functions::Of(Kind::Marks);
 
-/// How many generated stores of pairs in each format are taken, of marks, and of pairs in lookups.
-const GENERATED: usize = 14;
-const GENERATED_MARKS: usize = 12;
-const GENERATED_IN_LOOKUPS: usize = 3;
+/// How many generated stores of pairs in each format are taken, of marks, and of pairs in lookups: by the
+/// first edition, and by the second.
+const GENERATED: [usize; 2] = [12, 3];
+const GENERATED_MARKS: [usize; 2] = [10, 3];
+const GENERATED_IN_LOOKUPS: [usize; 2] = [3, 1];
 
 /// Generated stores have at most so many runs.
 const MOST_RUNS: usize = 330;
@@ -59,10 +60,12 @@ const MOST_RUNS: usize = 330;
 pub fn all() -> Vec<Case> {
     let mut cases = figures::all();
     cases.extend(neighbours::cases());
+    cases.extend(figures::second());
     cases.extend(OF_FORMAT1.cases(GENERATED));
     cases.extend(OF_FORMAT2.cases(GENERATED));
     cases.extend(damaged(PAIRS, &figures::to_damage(), &damage::all()));
     cases.extend(marks::all());
+    cases.extend(marks::second());
     cases.extend(OF_MARKS.cases(GENERATED_MARKS));
     cases.extend(damaged(MARKS, &marks::to_damage(), &damage::marks()));
     cases
@@ -71,6 +74,7 @@ pub fn all() -> Vec<Case> {
 /// The same of calls that enter new tables in lookups.
 pub fn in_lookups() -> Vec<Case> {
     let mut cases = lookups::all();
+    cases.extend(lookups::second());
     cases.extend(IN_LOOKUPS.cases(GENERATED_IN_LOOKUPS));
     let damages = damage::lookups();
     cases.extend(damaged(
@@ -87,7 +91,7 @@ struct Generated {
     functions: Functions,
     generate: fn(u64) -> Listed,
     plain: fn(&Store, u32) -> Store,
-    lend: fn(&Listed, &mut Random) -> Call<u32>,
+    lend: fn(&Listed, Edition, &mut Random) -> Call<u32>,
 }
 
 const OF_FORMAT1: Generated = Generated {
@@ -95,7 +99,7 @@ const OF_FORMAT1: Generated = Generated {
     functions: PAIRS,
     generate: |seed| unlisted(generate::format1(seed)),
     plain: plain::store,
-    lend: |case, random| lend::amply(&case.store, case.table, random),
+    lend: |case, edition, random| lend::amply(&case.store, case.table, edition, random),
 };
 
 const OF_FORMAT2: Generated = Generated {
@@ -109,7 +113,7 @@ const OF_MARKS: Generated = Generated {
     functions: MARKS,
     generate: |seed| unlisted(generate::marks(seed)),
     plain: plain::marks_store,
-    lend: |case, random| lend::marks_amply(&case.store, case.table, random),
+    lend: |case, edition, random| lend::marks_amply(&case.store, case.table, edition, random),
 };
 
 const IN_LOOKUPS: Generated = Generated {
@@ -130,23 +134,31 @@ fn unlisted(case: generate::Case) -> Listed {
 }
 
 impl Generated {
-    fn cases(&self, count: usize) -> impl Iterator<Item = Case> + '_ {
-        let calls = (0..).filter_map(|seed| self.call(seed));
-        calls.take(count).map(|call| Case {
+    /// So many of each edition, of which no two are of one seed.
+    fn cases(&self, [first, second]: [usize; 2]) -> Vec<Case> {
+        let editions = [
+            [Edition::First].repeat(first),
+            [Edition::Second].repeat(second),
+        ];
+        let mut seeds = 0..;
+        let case = |edition| Case {
             name: self.name.into(),
             functions: self.functions,
-            call,
-        })
+            call: seeds
+                .find_map(|seed| self.call(seed, edition))
+                .expect("one of very many stores"),
+        };
+        editions.concat().into_iter().map(case).collect()
     }
 
     /// The store of a seed, if it is short to store, and the program has room for it.
-    fn call(&self, seed: u64) -> Option<Call<u32>> {
+    fn call(&self, seed: u64, edition: Edition) -> Option<Call<u32>> {
         let mut case = (self.generate)(seed);
         let rows = case.store.objects.len() + case.store.links.len();
         (rows <= MOST_RUNS).then_some(())?;
         case.store = (self.plain)(&case.store, case.table);
         (rows + runs(&case.store.data) <= MOST_RUNS).then_some(())?;
-        let call = plain::lent((self.lend)(&case, &mut Random::new(seed)));
+        let call = plain::lent((self.lend)(&case, edition, &mut Random::new(seed)));
         fits(&call).then_some(call)
     }
 }

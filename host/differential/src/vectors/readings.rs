@@ -9,7 +9,7 @@ use crate::{
         pairs,
         table::PairPos,
     },
-    Attachment, MarkSubject, Model, Pair, Subject,
+    Attachment, Edition, MarkSubject, Model, Pair, Subject,
 };
 use oracle::Store;
 use splitter::Kind;
@@ -54,13 +54,14 @@ impl Reading {
 /// Some readings of a table, most of them found, and one that is not.
 pub fn stored(kind: Kind, split: &Split) -> Vec<Reading> {
     let (store, table) = (&split.before.store, split.before.table);
+    let edition = Edition::of(split.before.edition).unwrap_or(Edition::First);
     let mut glyphs = match kind {
         Kind::Pairs => match answers::open(store, table) {
-            Ok(Some(pairpos)) => found_pairs(&pairpos),
+            Ok(Some(pairpos)) => found_pairs(&pairpos, edition),
             _ => vec![[0, 0]],
         },
         Kind::Marks => match answers::open_marks(store, table) {
-            Ok(Some(marks)) => found_attachments(&marks),
+            Ok(Some(marks)) => found_attachments(&marks, edition),
             _ => vec![[0, 0]],
         },
     };
@@ -88,9 +89,9 @@ pub fn stay(kind: Kind, split: &Split, readings: &[Reading]) -> Outcome {
 }
 
 /// Of the first and the last item, and of those at a cut, a pair with values if there is one.
-fn found_pairs(pairpos: &PairPos) -> Vec<[u16; 2]> {
+fn found_pairs(pairpos: &PairPos, edition: Edition) -> Vec<[u16; 2]> {
     let mut firsts: Vec<u16> = Vec::new();
-    for item in some_items(pairpos) {
+    for item in some_items(pairpos, edition) {
         let glyph = pairpos.glyph_items().find(|&(_, other)| other == item);
         firsts.extend(glyph.map(|(glyph, _)| glyph));
     }
@@ -109,9 +110,9 @@ fn found_pairs(pairpos: &PairPos) -> Vec<[u16; 2]> {
 
 /// Of the first and the last class, and of those at a cut, a mark on a base that it is attached to if
 /// there is one.
-fn found_attachments(marks: &MarkBasePos) -> Vec<[u16; 2]> {
+fn found_attachments(marks: &MarkBasePos, edition: Edition) -> Vec<[u16; 2]> {
     let mut chosen: Vec<usize> = Vec::new();
-    for class in some_items(marks) {
+    for class in some_items(marks, edition) {
         let mut classes = marks.mark_classes.iter();
         chosen.extend(classes.position(|&other| usize::from(other) == class));
     }
@@ -126,8 +127,8 @@ fn found_attachments(marks: &MarkBasePos) -> Vec<[u16; 2]> {
 }
 
 /// The first item, the last, and those at the first cuts.
-fn some_items(table: &impl Opened) -> Vec<usize> {
-    let cuts = table.cut_places();
+fn some_items(table: &impl Opened, edition: Edition) -> Vec<usize> {
+    let cuts = table.cut_places(edition);
     let at_cuts = cuts.iter().take(2);
     let at_cuts = at_cuts.flat_map(|&cut| [cut, cut.wrapping_sub(1)]);
     let ends = [0, table.item_count().wrapping_sub(1)];

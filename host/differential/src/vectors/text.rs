@@ -16,8 +16,8 @@ const WIDTH: usize = 100;
 const IN_LOOKUPS: u32 = 3;
 
 const HEAD: &str = "\
-Answers of the oracle, which the program vectors replays. Do not edit: host/differential writes them,
-and says in src/vectors.rs what stands where.
+Stored answers, which the program vectors replays. Do not edit: host/differential writes them, and says
+in src/vectors.rs what stands where.
 ";
 
 /// Text in the making.
@@ -51,6 +51,8 @@ impl Text {
         }
         self.word("table");
         self.number(call.table);
+        self.word("edition");
+        self.number(call.edition);
         self.array("counts", &store.counts);
         self.array("data", &store.data);
         self.array("objects", &store.objects);

@@ -92,6 +92,41 @@ impl Kind {
         }
     }
 
+    /// Beside each other refusal, and beside all of them at once; the scratch is cleared all the same.
+    pub fn an_edition_that_is_none_comes_first(&self) {
+        let damages = (self.damages)();
+        let of_answer = |answer: u32| -> Vec<Damage> {
+            let others = damages.iter().filter(|it| it.answers[0] == answer);
+            others.copied().collect()
+        };
+        let mut most_at_once = 0;
+        for (call, mut random) in (self.calls)() {
+            for _ in 0..8 {
+                let damage = random.pick(&damages);
+                if let Some(damaged) = damage.apply(&call, &mut random) {
+                    self.assert_edition_first(damaged, &mut random, damage.name);
+                }
+            }
+            let (mut damaged, mut at_once) = (call, 0);
+            for &answer in self.order.iter().skip(1).rev() {
+                let damage = random.pick(&of_answer(answer));
+                if let Some(more) = damage.apply(&damaged, &mut random) {
+                    (damaged, at_once) = (more, at_once + 1);
+                }
+            }
+            self.assert_edition_first(damaged, &mut random, "all at once");
+            most_at_once = most_at_once.max(at_once);
+        }
+        println!("{most_at_once} others at once");
+        assert!(most_at_once + 2 >= self.order.len() - 1);
+    }
+
+    fn assert_edition_first(&self, mut call: Call<u32>, random: &mut Random, name: &str) {
+        call.edition = random.pick(&[0, 3, u32::MAX]);
+        assert_eq!((self.answers)(&call)[..2], [12; 2], "{name}");
+        self.assert_untouched(&call, name);
+    }
+
     pub fn another_format_is_nothing_to_split(&self) {
         for (mut call, mut random) in (self.calls)() {
             let format = random.pick(self.other_formats);

@@ -2,6 +2,7 @@
 
 use super::{
     failure::Failure,
+    limits,
     look::Look,
     progress::Progress,
     report::{Amount, Before},
@@ -32,7 +33,8 @@ pub fn show(
     if let Some(before) = Before::new(old.view(), tables[0], edition, cuts) {
         before.describe(screen, Amount::Some)?;
         screen.line("")?;
-        before.show_after(store.view(), &tables, screen, Amount::Some)?;
+        let fits = limits::of_tables(store.view(), &tables);
+        before.show_after(store.view(), &tables, &fits, screen, Amount::Some)?;
     }
     screen.line("")?;
     for entered in Entered::all(&old, store, list) {

@@ -132,11 +132,12 @@ impl Before {
         Ok(())
     }
 
-    /// The tables that came of it, kept and new in order, beside what it was.
+    /// The tables that came of it, kept and new in order, beside what it was, and what they take.
     pub fn show_after(
         &self,
         store: StoreRef,
         tables: &[Table],
+        fits: &[Fit],
         screen: &mut Screen,
         amount: Amount,
     ) -> Result<(), Failure> {
@@ -157,14 +158,13 @@ impl Before {
             bars.bar(&label(place), place, &[looks[place].all_bytes])
         })?;
         screen.line(&bars.limit())?;
-        let fits = limits::of_tables(store, tables);
-        if looks.iter().zip(&fits).any(stands_last) {
+        if looks.iter().zip(fits).any(stands_last) {
             let note =
                 "Some bytes are past the limit: in format 2 the largest of coverage and class \
                         definitions can stand last, and only its start has to be reached.";
             screen.lines(&wrapped(note, 0))?;
         }
-        self.show_limits(&fits, screen, amount)
+        self.show_limits(fits, screen, amount)
     }
 }
 

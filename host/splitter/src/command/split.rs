@@ -167,7 +167,8 @@ impl Show {
             before.describe(screen, self.amount)?;
             if before.is_cut() {
                 screen.line("")?;
-                before.show_after(store.view(), &piece.tables, screen, self.amount)?;
+                let Piece { tables, fits, .. } = &piece;
+                before.show_after(store.view(), tables, fits, screen, self.amount)?;
             }
         }
         if self.check {

@@ -4,8 +4,8 @@ use super::{super::plain, Case, PAIRS};
 use crate::{
     by_hand::{format1_slots, format2, lengthen},
     edit, lend,
-    model::{answers, cuts::weigh, numbers::bytes},
-    Call, Random,
+    model::{answers, numbers::bytes, opened::Opened},
+    Call, Edition, Random,
 };
 use oracle::Store;
 
@@ -15,15 +15,7 @@ const TABLE: usize = 0;
 /// Those that are stored whole.
 pub fn all() -> Vec<Case> {
     let mut cases = Vec::new();
-    let mut add = |name: &str, store: Store| {
-        let call = lent(store);
-        let name = name.into();
-        cases.push(Case {
-            name,
-            functions: PAIRS,
-            call,
-        });
-    };
+    let mut add = |name: &str, store: Store| cases.push(case(name, store, Edition::First));
     let three = [10, 20, 30];
     add("no sets", format1(&[], &[]));
     add("three sets, one cut", format1(&three, &[30_000; 3]));
@@ -70,6 +62,44 @@ pub fn all() -> Vec<Case> {
     cases
 }
 
+/// Those that are stored of the second edition, which cuts most of them in other places than the first.
+pub fn second() -> Vec<Case> {
+    let stores = [
+        ("an only set that is too large", format1(&[10], &[65_518])),
+        (
+            "a first set that is too large",
+            format1(&[10, 20, 30], &[65_518, 10, 10]),
+        ),
+        ("the set at a cut is measured again", shared()),
+        ("an empty slot at the limit", one_empty_slot(65_513)),
+        ("an empty slot past the limit", one_empty_slot(65_514)),
+        ("empty slots count", empty_slots()),
+        (
+            "one set in forty slots, too large for any",
+            one_set(40, 65_535),
+        ),
+        (
+            "the device of all rows, seen from the first",
+            one_device_of_all(),
+        ),
+        ("rows past the limit by both editions", devices(65_536)),
+        (
+            "a row that does not fit, and no cut",
+            one_row(0x000F, 8_189),
+        ),
+    ];
+    let case = |(name, store)| case(name, store, Edition::Second);
+    stores.map(case).into()
+}
+
+fn case(name: &str, store: Store, edition: Edition) -> Case {
+    Case {
+        name: name.into(),
+        functions: PAIRS,
+        call: lent(store, edition),
+    }
+}
+
 /// Some of both formats, all of them cut.
 pub fn to_damage() -> [Call<u32>; 7] {
     let stores = [
@@ -81,13 +111,13 @@ pub fn to_damage() -> [Call<u32>; 7] {
         shared(),
         classes_past_the_rows(),
     ];
-    stores.map(lent)
+    stores.map(|store| lent(store, Edition::First))
 }
 
 /// Exactly what is needed is lent.
-fn lent(store: Store) -> Call<u32> {
+fn lent(store: Store, edition: Edition) -> Call<u32> {
     let store = plain::store(&store, TABLE as u32);
-    let call = lend::exactly(&store, TABLE as u32, &mut Random::new(0));
+    let call = lend::exactly(&store, TABLE as u32, edition, &mut Random::new(0));
     plain::lent(call)
 }
 
@@ -127,6 +157,15 @@ fn shared() -> Store {
     let below = store.push_object(&[0; 40_000]);
     store.push_link(2, 4, below);
     store.push_link(3, 4, below);
+    store
+}
+
+/// A set of this length, and a slot behind it that is empty.
+fn one_empty_slot(length: usize) -> Store {
+    let mut store = format1_slots(&[10, 20], 2);
+    let set = store.push_object(&pair_set(0));
+    store.push_link(TABLE, 10, set);
+    lengthen(&mut store, set, length);
     store
 }
 
@@ -185,7 +224,7 @@ fn devices(total: usize) -> Store {
     }
     store.push_link(TABLE, 16 + record * 31 + 2, large);
     let pairpos = answers::open(&store, TABLE as u32).ok().flatten();
-    let last = pairpos.and_then(|pairpos| weigh(&pairpos).pop());
+    let last = pairpos.and_then(|pairpos| pairpos.weigh(Edition::First).pop());
     let length = total - last.expect("a last row").total;
     edit::replace(&mut store, large as u32, &vec![0; length]);
     store

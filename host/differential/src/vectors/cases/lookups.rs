@@ -7,7 +7,7 @@ use crate::{
     generate::Listed,
     lend,
     model::lookups::FILTERS,
-    Call, Random,
+    Call, Edition, Random,
 };
 use oracle::Store;
 
@@ -26,27 +26,46 @@ pub fn all() -> Vec<Case> {
         ("one subtable more than can be counted", many_slots(65_535)),
         ("a list that leads to itself", list_of_itself()),
     ];
-    let case = |(name, (store, list)): (&str, (Store, u32))| Case {
+    let case = |(name, listed)| case(name, listed, Edition::First);
+    stores.map(case).into()
+}
+
+/// Those that are stored of the second edition.
+pub fn second() -> Vec<Case> {
+    let stores = [
+        ("a table in which all sets share", one_lookup_of_shares()),
+        ("lookups that name each other, once more", each_other()),
+    ];
+    let case = |(name, listed)| case(name, listed, Edition::Second);
+    stores.map(case).into()
+}
+
+fn case(name: &str, (store, list): (Store, u32), edition: Edition) -> Case {
+    Case {
         name: name.into(),
         functions: Functions::InLookups,
-        call: lent(store, list),
-    };
-    stores.map(case).into()
+        call: lent(store, list, edition),
+    }
 }
 
 /// Some, all of them cut.
 pub fn to_damage() -> [Call<u32>; 3] {
-    [one_lookup(2), each_other(), other_types()].map(|(store, list)| lent(store, list))
+    let listed = [one_lookup(2), each_other(), other_types()];
+    listed.map(|(store, list)| lent(store, list, Edition::First))
 }
 
 /// Exactly what is needed is lent.
-fn lent(store: Store, list: u32) -> Call<u32> {
+fn lent(store: Store, list: u32, edition: Edition) -> Call<u32> {
     let case = Listed {
         store,
         list,
         table: TABLE,
     };
-    plain::lent(lend::in_lookups_exactly(&case, &mut Random::new(0)))
+    plain::lent(lend::in_lookups_exactly(
+        &case,
+        edition,
+        &mut Random::new(0),
+    ))
 }
 
 /// So many sets, of which each leads to something large: one cut less.
@@ -66,6 +85,18 @@ fn one_lookup(listings: usize) -> (Store, u32) {
     slots.push(None);
     slots.push(Some(1));
     let lookup = push_lookup(&mut store, [2, FILTERS], &slots);
+    let list = push_list(&mut store, &[Some(lookup)]);
+    (store, list)
+}
+
+/// Three sets that lead to what is large, each to its own, and all to something else.
+fn one_lookup_of_shares() -> (Store, u32) {
+    let mut store = cut(3);
+    let shared = store.push_object(&[0; 30_000]);
+    for set in 2..5 {
+        store.push_link(set, 4, shared);
+    }
+    let lookup = push_lookup(&mut store, [2, 0], &[Some(TABLE)]);
     let list = push_list(&mut store, &[Some(lookup)]);
     (store, list)
 }

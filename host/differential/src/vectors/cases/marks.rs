@@ -5,7 +5,7 @@ use crate::{
     by_hand::{marks, push_anchor, BASE_ARRAY, BASE_COVERAGE, MARK_ARRAY},
     edit, lend,
     model::{coverage, numbers::bytes},
-    Call, Random,
+    Call, Edition, Random,
 };
 use oracle::Store;
 
@@ -34,12 +34,28 @@ pub fn all() -> Vec<Case> {
         ("many classes, each a cut", many_cuts()),
         ("another format of marks", another_format()),
     ];
-    let case = |(name, store): (&str, Store)| Case {
+    let case = |(name, store)| case(name, store, Edition::First);
+    stores.map(case).into()
+}
+
+/// Those that are stored of the second edition.
+pub fn second() -> Vec<Case> {
+    let stores = [
+        ("an only class that is too large", one_class(65_510)),
+        ("a first class that is too large", empty_class()),
+        ("one anchor of all classes", one_anchor()),
+        ("many classes, each too large", many_cuts()),
+    ];
+    let case = |(name, store)| case(name, store, Edition::Second);
+    stores.map(case).into()
+}
+
+fn case(name: &str, store: Store, edition: Edition) -> Case {
+    Case {
         name: name.into(),
         functions: MARKS,
-        call: lent(store),
-    };
-    stores.map(case).into()
+        call: lent(store, edition),
+    }
 }
 
 /// Some, all of them cut.
@@ -49,13 +65,13 @@ pub fn to_damage() -> [Call<u32>; 3] {
         one_anchor(),
         glyphs_past_the_arrays(),
     ]
-    .map(lent)
+    .map(|store| lent(store, Edition::First))
 }
 
 /// Exactly what is needed is lent.
-fn lent(store: Store) -> Call<u32> {
+fn lent(store: Store, edition: Edition) -> Call<u32> {
     let store = plain::marks_store(&store, TABLE);
-    let call = lend::marks_exactly(&store, TABLE, &mut Random::new(0));
+    let call = lend::marks_exactly(&store, TABLE, edition, &mut Random::new(0));
     plain::lent(call)
 }
 

@@ -5,7 +5,7 @@ use crate::{
     by_hand::{format1_slots, lengthen},
     edit, lend,
     model::numbers::bytes,
-    Call, Model, Random, Subject,
+    Call, Edition, Model, Random, Subject,
 };
 use oracle::Store;
 
@@ -38,7 +38,8 @@ fn call(glyphs: &[u16], slots: usize, length: usize) -> Call<u32> {
 }
 
 fn lent(store: &Store) -> Call<u32> {
-    plain::lent(lend::exactly(store, 0, &mut Random::new(0)))
+    let call = lend::exactly(store, 0, Edition::First, &mut Random::new(0));
+    plain::lent(call)
 }
 
 /// A store of one object.
@@ -46,6 +47,10 @@ fn one_object(object: &[u8]) -> Call<u32> {
     let mut store = Store::default();
     store.push_object(object);
     lent(&store)
+}
+
+fn no_edition(call: &mut Call<u32>) {
+    call.edition = 0;
 }
 
 fn rows_turned(call: &mut Call<u32>) {
@@ -92,6 +97,12 @@ pub fn all() -> Vec<Neighbours> {
         answers,
     };
     vec![
+        neighbours(
+            "no edition, and rows out of order",
+            with(&with(&uncut, no_edition), rows_turned),
+            with(&uncut, rows_turned),
+            [12, 1],
+        ),
         neighbours(
             "rows out of order, and a table not in use",
             with(&with(&uncut, rows_turned), not_in_use),
@@ -194,10 +205,10 @@ mod tests {
     /// So that both apply: the first one answers, and where it is mended the second does.
     #[test]
     fn the_first_of_two_answers() {
-        assert_eq!(cases().len(), 12);
+        assert_eq!(cases().len(), 13);
     }
 
-    /// Each refusal is the first of two, and the second, but for 1 and 8.
+    /// Each refusal is the first of two, and the second, but for 12 and 8.
     #[test]
     fn each_refusal_has_its_neighbours() {
         let answers = all().into_iter().map(|neighbours| neighbours.answers);
@@ -207,8 +218,8 @@ mod tests {
                 b.push(second);
                 [a, b]
             });
-        let answers = [1, 2, 3, 4, 5, 6, 7, 11, 8];
-        assert!(answers[..8].iter().all(|answer| firsts.contains(answer)));
+        let answers = [12, 1, 2, 3, 4, 5, 6, 7, 11, 8];
+        assert!(answers[..9].iter().all(|answer| firsts.contains(answer)));
         assert!(answers[1..].iter().all(|answer| seconds.contains(answer)));
     }
 }
