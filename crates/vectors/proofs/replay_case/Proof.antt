@@ -11,6 +11,9 @@ read-number-requires c κs = tt
 read-number-requires-2 : tie.Need-read-number-requires-2
 read-number-requires-2 c κs = tt
 
+read-number-requires-3 : tie.Need-read-number-requires-3
+read-number-requires-3 c κs = tt
+
 slice-aggregate-lay-u32 : tie.Need-slice-aggregate-lay-u32
 slice-aggregate-lay-u32 c = refl
 
@@ -65,6 +68,7 @@ replay-case-spec =
     (tie.spec
     read-number-requires
     read-number-requires-2
+    read-number-requires-3
     slice-aggregate-lay-u32
     lay-u32-requires
     slice-aggregate-lay-u8

@@ -8,7 +8,7 @@ abbrev Inv-loop : tie.InvT-loop
 Inv-loop tally k₀ t5 t6 k = Unit {0}
 
 abbrev μ-loop : tie.MeasureT-loop
-μ-loop tally k₀ t5 t6 k = 12 - k
+μ-loop tally k₀ t5 t6 k = 13 - k
 
 pub print-kinds-spec : {M : Type 1} → statement M
 print-kinds-spec =
