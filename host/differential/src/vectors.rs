@@ -2,7 +2,7 @@
 //!
 //! # How it is made
 //!
-//! [`sample`] takes hand-made stores, generated ones and damaged ones, lends each to the [`Model`],
+//! [`sample`] takes hand-made stores, generated ones and damaged ones, lends each to the [`Model`](crate::Model),
 //! and stores what a cut plan, a split and some readings answer and leave. Whatever is not
 //! refused in the first edition is held against the oracle first: cut places and new tables are the oracle's
 //! own, and the digest of a split is stored only where all that is reachable is as the oracle leaves it and
