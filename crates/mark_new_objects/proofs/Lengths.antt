@@ -1,24 +1,42 @@
 -- The summed lengths of new objects, table by table. Assumes nothing.
 use Prim.Native.Nat.{ℕ, _+_, _-_, _*_, _<_, _≤_}
 use mathlib.Core.Path.{_≡_, sym, subst, ap, ap₂, _∙_}
-use mathlib.Core.List.{List}
+use mathlib.Core.List.{List, [], _∷_}
 use native.Mathlib.Omega.{arith}
+use native.Mathlib.Nat.{mul-le-mul-left}
 use lib.ListN.{length, getD}
 use Rattle.folds.specs.Folds.{sum}
 use Rattle.folds.specs.Lists.{join, part}
 use Rattle.folds.proofs.Folds.{sum-none, sum-more}
 use Rattle.folds.proofs.Parts.{length-part}
+use Rattle.ot_layouts.specs.Coverage.{coverageBytes}
 use Rattle.ot_layouts.proofs.CoverageLength.{cover-length}
 use Rattle.cut_rules.specs.Ranges.{from}
 use Rattle.cut_parts.specs.Tables.{highAt, PartEnd, Halved}
 use Rattle.cut_parts.proofs.TableParts.{kept-half, new-rises, new-inside, new-half, new-same}
-use Rattle.store_object_rows.proofs.Joining.{join-long, join-cons, join-flat}
-use Rattle.mark_rules.specs.Written.{newTable, newParts, newObjects}
+use Rattle.store_object_rows.proofs.Joining.{join-long, join-cons, join-one, join-flat}
+use Rattle.mark_rules.specs.Written.{newTable, newBaseArray, newParts, newObjects}
+use Rattle.mark_new_table.specs.Arrays.{markArrayOf, arraysOf}
+use Rattle.mark_new_table.proofs.Bytes.{table-long, array-long, bases-long}
 use Rattle.mark_new_objects.specs.Marks.{marksFrom}
 use Rattle.mark_new_objects.specs.Planned.{PlannedParts}
-use Rattle.mark_new_objects.specs.Objects.{partsLength, tableObjects, tablesOf, objectsOf}
-use Rattle.mark_new_objects.proofs.Bytes.{table-long, parts-long, slots-small}
+use Rattle.mark_new_objects.specs.Objects.{partsOf, partsLength, tableObjects, tablesOf, objectsOf}
 use Rattle.mark_new_objects.proofs.Planning.{cuts-few, kept-same, kept-parts, table-parts}
+
+pub parts-long : (gs ks : List ℕ) (bases lo hi : ℕ) → length ks ≡ length gs → length (join (partsOf gs ks bases lo hi)) ≡ partsLength gs bases (hi - lo)
+parts-long gs ks bases lo hi same =
+    omega (
+      arith,
+      join-cons (coverageBytes gs) (arraysOf ks bases lo hi),
+      join-cons (markArrayOf lo ks) (newBaseArray bases (hi - lo) ∷ []),
+      join-one (newBaseArray bases (hi - lo)),
+      array-long lo ks,
+      bases-long bases (hi - lo),
+    )
+
+-- bases and classes of sixteen bits
+pub slots-small : (bases n : ℕ) → bases < 65536 → n < 65536 → bases * n ≤ 4294836225
+slots-small bases n b h = let m : bases * n ≤ bases * 65535 = mul-le-mul-left bases (omega arith) in omega arith
 
 -- the parts of a table of fewer than 65,536 marks, bases and classes
 pub parts-most : (gs : List ℕ) (bases n : ℕ) → length gs < 65536 → bases < 65536 → n < 65536 → partsLength gs bases n ≤ 8600000000

@@ -1,6 +1,4 @@
 mod Marks
-mod Bytes
-mod Arrays
 mod Planning
 mod Lengths
 mod Looping

@@ -16,8 +16,9 @@ use Rattle.cut_parts.proofs.Parting.{paired-glyphs, paired-items}
 use Rattle.mark_rules.specs.Table as table
 use Rattle.mark_rules.specs.Table.{Mark}
 use Rattle.mark_rules.specs.Written.{noMark, newCoverage, newMarkArray, newBaseArray, newParts}
+use Rattle.mark_new_table.specs.Arrays.{markOf, markArrayOf}
 use Rattle.mark_new_objects.specs.Marks.{entryFrom, entriesFrom, markFrom, marksFrom}
-use Rattle.mark_new_objects.specs.Objects.{markOf, markArrayOf, partsOf}
+use Rattle.mark_new_objects.specs.Objects.{partsOf}
 
 -- the parts of a table of these entries
 abbrev pub partsFrom : ℕ → ℕ → ℕ → List Entry → List (List ℕ)

@@ -16,8 +16,9 @@ use Rattle.cut_parts.specs.Tables.{paired, highAt, PartEnd, Halved}
 use Rattle.cut_parts.proofs.Parting.{paired-glyphs, halved-none}
 use Rattle.cut_parts.proofs.TableParts.{same-part, first-high, kept-entries, new-rises, new-entries, new-same}
 use Rattle.mark_rules.specs.Written.{newParts}
+use Rattle.mark_new_table.specs.Arrays.{Classes}
 use Rattle.mark_new_objects.specs.Marks.{marksFrom}
-use Rattle.mark_new_objects.specs.Planned.{Classes, RangeMarks, PlannedParts}
+use Rattle.mark_new_objects.specs.Planned.{RangeMarks, PlannedParts}
 use Rattle.mark_new_objects.specs.Objects.{partsOf}
 use Rattle.mark_new_objects.proofs.Marks.{parts-paired}
 

@@ -1,27 +1,15 @@
 -- The new objects of a split, from the glyphs and the classes of the marks. Assumes nothing.
-use Prim.Native.Nat.{ℕ, _+_, _-_, _*_}
-use mathlib.Core.List.{List, [], _∷_}
-use lib.ListN.{length, getD}
+use Prim.Native.Nat.{ℕ, _+_, _*_}
+use mathlib.Core.List.{List, _∷_}
+use lib.ListN.{length}
 use Rattle.folds.specs.Folds.{flat}
-use Rattle.ot_layouts.specs.Numbers.{words}
 use Rattle.ot_layouts.specs.Coverage.{coverageBytes}
 use Rattle.cut_rules.specs.Ranges.{from, to}
-use Rattle.mark_rules.specs.Written.{newTable, newBaseArray, newParts, newObjects}
+use Rattle.mark_rules.specs.Written.{newTable, newParts, newObjects}
+use Rattle.mark_new_table.specs.Arrays.{arraysOf}
 use Rattle.mark_new_objects.specs.Marks.{marksFrom}
 
--- mark k of a mark array of these classes: its class, reduced by lo, and no offset
-abbrev pub markOf : ℕ → List ℕ → ℕ → List ℕ
-markOf lo ks k = (getD ks k 0 - lo) ∷ 0 ∷ []
-
--- that mark array
-unfoldable pub markArrayOf : ℕ → List ℕ → List ℕ
-markArrayOf lo ks = words (length ks ∷ flat (markOf lo ks) (length ks))
-
--- the arrays of a table of the classes lo up to hi, whose marks have these classes
-abbrev pub arraysOf : List ℕ → ℕ → ℕ → ℕ → List (List ℕ)
-arraysOf ks bases lo hi = markArrayOf lo ks ∷ newBaseArray bases (hi - lo) ∷ []
-
--- and before them its coverage, of these glyphs
+-- the parts of a table of the classes lo up to hi: its coverage, of these glyphs, and behind it its arrays
 abbrev pub partsOf : List ℕ → List ℕ → ℕ → ℕ → ℕ → List (List ℕ)
 partsOf gs ks bases lo hi = coverageBytes gs ∷ arraysOf ks bases lo hi
 

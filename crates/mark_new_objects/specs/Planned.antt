@@ -1,18 +1,13 @@
 -- What is known when a table is to be split: its cuts, and its marks' glyphs and classes, those of one table together. Assumes nothing.
 use Prim.Native.Nat.{ℕ, _≤_, _<_}
 use mathlib.Core.List.{List, map}
-use lib.ListN.{length, getD}
+use lib.ListN.{length}
 use Rattle.ot_layouts.specs.Coverage.{Entry}
 use Rattle.ot_ranges.specs.Ascending.{Ascending}
 use Rattle.cut_parts.specs.Tables.{paired, entriesAt, Parted}
+use Rattle.mark_new_table.specs.Arrays.{Classes}
 
--- the classes of the marks of a table of the classes lo up to hi
-pub record Classes (ks : List ℕ) (lo hi : ℕ) : Type 0 where
-  pub few : length ks < 65536
-  pub above : (i : ℕ) → i < length ks → lo ≤ getD ks i 0
-  pub rises : lo ≤ hi
-
--- its marks, in ascending order
+-- the marks of a table of the classes lo up to hi, in ascending order
 pub record RangeMarks (gs ks : List ℕ) (lo hi : ℕ) : Type 0 where
   pub ascending : Ascending gs
   pub classes : Classes ks lo hi

@@ -14,7 +14,7 @@ use Rattle.pair_rules.specs.Written.{needLinks, tableLinks, newLinks}
 use Rattle.store_rules.specs.Appended.{rowNumbers}
 use Rattle.store_rules.proofs.LinkRows.{rows-numbers}
 use Rattle.store_link_rows.specs.Rows.{seg, segment, row, rows, keptRow}
-use Rattle.pair_links.specs.Blocks.{Plan, plan, tableId, newRows, parted, grown, PartedRows}
+use Rattle.pair_new_rows.specs.Blocks.{Plan, plan, tableId, newRows, parted, grown, PartedRows}
 use Rattle.pair_links.specs.Parting.{Between, LinksSplit}
 use Rattle.store_link_rows.proofs.Spans.{seg-ext, span-join, span-ext}
 use Rattle.store_link_rows.proofs.RowLaws.{rows-long, row-below, row-of-rows, own-rows}

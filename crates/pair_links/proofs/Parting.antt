@@ -21,9 +21,9 @@ use Rattle.pair_rules.proofs.ItemLinks.{items-from}
 use Rattle.store_reader.specs.Rows.{keyOf, FirstRow}
 use Rattle.store_reader.proofs.Rows.{rows-between, rows-rise}
 use Rattle.store_link_rows.specs.Rows.{positionIn, PositionsRise}
-use Rattle.pair_links.specs.Blocks.{Plan, plan, edge, grown, Fit}
+use Rattle.pair_new_rows.specs.Blocks.{Plan, plan, edge, grown, Fit}
 use Rattle.pair_links.specs.Parting.{Parting, Between}
-use Rattle.pair_links.proofs.Spreading.{edge-at}
+use Rattle.pair_new_rows.proofs.Spreading.{edge-at}
 
 -- the plan that the code follows
 abbrev pub planOf : Store → Layout → List ℕ → ℕ → Plan

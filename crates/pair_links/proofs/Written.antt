@@ -27,12 +27,12 @@ use Rattle.ot_pairpos.specs.declared.Layout.{Layout}
 use Rattle.ot_pairpos.specs.Layout.{shapeWith}
 use Rattle.store_rules.specs.Appended.{numbersOf, rowNumbers, newNumber}
 use Rattle.store_link_rows.specs.Rows.{segment, positionIn, placedRow, keptRow}
-use Rattle.pair_links.specs.Blocks.{Plan, edge, inside, tableId, movedRow, share, headRows, tableRows, newRows}
+use Rattle.pair_new_rows.specs.Blocks.{Plan, edge, inside, tableId, movedRow, share, headRows, tableRows, newRows}
 use Rattle.pair_links.specs.Parting.{Between}
 use Rattle.store_link_rows.proofs.Keeping.{numbers-kept}
 use Rattle.store_link_rows.proofs.Spans.{flat-span, span-join, span-none, span-ext}
 use Rattle.store_link_rows.proofs.Links.{numbers-append, numbers-flat, numbers-sifted}
-use Rattle.pair_links.proofs.Spreading.{edge-at, edge-end}
+use Rattle.pair_new_rows.proofs.Spreading.{edge-at, edge-end}
 use Rattle.pair_links.proofs.Parting.{planOf, moves, stays-before, stays-after}
 
 -- rows of which only those from a up to b are given, and rows of which only those are not

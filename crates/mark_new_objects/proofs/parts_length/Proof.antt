@@ -1,7 +1,7 @@
 -- `mark_new_objects::parts_length` meets its contract: the sum fits. Assumes nothing.
 use native.Mathlib.Omega.{arith}
 use Rattle.ot_layouts.proofs.CoverageLength.{cover-length}
-use Rattle.mark_new_objects.proofs.Bytes.{slots-small}
+use Rattle.mark_new_objects.proofs.Lengths.{slots-small}
 use borrow.Author.Needs.{needs}
 use Rattle.mark_new_objects.proofs.parts_length.Statement.{statement}
 use Rattle.mark_new_objects.proofs.parts_length.Tie as tie

@@ -1,7 +1,7 @@
 -- `mark_new_objects::write_table_objects` meets its contract: the table, and behind it its parts. Assumes nothing.
 use native.Mathlib.Omega.{arith}
 use Rattle.store_object_rows.proofs.Writing.{one-fits, one-small, rest-room, rest-done}
-use Rattle.mark_new_objects.proofs.Bytes.{table-long}
+use Rattle.mark_new_table.proofs.Bytes.{table-long}
 use borrow.Author.Needs.{needs}
 use Rattle.mark_new_objects.proofs.write_table_objects.Statement.{statement}
 use Rattle.mark_new_objects.proofs.write_table_objects.Tie as tie

@@ -7,7 +7,7 @@ use lib.ListN.{length}
 use Rattle.folds.specs.Lists.{put}
 use Rattle.ot_pairpos.proofs.Layouts.{few-heads}
 use Rattle.store_link_rows.specs.Rows.{segment, keptRow}
-use Rattle.pair_links.proofs.Spreading.{own-positions}
+use Rattle.pair_new_rows.proofs.Spreading.{own-positions}
 use borrow.Author.Needs.{needs}
 use Rattle.pair_links.proofs.keep_table.Statement.{statement}
 use Rattle.pair_links.proofs.keep_table.Tie as tie

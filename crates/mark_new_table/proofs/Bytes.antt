@@ -3,22 +3,18 @@ use Prim.Native.Nat.{ℕ, _+_, _-_, _*_, _≤_, _<_}
 use mathlib.Core.Path.{_≡_, refl, sym, ap, _∙_}
 use mathlib.Core.List.{List, [], _∷_, _++_}
 use native.Mathlib.Omega.{arith}
-use native.Mathlib.Nat.{mul-le-mul-left}
 use lib.ListN.{length, replicate, length-append, length-replicate}
 use Rattle.folds.specs.Folds.{flat}
-use Rattle.folds.specs.Lists.{put, join}
+use Rattle.folds.specs.Lists.{put}
 use Rattle.folds.proofs.Folds.{flat-none, flat-more}
 use Rattle.folds.proofs.FromTheFront.{length-even}
 use Rattle.folds.proofs.Put.{put-nil, put-then}
 use Rattle.ot_layouts.specs.Numbers.{be16, words}
-use Rattle.ot_layouts.specs.Coverage.{coverageBytes}
 use Rattle.ot_layouts.proofs.Numbers.{length-be16, length-words}
 use Rattle.ot_layouts.proofs.Words.{words-append}
 use Rattle.store_object_rows.specs.Objects.{Laid}
-use Rattle.store_object_rows.proofs.Joining.{join-cons, join-one}
 use Rattle.mark_rules.specs.Written.{newTable, newBaseArray}
-use Rattle.mark_new_objects.specs.Planned.{Classes}
-use Rattle.mark_new_objects.specs.Objects.{markOf, markArrayOf, arraysOf, partsOf, partsLength}
+use Rattle.mark_new_table.specs.Arrays.{Classes, markOf, markArrayOf}
 
 -- ---- how long
 
@@ -38,21 +34,6 @@ array-long lo ks =
 pub bases-long : (bases n : ℕ) → length (newBaseArray bases n) ≡ 2 + 2 * (bases * n)
 unfolding newBaseArray
 bases-long bases n = omega (arith, length-append (be16 bases) (replicate (2 * (bases * n)) 0), length-be16 bases, length-replicate {A = ℕ} (2 * (bases * n)) 0)
-
-pub parts-long : (gs ks : List ℕ) (bases lo hi : ℕ) → length ks ≡ length gs → length (join (partsOf gs ks bases lo hi)) ≡ partsLength gs bases (hi - lo)
-parts-long gs ks bases lo hi same =
-    omega (
-      arith,
-      join-cons (coverageBytes gs) (arraysOf ks bases lo hi),
-      join-cons (markArrayOf lo ks) (newBaseArray bases (hi - lo) ∷ []),
-      join-one (newBaseArray bases (hi - lo)),
-      array-long lo ks,
-      bases-long bases (hi - lo),
-    )
-
--- bases and classes of sixteen bits
-pub slots-small : (bases n : ℕ) → bases < 65536 → n < 65536 → bases * n ≤ 4294836225
-slots-small bases n b h = let m : bases * n ≤ bases * 65535 = mul-le-mul-left bases (omega arith) in omega arith
 
 -- ---- written
 

@@ -9,10 +9,10 @@ use Rattle.folds.specs.Lists.{put}
 use Rattle.folds.proofs.Put.{put-put, length-put, put-over}
 use Rattle.store_link_rows.specs.Rows.{seg, positionIn, row, rows, PositionsRise}
 use Rattle.store_rules.specs.Store.{perLink}
-use Rattle.pair_links.specs.Blocks.{Plan, tables, shift, inside, tableId, share, headRows, tableRows, newRows, grown, Spread, PartedRows}
+use Rattle.pair_new_rows.specs.Blocks.{Plan, tables, shift, inside, tableId, share, headRows, tableRows, newRows, grown, Spread, PartedRows}
 use Rattle.store_link_rows.proofs.Spans.{seg-ext, span-ext}
 use Rattle.store_link_rows.proofs.RowLaws.{rows-long, row-of-rows}
-use Rattle.pair_links.proofs.Moving.{position-same, moved-same}
+use Rattle.pair_new_rows.proofs.Moving.{position-same, moved-same}
 
 share-is : (ls out : List ℕ) (i k : ℕ) → row out k ≡ row ls i → (p : Plan) (j : ℕ) → share out p j k ≡ share ls p j i
 unfolding share

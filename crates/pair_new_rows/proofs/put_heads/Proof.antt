@@ -1,4 +1,4 @@
--- `pair_links::put_heads` meets its contract: the positions of a header's links are the first of three. Assumes nothing.
+-- `pair_new_rows::put_heads` meets its contract: the positions of a header's links are the first of three. Assumes nothing.
 use mathlib.Core.Path.{ap, ap₂, _∙_}
 use mathlib.Core.List.{List}
 use Prim.Native.Nat.{ℕ, _*_}
@@ -9,11 +9,11 @@ use Rattle.store_rules.specs.Store.{perLink}
 use Rattle.store_rules.specs.Appended.{rowNumbers}
 use Rattle.store_rules.specs.Header.{headerLinks}
 use Rattle.ot_pairpos.proofs.Layouts.{few-heads}
-use Rattle.pair_links.specs.Blocks.{headRows}
-use Rattle.pair_links.proofs.Spreading.{own-positions, head-positions, some-own}
+use Rattle.pair_new_rows.specs.Blocks.{headRows}
+use Rattle.pair_new_rows.proofs.Spreading.{own-positions, head-positions, some-own}
 use borrow.Author.Needs.{needs}
-use Rattle.pair_links.proofs.put_heads.Statement.{statement}
-use Rattle.pair_links.proofs.put_heads.Tie as tie
+use Rattle.pair_new_rows.proofs.put_heads.Statement.{statement}
+use Rattle.pair_new_rows.proofs.put_heads.Tie as tie
 
 part-put-header-end : tie.Need-part-put-header-end
 part-put-header-end c = omega (arith, few-heads _ (c .before .before .before .pre .0))

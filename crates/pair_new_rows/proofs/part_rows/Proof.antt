@@ -1,12 +1,12 @@
--- `pair_links::part_rows` meets its contract: the rows that move are the same rows behind the others. Assumes nothing.
+-- `pair_new_rows::part_rows` meets its contract: the rows that move are the same rows behind the others. Assumes nothing.
 use Prim.Native.Nat.{_*_, _≤_}
 use lib.ListN.{length}
 use native.Mathlib.Omega.{arith}
 use Rattle.store_rules.specs.Store.{perLink}
-use Rattle.pair_links.proofs.Joining.{ordered-there, floor-there, parted-done}
+use Rattle.pair_new_rows.proofs.Joining.{ordered-there, floor-there, parted-done}
 use borrow.Author.Needs.{needs}
-use Rattle.pair_links.proofs.part_rows.Statement.{statement}
-use Rattle.pair_links.proofs.part_rows.Tie as tie
+use Rattle.pair_new_rows.proofs.part_rows.Statement.{statement}
+use Rattle.pair_new_rows.proofs.part_rows.Tie as tie
 
 spread-requires : tie.Need-spread-requires
 spread-requires c κs =

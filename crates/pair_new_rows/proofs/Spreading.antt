@@ -12,10 +12,10 @@ use Rattle.folds.specs.Lists.{put, part}
 use Rattle.folds.proofs.Tests.{by-test, either, and-second}
 use Rattle.folds.proofs.Put.{put-nil, put-below, put-before}
 use Rattle.store_link_rows.specs.Rows.{segment, positionIn, row, PositionsRise}
-use Rattle.pair_links.specs.Blocks.{Plan, tables, shift, edge, inside, tableId, movedRow, share, per, headRows, headCount, tableRows, grown, Fit, MovedUp, Spread}
+use Rattle.pair_new_rows.specs.Blocks.{Plan, tables, shift, edge, inside, tableId, movedRow, share, per, headRows, headCount, tableRows, grown, Fit, MovedUp, Spread}
 use Rattle.store_link_rows.proofs.Spans.{span-empty, span-join, span-front, span-none, span-ext}
 use Rattle.store_link_rows.proofs.RowLaws.{row-same}
-use Rattle.pair_links.proofs.Moving.{position-same, moved-same, moved-long}
+use Rattle.pair_new_rows.proofs.Moving.{position-same, moved-same, moved-long}
 use Rattle.ot_layouts.specs.PairPos.{coverAt, class1At, class2At, ownIn, sharedIn}
 use Rattle.ot_pairpos.specs.declared.Layout.{Layout}
 use Rattle.ot_pairpos.specs.Layout.{Numbered}

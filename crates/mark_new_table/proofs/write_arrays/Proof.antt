@@ -1,9 +1,9 @@
--- `mark_new_objects::write_arrays` meets its contract: the mark array, and behind it the base array. Assumes nothing.
+-- `mark_new_table::write_arrays` meets its contract: the mark array, and behind it the base array. Assumes nothing.
 use native.Mathlib.Omega.{arith}
-use Rattle.mark_new_objects.proofs.Arrays.{marks-fit, middle-small, base-fits, end-small, arrays-done}
+use Rattle.mark_new_table.proofs.Arrays.{marks-fit, middle-small, base-fits, end-small, arrays-done}
 use borrow.Author.Needs.{needs}
-use Rattle.mark_new_objects.proofs.write_arrays.Statement.{statement}
-use Rattle.mark_new_objects.proofs.write_arrays.Tie as tie
+use Rattle.mark_new_table.proofs.write_arrays.Statement.{statement}
+use Rattle.mark_new_table.proofs.write_arrays.Tie as tie
 
 write-mark-array-requires : tie.Need-write-mark-array-requires
 write-mark-array-requires c κs = let pre = c .before .before .before .before .pre in (pre .0, marks-fit _ _ _ _ (pre .1))

@@ -1,8 +1,8 @@
--- `mark_new_objects::write_table` meets its contract: its six numbers stand one behind another. Assumes nothing.
-use Rattle.mark_new_objects.proofs.Bytes.{table-written}
+-- `mark_new_table::write_table` meets its contract: its six numbers stand one behind another. Assumes nothing.
+use Rattle.mark_new_table.proofs.Bytes.{table-written}
 use borrow.Author.Needs.{needs}
-use Rattle.mark_new_objects.proofs.write_table.Statement.{statement}
-use Rattle.mark_new_objects.proofs.write_table.Tie as tie
+use Rattle.mark_new_table.proofs.write_table.Statement.{statement}
+use Rattle.mark_new_table.proofs.write_table.Tie as tie
 
 returns : tie.Need-returns
 returns c =

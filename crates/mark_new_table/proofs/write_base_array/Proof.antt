@@ -1,8 +1,8 @@
--- `mark_new_objects::write_base_array` meets its contract: the count, and behind it the slots. Assumes nothing.
-use Rattle.mark_new_objects.proofs.Bytes.{bases-written}
+-- `mark_new_table::write_base_array` meets its contract: the count, and behind it the slots. Assumes nothing.
+use Rattle.mark_new_table.proofs.Bytes.{bases-written}
 use borrow.Author.Needs.{needs}
-use Rattle.mark_new_objects.proofs.write_base_array.Statement.{statement}
-use Rattle.mark_new_objects.proofs.write_base_array.Tie as tie
+use Rattle.mark_new_table.proofs.write_base_array.Statement.{statement}
+use Rattle.mark_new_table.proofs.write_base_array.Tie as tie
 
 returns : tie.Need-returns
 returns c = bases-written _ _ _ _ (search needs) (c .before .before .before .before .before .before .put-u16 .ensures) (c .before .before .zero-bytes .ensures)

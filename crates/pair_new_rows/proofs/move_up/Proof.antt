@@ -1,12 +1,12 @@
--- `pair_links::move_up` meets its contract: rows move from the last on, so that none is written over before it is read. Assumes nothing.
+-- `pair_new_rows::move_up` meets its contract: rows move from the last on, so that none is written over before it is read. Assumes nothing.
 use Rattle.store_rules.specs.Store.{perLink, rowPosition}
 use borrow.Author.Needs.{needs}
 use Prim.Native.Nat.{_+_, _-_, _*_}
 use native.Mathlib.Omega.{arith}
-use Rattle.pair_links.specs.Blocks.{movedRow}
-use Rattle.pair_links.proofs.Moving.{Up, up-start, up-turn, up-stop, up-all}
-use Rattle.pair_links.proofs.move_up.Statement.{statement}
-use Rattle.pair_links.proofs.move_up.Tie as tie
+use Rattle.pair_new_rows.specs.Blocks.{movedRow}
+use Rattle.pair_new_rows.proofs.Moving.{Up, up-start, up-turn, up-stop, up-all}
+use Rattle.pair_new_rows.proofs.move_up.Statement.{statement}
+use Rattle.pair_new_rows.proofs.move_up.Tie as tie
 
 abbrev Inv-loop : tie.InvT-loop
 Inv-loop links₀ q count to bound down parent left₀ at₀ links left at = Up links₀ q count to bound down parent links left at

@@ -1,12 +1,12 @@
--- `mark_new_objects::write_mark_array` meets its contract: in the loop the first k marks stand behind the count. Assumes nothing.
+-- `mark_new_table::write_mark_array` meets its contract: in the loop the first k marks stand behind the count. Assumes nothing.
 use borrow.Author.Needs.{needs}
 use native.Mathlib.Omega.{arith}
 use Prim.Native.Nat.{_-_}
 use mathlib.Core.Path.{refl}
 use lib.ListN.{length}
-use Rattle.mark_new_objects.proofs.Bytes.{Marking, marking-start, marking-turn, marking-stop}
-use Rattle.mark_new_objects.proofs.write_mark_array.Statement.{statement}
-use Rattle.mark_new_objects.proofs.write_mark_array.Tie as tie
+use Rattle.mark_new_table.proofs.Bytes.{Marking, marking-start, marking-turn, marking-stop}
+use Rattle.mark_new_table.proofs.write_mark_array.Statement.{statement}
+use Rattle.mark_new_table.proofs.write_mark_array.Tie as tie
 
 abbrev Inv-loop : tie.InvT-loop
 Inv-loop data₀ classes lo hi at first k₀ «data» k = Marking classes lo hi data₀ «data» first k

@@ -1,13 +1,13 @@
--- `pair_links::spread` meets its contract: from the last table on, the rows from `at` on are those of the tables from j on. Assumes nothing.
+-- `pair_new_rows::spread` meets its contract: from the last table on, the rows from `at` on are those of the tables from j on. Assumes nothing.
 use borrow.Author.Needs.{needs}
 use mathlib.Core.Path.{_∙_}
 use Prim.Native.Nat.{_-_}
 use native.Mathlib.Omega.{arith}
 use Rattle.ot_pairpos.proofs.Layouts.{few-heads}
-use Rattle.pair_links.specs.Blocks.{plan}
-use Rattle.pair_links.proofs.Spreading.{At, at-start, at-done, at-turn, Numbers, numbers}
-use Rattle.pair_links.proofs.spread.Statement.{statement}
-use Rattle.pair_links.proofs.spread.Tie as tie
+use Rattle.pair_new_rows.specs.Blocks.{plan}
+use Rattle.pair_new_rows.proofs.Spreading.{At, at-start, at-done, at-turn, Numbers, numbers}
+use Rattle.pair_new_rows.proofs.spread.Statement.{statement}
+use Rattle.pair_new_rows.proofs.spread.Tie as tie
 
 abbrev Inv-loop : tie.InvT-loop
 Inv-loop links₀ q m cuts layout first class2 j₀ left₀ at₀ table₀ links j left at table =

@@ -8,8 +8,8 @@ use Rattle.folds.specs.Lists.{put}
 use Rattle.store_object_rows.specs.Objects.{Laid, ObjectsRoom, Written}
 use Rattle.store_object_rows.proofs.Writing.{written-one, one-fits, one-small, rest-room, rest-done}
 use Rattle.mark_rules.specs.Written.{newBaseArray}
-use Rattle.mark_new_objects.specs.Objects.{markArrayOf, arraysOf}
-use Rattle.mark_new_objects.proofs.Bytes.{array-long, bases-long}
+use Rattle.mark_new_table.specs.Arrays.{markArrayOf, arraysOf}
+use Rattle.mark_new_table.proofs.Bytes.{array-long, bases-long}
 
 module _ {d o : List ℕ} {at row : ℕ} (ks : List ℕ) (bases lo hi : ℕ) (room : ObjectsRoom d o at row (arraysOf ks bases lo hi)) where
   -- the base array

@@ -10,7 +10,7 @@ use Rattle.folds.proofs.Tests.{either}
 use Rattle.folds.proofs.Put.{put-nil, put-below, put-before}
 use Rattle.store_link_rows.specs.Rows.{segment, positionIn, row, placedRow}
 use Rattle.store_rules.specs.Store.{Link, perLink}
-use Rattle.pair_links.specs.Blocks.{movedRow, MovedUp}
+use Rattle.pair_new_rows.specs.Blocks.{movedRow, MovedUp}
 use Rattle.store_link_rows.proofs.Spans.{span-empty, span-front}
 use Rattle.store_link_rows.proofs.RowLaws.{row-same, same-link, placed-same, length-span}
 

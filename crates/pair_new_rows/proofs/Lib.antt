@@ -1,0 +1,3 @@
+mod Moving
+pub mod Spreading
+mod Joining
