@@ -10,7 +10,7 @@ use std::{
 };
 
 /// The crates whose every definition has to be believed.
-const BELIEVED: [&str; 12] = [
+const BELIEVED: [&str; 15] = [
     "folds",
     "ot_layouts",
     "store_rules",
@@ -23,6 +23,9 @@ const BELIEVED: [&str; 12] = [
     "promise_pairs",
     "promise_marks",
     "promise_lookups",
+    "pair_fits",
+    "mark_fits",
+    "promise_editions",
 ];
 
 fn root() -> PathBuf {
