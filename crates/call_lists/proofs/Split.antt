@@ -1,6 +1,6 @@
--- The whole call of a split, whatever it splits: 1 to 7, then what is left of it, which is nothing to cut, no room, or the split. Assumes nothing.
+-- The whole call of a split, whatever it splits: what is asked before, then what is left of it, which is nothing to cut, no room, or the split. Assumes nothing.
 use Prim.Native.Nat.{ℕ}
-use mathlib.Core.Path.{_≡_, refl, sym, ap, subst, _∙_}
+use mathlib.Core.Path.{_≡_, refl, sym, ap, _∙_}
 use mathlib.Core.Bool.{Bool, true, false}
 use mathlib.Core.List.{List, [], _∷_, _++_}
 use mathlib.Core.Option.{Option, some, none}
@@ -63,25 +63,21 @@ module _ (s : Store) (list : List ℕ) (needs : List ℕ → Needs) (after : Lis
     unfolding firstCase settle
     nothing h w = rw (is-empty places (sym count ∙ h))
 
-    module _ (h : k ≡ 0 → ⊥) {cs : List ℕ} (same : cs ≡ places) {r : Bool} {s′ : Store} {list′ : List ℕ}
-        (d : CarriedIfRoom s (needs cs) (after cs) (tables cs) list r s′ list′) where
+    module _ (h : k ≡ 0 → ⊥) {r : Bool} {s′ : Store} {list′ : List ℕ} (d : CarriedIfRoom s (needs places) (after places) (tables places) list r s′ list′) where
       some-cut : isEmpty places ≡ false
       some-cut = not-empty places (λ z. h (count ∙ z))
-
-      by-places : CarriedIfRoom s (needs places) (after places) (tables places) list r s′ list′
-      by-places = subst (λ (x : List ℕ). CarriedIfRoom s (needs x) (after x) (tables x) list r s′ list′) same d
 
       pub refused : r ≡ false → {a : ℕ} → a ≡ number NoRoom → (w : Scratch) → outcome a 0 s′ list′ (cleared w) ≡ splits last w
       unfolding firstCase settle
       refused e f w =
-          by-test (roomShort s list (needs places)) (λ y. let (q, x, z) = by-places .short y in rw (some-cut, y, f, x, z))
-          (λ y. true-false (sym (by-places .enough y .0) ∙ e))
+          by-test (roomShort s list (needs places)) (λ y. let (q, x, z) = d .short y in rw (some-cut, y, f, x, z))
+          (λ y. true-false (sym (d .enough y .0) ∙ e))
 
       pub carried : r ≡ true → length (tables places) ≡ length places → (w : Scratch) → outcome 0 k s′ list′ (cleared w) ≡ splits last w
       unfolding firstCase settle done
       carried e many w =
-          by-test (roomShort s list (needs places)) (λ y. true-false (sym e ∙ by-places .short y .0))
-          (λ y. let c = by-places .enough y .1 in rw (some-cut, y, c .store, c .list-is, many, count))
+          by-test (roomShort s list (needs places)) (λ y. true-false (sym e ∙ d .short y .0))
+          (λ y. let c = d .enough y .1 in rw (some-cut, y, c .store, c .list-is, many, count))
 
   -- ---- the whole call, of which these cases come first
 

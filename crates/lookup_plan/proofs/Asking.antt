@@ -8,7 +8,7 @@ use Rattle.call_rules.specs.declared.Answer.the-variants.{BadEdition, Unsound, 
 use Rattle.call_rules.specs.declared.Settings.{Settings}
 use Rattle.call_rules.specs.Answers.{firstCase}
 use Rattle.call_rules.specs.Settings.{known, settingsCases}
-use Rattle.pair_plan.proofs.Deciding.{tested-known}
+use Rattle.call_rules.proofs.KnownSettings.{tested-known}
 use Rattle.lookup_rules.specs.Listed.{badList}
 use Rattle.lookup_rules.specs.Calls.{listCases}
 use Rattle.lookup_checks.specs.Objects.{ObjectInUse}

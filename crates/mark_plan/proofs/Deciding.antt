@@ -7,7 +7,7 @@ use mathlib.Core.Option.{some, none}
 use native.Mathlib.Omega.{arith}
 use lib.ListN.{length, getD}
 use lib.Dec.{ltb}
-use borrow.Author.Tests.{lt-ltb, le-ltb, not-true, not-false}
+use borrow.Author.Tests.{lt-ltb, le-ltb, not-true}
 use Rattle.store_rules.specs.Store.{Store}
 use Rattle.store_rules.specs.Reach.{onCycle}
 use Rattle.store_rules.proofs.Sound.{size-bytes}
@@ -49,9 +49,6 @@ decided-settled {how} l w {a = a} c y = settles (c .refuses a y how l w refl)
 -- ---- 12
 
 module _ (how : Settings) {b : Bool} (e : b ≡ known how) where
-  pub tested-known : not b ≡ false → known how ≡ true
-  tested-known h = sym e ∙ not-false b h
-
   pub decided-unknown : not b ≡ true → {s : Store} {t : ℕ} {w : Scratch} {cuts : List ℕ} → Decided how s t w (Settled BadEdition) cuts
   unfolding cutCases
   decided-unknown h {s} {t} =

@@ -20,7 +20,6 @@ use Rattle.mark_rules.proofs.Checks.{Parts, parts-read}
 use Rattle.mark_checks.specs.declared.MarkTable.{MarkTable}
 use Rattle.mark_checks.specs.Opens.{Opens}
 use Rattle.mark_checks.proofs.Opened.{marks-used, bases-used, same-marks, marks-long}
-use Rattle.mark_reading.specs.declared.Attachment.{Attachment}
 use Rattle.mark_reading.specs.declared.Attachment.the-variants as Found
 use Rattle.mark_reading.specs.Reading.{attachedAs, SmallAnchors, attachAt}
 

@@ -9,20 +9,20 @@ use native.Mathlib.Nat.{mul-le-mul-left, mul-add}
 use lib.ListN.{length}
 use Rattle.folds.specs.Folds.{flat}
 use Rattle.folds.specs.Lists.{among, sift}
-use Rattle.folds.proofs.Tests.{by-test, either}
+use Rattle.folds.proofs.Tests.{either}
 use Rattle.folds.proofs.Joined.{or-first}
 use Rattle.folds.proofs.Each.{Each, each-at, each-upto, each-moved, each-append, each-flat}
 use Rattle.ot_layouts.specs.PairPos.{Shape, heads, isSlot}
 use Rattle.ot_layouts.proofs.Slots.{slot-moved}
-use Rattle.store_rules.specs.Store.{Store, Link, linksOf, linkAt, positionOf, bytesOf, linkedAt, ofParent}
-use Rattle.store_rules.specs.Reach.{Reach, onCycle, marked, reached}
+use Rattle.store_rules.specs.Store.{Store, Link, linksOf, linkAt, positionOf, bytesOf, linkedAt}
+use Rattle.store_rules.specs.Reach.{onCycle}
 use Rattle.store_rules.specs.Appended.{newNumber}
 use Rattle.store_rules.specs.Header.{kept, ownChild}
 use Rattle.store_rules.proofs.Lookups.{linked-used}
 use Rattle.store_rules.proofs.LinkRows.{noLink, row-is}
 use Rattle.store_rules.proofs.LinksFit.{rows-many}
 use Rattle.store_rules.proofs.Header.{header-each, child-any, kept-any}
-use Rattle.store_rules.proofs.Reached.{reached-only}
+use Rattle.store_rules.proofs.Ways.{unled-acyclic}
 use Rattle.cut_rules.specs.Ranges.{from, to}
 use Rattle.pair_rules.specs.Table.{shape, ofItems, allAtSlots}
 use Rattle.pair_rules.specs.Written.{headLinks, moved, tableLinks, perTable, splitStore}
@@ -127,14 +127,5 @@ module _ (s : Store) (t : ℕ) (cs : List ℕ) (g : Ready s t cs) where
         all-at-slots s′ (table j)
         (λ k m e. ap (λ (x : Shape). isSlot x (positionOf s′ k)) (view-shape (view-new s t cs g j l)) ∙ row-then k m .slot (omega arith))
 
-    not-reached : Reach s′ (λ k. ofParent (table j) (linkAt s′ k)) (table j) → ⊥
-    not-reached (Reach.seed k m a e) = row-then k m .apart j l e
-    not-reached (Reach.step r k m p e) = row-then k m .apart j l e
-
     pub new-acyclic : onCycle s′ (newNumber s (perTable (shape s t)) j) ≡ false
-    unfolding onCycle
-    new-acyclic =
-        by-test (marked (reached s′ (λ k. ofParent (table j) (linkAt s′ k))) (table j))
-        (λ e. absurd (not-reached
-        (reached-only s′ (λ k. ofParent (table j) (linkAt s′ k)) (fits-then s t cs g) (table j) (omega (arith, new-used s t cs g j 0 l (omega arith))) e)))
-        (λ e. e)
+    new-acyclic = unled-acyclic s′ (table j) (λ k m e. row-then k m .apart j l e) (fits-then s t cs g) (omega (arith, new-used s t cs g j 0 l (omega arith)))

@@ -50,9 +50,6 @@ decided-settled {how} h s t w {a = a} e y = settles how s t w a (called s t w ho
 -- ---- 12
 
 module _ (how : Settings) {b : Bool} (e : b ≡ known how) where
-  pub tested-known : not b ≡ false → known how ≡ true
-  tested-known h = sym e ∙ not-false b h
-
   pub decided-unknown : not b ≡ true → {s : Store} {t : ℕ} {w : Scratch} {gs ks cuts : List ℕ} → Decided how s t w (Settled BadEdition) gs ks cuts
   unfolding cutCases
   decided-unknown h {s} {t} {w} =

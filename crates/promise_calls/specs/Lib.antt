@@ -2,3 +2,4 @@ pub mod Unchanged
 pub mod Given
 pub mod Keeps
 pub mod Exits
+pub mod Resulting

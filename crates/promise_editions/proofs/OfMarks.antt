@@ -24,7 +24,8 @@ use Rattle.promise_marks.proofs.Refusals.{as-many-as-cuts}
 use Rattle.promise_marks.proofs.Ready.{Ready, splits-may, splits-ready, store-written}
 use Rattle.promise_marks.proofs.AgainNothing.{nothing-to-split}
 use Rattle.promise_marks.proofs.Calls.{in-order}
-use Rattle.promise_editions.specs.OfMarks.{OfMarkTables, MarkUncut, MarksGuaranteed, MarksGuaranteedThen}
+use Rattle.promise_calls.specs.Resulting.{OfTables}
+use Rattle.promise_editions.specs.OfMarks.{MarkUncut, MarksGuaranteed, MarksGuaranteedThen}
 
 module _ (s : Store) (t : ℕ) (w : Scratch) (list : List ℕ) (splits : Splits secondEdition s t w list) where
   abbrev o : Outcome
@@ -40,7 +41,7 @@ module _ (s : Store) (t : ℕ) (w : Scratch) (list : List ℕ) (splits : Splits 
   ready = splits-ready secondEdition s t w list splits .0
 
   -- what holds in the store that is written holds in the one that is left
-  of-left : (P : Store → ℕ → Type 0) → OfResulting s t cs P → OfMarkTables t o P
+  of-left : (P : Store → ℕ → Type 0) → OfResulting s t cs P → OfTables t o P
   of-left P h u a =
       subst (λ (x : Store). P x u) (sym (store-written secondEdition s t w list splits))
       (h u (subst (λ (us : List ℕ). among u us ≡ true) (in-order secondEdition s t w list splits) a))

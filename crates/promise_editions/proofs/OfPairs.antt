@@ -28,7 +28,8 @@ use Rattle.promise_pairs.proofs.Refusals.{as-many-as-cuts}
 use Rattle.promise_pairs.proofs.GoesAhead.{splits-may, splits-ready, store-written}
 use Rattle.promise_pairs.proofs.AgainNothing.{nothing-to-split}
 use Rattle.promise_pairs.proofs.Calls.{in-order}
-use Rattle.promise_editions.specs.OfPairs.{OfPairTables, PairUncut, PairsGuaranteed, PairsGuaranteedThen}
+use Rattle.promise_calls.specs.Resulting.{OfTables}
+use Rattle.promise_editions.specs.OfPairs.{PairUncut, PairsGuaranteed, PairsGuaranteedThen}
 
 module _ (s : Store) (t : ℕ) (w : Scratch) (list : List ℕ) (octets : Octets s) (splits : Splits secondEdition s t w list) where
   abbrev o : Outcome
@@ -44,7 +45,7 @@ module _ (s : Store) (t : ℕ) (w : Scratch) (list : List ℕ) (octets : Octets 
   ready = splits-ready secondEdition s t w list splits .0
 
   -- what holds in the store that is written holds in the one that is left
-  of-left : (P : Store → ℕ → Type 0) → OfResulting s t cs P → OfPairTables t o P
+  of-left : (P : Store → ℕ → Type 0) → OfResulting s t cs P → OfTables t o P
   of-left P h u a =
       subst (λ (x : Store). P x u) (sym (store-written secondEdition s t w list splits))
       (h u (subst (λ (us : List ℕ). among u us ≡ true) (in-order secondEdition s t w list splits) a))

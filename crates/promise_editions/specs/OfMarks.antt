@@ -5,7 +5,6 @@ use mathlib.Core.Path.{_≡_}
 use mathlib.Core.Bool.{true, false}
 use mathlib.Core.List.{List}
 use lib.ListN.{length}
-use Rattle.folds.specs.Lists.{among}
 use Rattle.store_rules.specs.Store.{Store}
 use Rattle.cut_rules.specs.Places.{placesAscend}
 use Rattle.call_rules.specs.Settings.{secondEdition}
@@ -15,11 +14,7 @@ use Rattle.mark_rules.specs.Table.{classesOf}
 use Rattle.mark_rules.specs.Calls.{markSplitCall, scratchShort}
 use Rattle.mark_fits.specs.Guaranteed.{withinBy2, MarksFitIn}
 use Rattle.promise_calls.specs.Unchanged.{Unchanged}
-use Rattle.promise_marks.specs.Calls.{keptThenNew}
-
--- this holds of each of the resulting tables, in the store that the call leaves
-abbrev pub OfMarkTables : ℕ → Outcome → (Store → ℕ → Type 0) → Type 0
-OfMarkTables t o P = (u : ℕ) → among u (keptThenNew t o) ≡ true → P (o .store) u
+use Rattle.promise_calls.specs.Resulting.{OfTables}
 
 -- splitting table u of s under edition 2, scratch being enough, adds nothing: it answers 0, and nothing changes
 abbrev pub MarkUncut : Store → ℕ → Type 0
@@ -29,11 +24,11 @@ MarkUncut s u =
 
 pub record MarksGuaranteed (s : Store) (t : ℕ) (o : Outcome) : Type 0 where
   -- each resulting table with two or more classes, together with its coverages, its arrays and all that their links reach, is at most 65,535 bytes
-  pub fits : OfMarkTables t o MarksFitIn
+  pub fits : OfTables t o MarksFitIn
   -- no choice of fewer cuts has that property by edition 2's estimate: of all lists of places, those that cut at 0 too
   pub fewest : (cs : List ℕ) → placesAscend 0 (classesOf s t) cs ≡ true → withinBy2 s t cs ≡ true → o .count ≤ length cs
   -- splitting any of the resulting tables again adds nothing
-  pub again : OfMarkTables t o MarkUncut
+  pub again : OfTables t o MarkUncut
 
 -- of a call that answers 0 and reports new tables
 abbrev pub MarksGuaranteedThen : Store → ℕ → Outcome → Type 0

@@ -24,7 +24,8 @@ use Rattle.mark_rules.proofs.NewCounts.{tables-many}
 use Rattle.promise_calls.proofs.Keeps.{call-keeps}
 use Rattle.promise_marks.specs.Demands.{Splits, resulting}
 use Rattle.promise_marks.specs.Exactly.{MaySplit, MayPlan}
-use Rattle.promise_marks.specs.Calls.{keptThenNew, readInOrder, SplitLeaves, SplitKeeps, PlanLeaves, PlanKeeps, MarkKeeps}
+use Rattle.promise_calls.specs.Resulting.{keptThenNew}
+use Rattle.promise_marks.specs.Calls.{readInOrder, SplitLeaves, SplitKeeps, PlanLeaves, PlanKeeps, MarkKeeps}
 use Rattle.promise_marks.proofs.Exactly.{no-case-splits, splits-no-case, no-case-plans, plans-no-case}
 use Rattle.promise_marks.proofs.Ready.{splitAhead, store-written}
 use Rattle.promise_marks.proofs.Refusals.{planAhead, as-many-as-cuts}

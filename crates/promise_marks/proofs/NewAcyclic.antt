@@ -7,14 +7,14 @@ use mathlib.Core.Logic.{⊎-elim}
 use mathlib.Core.Option.{some}
 use native.Mathlib.Omega.{arith}
 use lib.ListN.{length}
-use Rattle.folds.proofs.Tests.{by-test, either}
+use Rattle.folds.proofs.Tests.{either}
 use Rattle.folds.proofs.Each.{Each, each-append, each-upto, each-then, each-at, each-sift}
 use Rattle.ot_layouts.specs.MarkBasePos.{own, heads, markSlot, baseSlot}
-use Rattle.store_rules.specs.Store.{Store, Link, linkAt, ofParent, linkedAt}
-use Rattle.store_rules.specs.Reach.{marked, reached, onCycle, Reach}
+use Rattle.store_rules.specs.Store.{Store, Link, linkAt, linkedAt}
+use Rattle.store_rules.specs.Reach.{onCycle}
 use Rattle.store_rules.specs.Appended.{newNumber}
 use Rattle.store_rules.specs.Header.{headerLinks}
-use Rattle.store_rules.proofs.Reached.{reached-only}
+use Rattle.store_rules.proofs.Ways.{unled-acyclic}
 use Rattle.store_rules.proofs.Lookups.{child-used, linked-used}
 use Rattle.store_rules.proofs.Header.{child-any, header-each, kept-any}
 use Rattle.store_rules.proofs.SlotLinks.{slots-each}
@@ -89,15 +89,5 @@ module _ (s : Store) (t : ℕ) (cs : List ℕ) (g : Ready s t cs) where
       (λ new. row-fresh s t cs g Apart fresh-apart k new h)
       (either k (s .linkCount))
 
-  module _ (j : ℕ) (l : j < length cs) where
-    not-reached : Reach s′ (λ k. ofParent (table j) (linkAt s′ k)) (table j) → ⊥
-    not-reached (Reach.seed k m a e) = row-apart k m j l e
-    not-reached (Reach.step r k m p e) = row-apart k m j l e
-
-    pub new-acyclic : onCycle s′ (newNumber s perTable j) ≡ false
-    unfolding onCycle
-    new-acyclic =
-        by-test (marked (reached s′ (λ k. ofParent (table j) (linkAt s′ k))) (table j))
-        (λ e. absurd (not-reached
-        (reached-only s′ (λ k. ofParent (table j) (linkAt s′ k)) (fits-then s t cs g) (table j) (omega (arith, new-used s t cs g j 0 l (omega arith))) e)))
-        (λ e. e)
+  pub new-acyclic : (j : ℕ) → j < length cs → onCycle s′ (newNumber s perTable j) ≡ false
+  new-acyclic j l = unled-acyclic s′ (table j) (λ k m e. row-apart k m j l e) (fits-then s t cs g) (omega (arith, new-used s t cs g j 0 l (omega arith)))

@@ -7,7 +7,7 @@ use mathlib.Core.List.{List, [], _∷_}
 use mathlib.Core.Option.{none}
 use lib.ListN.{length}
 use lib.Dec.{eqb}
-use Rattle.folds.specs.Lists.{put, part}
+use Rattle.folds.specs.Lists.{put}
 use Rattle.store_rules.specs.Store.{Store, sound, bytesOf, childAt, headOf, tailOf}
 use Rattle.call_rules.specs.declared.Settings.{Settings}
 use Rattle.call_rules.specs.Scratch.{Scratch}
@@ -20,12 +20,9 @@ use Rattle.mark_rules.specs.Calls.{MarkOutcome, markSplitCall, markCall, splitC
 use Rattle.promise_calls.specs.Unchanged.{Unchanged, Octets}
 use Rattle.promise_calls.specs.Given.{Gives}
 use Rattle.promise_calls.specs.Keeps.{CallKeeps}
+use Rattle.promise_calls.specs.Resulting.{keptThenNew}
 use Rattle.promise_marks.specs.Exactly.{MaySplit, MayPlan}
 use Rattle.promise_marks.specs.Demands.{AllAfresh}
-
--- the tables to read then: "the kept table and then the new ones in order", as the list has them
-abbrev pub keptThenNew : ℕ → Outcome → List ℕ
-keptThenNew t o = t ∷ part (o .list) 0 (o .count)
 
 -- attachment readings of several tables, one after the other: the first with an attachment decides
 unfoldable pub readInOrder : Store → List ℕ → ℕ → ℕ → MarkOutcome

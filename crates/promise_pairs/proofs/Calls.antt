@@ -23,7 +23,8 @@ use Rattle.pair_rules.specs.Calls.{PairOutcome, settlePair, pairCases, splitCas
 use Rattle.call_rules.specs.Answers.{firstCase}
 use Rattle.promise_calls.specs.Unchanged.{Octets}
 use Rattle.promise_pairs.specs.Demands.{Splits, resulting}
-use Rattle.promise_pairs.specs.Calls.{keptThenNew, SplitLeaves, SplitKeeps, PlanLeaves, PlanKeeps, PairKeeps}
+use Rattle.promise_calls.specs.Resulting.{keptThenNew}
+use Rattle.promise_pairs.specs.Calls.{SplitLeaves, SplitKeeps, PlanLeaves, PlanKeeps, PairKeeps}
 use Rattle.promise_pairs.proofs.Refusals.{as-many-as-cuts}
 use Rattle.promise_calls.proofs.Keeps.{call-keeps}
 use Rattle.promise_pairs.specs.Exactly.{MaySplit, MayPlan}

@@ -3,10 +3,10 @@
 use Prim.Native.Nat.{ℕ, _<_}
 use mathlib.Core.Path.{_≡_}
 use mathlib.Core.Bool.{true, false}
-use mathlib.Core.List.{List, _∷_}
+use mathlib.Core.List.{List}
 use lib.ListN.{length, replicate}
 use lib.IntN.{pos}
-use Rattle.folds.specs.Lists.{put, part}
+use Rattle.folds.specs.Lists.{put}
 use Rattle.store_rules.specs.Store.{Store, sound, bytesOf, childAt, headOf, tailOf}
 use Rattle.pair_rules.specs.Table.{cutPlaces}
 use Rattle.pair_rules.specs.Written.{newTables, splitStore}
@@ -19,12 +19,9 @@ use Rattle.pair_rules.specs.Calls.{PairOutcome, splitCall, pairCall, splitCases
 use Rattle.promise_calls.specs.Unchanged.{Unchanged, Octets}
 use Rattle.promise_calls.specs.Given.{Gives}
 use Rattle.promise_calls.specs.Keeps.{CallKeeps}
+use Rattle.promise_calls.specs.Resulting.{keptThenNew}
 use Rattle.promise_pairs.specs.Exactly.{MaySplit, MayPlan}
 use Rattle.promise_pairs.specs.Demands.{AllAfresh}
-
--- the tables to read then: "the kept table and then the new ones in order", as the list has them
-abbrev pub keptThenNew : ℕ → Outcome → List ℕ
-keptThenNew t o = t ∷ part (o .list) 0 (o .count)
 
 -- after a split
 pub record SplitLeaves (how : Settings) (s : Store) (t : ℕ) (list : List ℕ) (o : Outcome) : Type 0 where

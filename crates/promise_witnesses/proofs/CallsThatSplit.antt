@@ -26,7 +26,7 @@ use Rattle.call_rules.specs.Answers.{firstCase}
 use Rattle.pair_rules.specs.Computing.{computes}
 use Rattle.promise_calls.specs.Unchanged.{Octets}
 use Rattle.promise_pairs.specs.Demands.{Splits, storeThen, AllAfresh}
-use Rattle.promise_witnesses.proofs.EitherEdition.{in-either}
+use Rattle.call_rules.proofs.KnownSettings.{in-either}
 use Rattle.promise_witnesses.proofs.HeldToACall.{seenOf, answers, counts}
 
 -- each number was looked at
@@ -78,7 +78,7 @@ unfolding threeSlots slotsFront slotsScratch computes seenOf
 second-seen = refl
 
 pub slots-seen : (how : Settings) → known how ≡ true → seenOf threeSlots (left how) ≡ 0 ∷ 2 ∷ 11 ∷ 1 ∷ 0 ∷ []
-slots-seen = in-either (λ how. seenOf threeSlots (left how) ≡ 0 ∷ 2 ∷ 11 ∷ 1 ∷ 0 ∷ []) first-seen second-seen
+slots-seen how = in-either how (λ how. seenOf threeSlots (left how) ≡ 0 ∷ 2 ∷ 11 ∷ 1 ∷ 0 ∷ []) first-seen second-seen
 
 -- so there is something of which the demands speak
 pub slots-split : (how : Settings) → known how ≡ true → Splits how threeSlots 0 slotsScratch twoList

@@ -1,4 +1,3 @@
-pub mod EitherEdition
 pub mod HeldToACall
 pub mod CallsThatSplit
 pub mod UselessBuilds

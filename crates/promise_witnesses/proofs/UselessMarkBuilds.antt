@@ -16,7 +16,7 @@ use Rattle.mark_rules.specs.Computing.{computes}
 use Rattle.promise_marks.specs.Demands.{Splits}
 use Rattle.promise_marks.proofs.Unique.{split-only}
 use Rattle.promise_witnesses.specs.Builds.{Build, KeepsMarks, RefusesEverything, NeverCuts, DoesNothing, NumbersTheRest}
-use Rattle.promise_witnesses.proofs.EitherEdition.{in-either}
+use Rattle.call_rules.proofs.KnownSettings.{in-either}
 use Rattle.promise_witnesses.proofs.HeldToACall.{seenOf, answers, counts, refuses-not, cuts-once, does-something, writes-the-rest}
 
 -- ---- a call that splits in two, by either edition: three classes of one mark each, with anchors of 40,000 bytes, the first and the last the same one; one base
@@ -60,7 +60,7 @@ unfolding threeClasses classesFront classesScratch computes seenOf
 second-seen = refl
 
 known-seen : (how : Settings) → known how ≡ true → seenOf threeClasses (left how) ≡ 0 ∷ 2 ∷ 18 ∷ 1 ∷ 0 ∷ []
-known-seen = in-either (λ how. seenOf threeClasses (left how) ≡ 0 ∷ 2 ∷ 18 ∷ 1 ∷ 0 ∷ []) first-seen second-seen
+known-seen how = in-either how (λ how. seenOf threeClasses (left how) ≡ 0 ∷ 2 ∷ 18 ∷ 1 ∷ 0 ∷ []) first-seen second-seen
 
 -- ---- so none of the four does it
 

@@ -1,14 +1,14 @@
 -- What an object reaches: its children, and theirs. Assumes nothing.
-use Prim.Native.Nat.{ℕ}
+use Prim.Native.Nat.{ℕ, _<_}
 use mathlib.Core.Path.{_≡_, sym, _∙_}
 use mathlib.Core.Bool.{false}
 use mathlib.Core.Option.{some}
 use borrow.Author.Tests.{eq-eqb}
-use Rattle.folds.proofs.Tests.{true-false}
-use Rattle.store_rules.specs.Store.{Store, linkAt, childAt, parentOf, ofParent}
-use Rattle.store_rules.specs.Reach.{Reach, onCycle}
+use Rattle.folds.proofs.Tests.{by-test, true-false}
+use Rattle.store_rules.specs.Store.{Store, linkAt, childAt, parentOf, childOf, ofParent}
+use Rattle.store_rules.specs.Reach.{Reach, marked, reached, onCycle}
 use Rattle.store_rules.proofs.Sound.{Fits}
-use Rattle.store_rules.proofs.Reached.{reached-all}
+use Rattle.store_rules.proofs.Reached.{reached-only, reached-all}
 use Rattle.store_rules.proofs.Lookups.{child-row}
 
 -- object u reaches object i
@@ -26,3 +26,14 @@ module _ (s : Store) where
   pub no-way-back : Fits s → (t : ℕ) → onCycle s t ≡ false → Way s t t → ⊥
   unfolding onCycle
   no-way-back f t acyclic w = true-false (sym (reached-all s (λ k. ofParent t (linkAt s k)) f w) ∙ acyclic)
+
+  -- an object to which no link leads is on none
+  module _ (u : ℕ) (unled : (k : ℕ) → k < s .linkCount → childOf s k ≡ u → ⊥) where
+    no-way : Way s u u → ⊥
+    no-way (Reach.seed k l a e) = unled k l e
+    no-way (Reach.step w k l p e) = unled k l e
+
+    pub unled-acyclic : Fits s → u < s .objectCount → onCycle s u ≡ false
+    unfolding onCycle
+    unled-acyclic f used =
+        by-test (marked (reached s (λ k. ofParent u (linkAt s k))) u) (λ e. absurd (no-way (reached-only s (λ k. ofParent u (linkAt s k)) f u used e))) (λ e. e)

@@ -1,6 +1,7 @@
 -- `mark_plan::decide` meets its contract: by whether the settings are known, and by what the checks without scratch decide. Assumes nothing.
 use Rattle.call_rules.specs.Scratch.{scratchOf}
-use Rattle.mark_plan.proofs.Deciding.{decided-settled, tested-known, decided-unknown}
+use Rattle.mark_plan.proofs.Deciding.{decided-settled, decided-unknown}
+use Rattle.call_rules.proofs.KnownSettings.{tested-known}
 use borrow.Author.Needs.{needs}
 use Rattle.mark_plan.proofs.decide.Statement.{statement}
 use Rattle.mark_plan.proofs.decide.Tie as tie

@@ -6,7 +6,8 @@ use Rattle.pair_checks.proofs.Deciding.{tested}
 use Rattle.pair_checks.proofs.Called.{call-unsound}
 use Rattle.pair_checks.specs.declared.Checked.the-variants as Checked
 use Rattle.call_rules.specs.declared.Answer.the-variants.{Unsound}
-use Rattle.pair_plan.proofs.Deciding.{tested-known, decided-unknown, decided-settled}
+use Rattle.pair_plan.proofs.Deciding.{decided-unknown, decided-settled}
+use Rattle.call_rules.proofs.KnownSettings.{tested-known}
 use borrow.Author.Needs.{needs}
 use Rattle.pair_plan.proofs.decide.Statement.{statement}
 use Rattle.pair_plan.proofs.decide.Tie as tie

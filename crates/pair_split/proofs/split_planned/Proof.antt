@@ -1,7 +1,7 @@
 -- `pair_split::split_planned` meets its contract: nothing to cut, no room, or the split. Assumes nothing.
 use borrow.Author.Tests.{not-true, not-false}
 use borrow.Author.Needs.{needs}
-use mathlib.Core.Path.{_≡_, refl, sym}
+use mathlib.Core.Path.{_≡_, sym}
 use mathlib.Core.List.{List}
 use Prim.Native.Nat.{ℕ}
 use lib.ListN.{length}
@@ -49,7 +49,7 @@ returns-2 c =
     let start = some .before .before .before .before .before .before .before .before in
     let a = start .args in
     let s = store start in
-    refused s (a .new-tables .now) (needed s (a .table)) (splitStore s (a .table)) (newTables s (a .table)) (places start) (counted start) (some .if1 .left) refl (split .split-at .ensures)
+    refused s (a .new-tables .now) (needed s (a .table)) (splitStore s (a .table)) (newTables s (a .table)) (places start) (counted start) (some .if1 .left) (split .split-at .ensures)
     (not-true _ (c .before .if2 .taken)) (c .number-of .ensures)
 
 returns-3 : tie.Need-returns-3
@@ -60,7 +60,7 @@ returns-3 c =
     let start = some .before .before .before .before .before .before .before .before in
     let a = start .args in
     let s = store start in
-    carried s (a .new-tables .now) (needed s (a .table)) (splitStore s (a .table)) (newTables s (a .table)) (places start) (counted start) (some .if1 .left) refl (split .split-at .ensures)
+    carried s (a .new-tables .now) (needed s (a .table)) (splitStore s (a .table)) (newTables s (a .table)) (places start) (counted start) (some .if1 .left) (split .split-at .ensures)
     (not-false _ (c .if2 .left)) (tables-many s (a .table) (places start))
 
 pub split-planned-spec : {M : Type 1} → statement M
