@@ -25,7 +25,8 @@ pub fn enter(
     new_count: &mut u32,
 ) -> u32
     ensures { λ r. ⌜
-        LookupKeeps (settingsOf edition) (storeCame «data» objects links counts) list table (scratchCame walk «glyph_set» glyphs classes cuts) (came «new_tables»)
+        LookupKeeps (settingsOf edition) (storeCame «data» objects links counts) list table
+        (scratchCame walk «glyph_set» glyphs classes cuts) (came «new_tables»)
         (outcome r (left «new_count») (storeLeft «data» objects links counts) (left «new_tables»)
         (scratchLeft walk «glyph_set» glyphs classes cuts))
         ⌝ }

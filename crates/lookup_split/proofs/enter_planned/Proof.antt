@@ -75,39 +75,6 @@ returns-3 c =
 
 -- what the search finds, each by itself: in one declaration they take more steps than it may
 
-sub-enter-at : tie.Need-sub-enter-at
-sub-enter-at c = search needs
-
-part-enter-at-start : tie.Need-part-enter-at-start
-part-enter-at-start c = search needs
-
-sub-enter-at-2 : tie.Need-sub-enter-at-2
-sub-enter-at-2 c = search needs
-
-part-enter-at-start-2 : tie.Need-part-enter-at-start-2
-part-enter-at-start-2 c = search needs
-
-part-enter-at-end-2 : tie.Need-part-enter-at-end-2
-part-enter-at-end-2 c = search needs
-
-sub-enter-at-3 : tie.Need-sub-enter-at-3
-sub-enter-at-3 c = search needs
-
-part-enter-at-start-3 : tie.Need-part-enter-at-start-3
-part-enter-at-start-3 c = search needs
-
-part-enter-at-end-3 : tie.Need-part-enter-at-end-3
-part-enter-at-end-3 c = search needs
-
-sub-enter-at-4 : tie.Need-sub-enter-at-4
-sub-enter-at-4 c = search needs
-
-part-enter-at-start-4 : tie.Need-part-enter-at-start-4
-part-enter-at-start-4 c = search needs
-
-part-enter-at-end-4 : tie.Need-part-enter-at-end-4
-part-enter-at-end-4 c = search needs
-
 same-length : tie.Need-same-length
 same-length c = c .before .before .before .before .before .before .before .before .before .before .before .before .«data» .given
 
@@ -119,12 +86,6 @@ same-length-3 c = c .before .before .before .before .before .before .before .bef
 
 same-length-4 : tie.Need-same-length-4
 same-length-4 c = c .before .before .before .before .before .before .before .before .before .before .before .before .before .before .before .before .before .before .before .before .before .before .before .before .before .before .walk .given
-
-same-length-5 : tie.Need-same-length-5
-same-length-5 c = search needs
-
-same-length-6 : tie.Need-same-length-6
-same-length-6 c = search needs
 
 same-length-7 : tie.Need-same-length-7
 same-length-7 c = c .before .before .new-tables .given
@@ -141,12 +102,6 @@ same-length-10 c = c .before .before .before .before .before .before .before .be
 same-length-11 : tie.Need-same-length-11
 same-length-11 c = c .before .before .before .before .before .before .before .before .before .before .before .before .before .before .before .before .before .before .before .before .before .before .before .before .before .before .walk .given
 
-same-length-12 : tie.Need-same-length-12
-same-length-12 c = search needs
-
-same-length-13 : tie.Need-same-length-13
-same-length-13 c = search needs
-
 same-length-14 : tie.Need-same-length-14
 same-length-14 c = c .before .before .new-tables .given
 
@@ -161,25 +116,25 @@ enter-planned-spec =
     slice-aggregate-enter-at
     add-enter-at
     mul-enter-at
-    sub-enter-at
-    part-enter-at-start
+    (λ c. search needs)
+    (λ c. search needs)
     part-enter-at-end
-    sub-enter-at-2
-    part-enter-at-start-2
-    part-enter-at-end-2
-    sub-enter-at-3
-    part-enter-at-start-3
-    part-enter-at-end-3
-    sub-enter-at-4
-    part-enter-at-start-4
-    part-enter-at-end-4
+    (λ c. search needs)
+    (λ c. search needs)
+    (λ c. search needs)
+    (λ c. search needs)
+    (λ c. search needs)
+    (λ c. search needs)
+    (λ c. search needs)
+    (λ c. search needs)
+    (λ c. search needs)
     enter-at-requires
     same-length
     same-length-2
     same-length-3
     same-length-4
-    same-length-5
-    same-length-6
+    (λ c. search needs)
+    (λ c. search needs)
     same-length-7
     returns-2
     cast-new-count
@@ -187,7 +142,7 @@ enter-planned-spec =
     same-length-9
     same-length-10
     same-length-11
-    same-length-12
-    same-length-13
+    (λ c. search needs)
+    (λ c. search needs)
     same-length-14
     returns-3)
