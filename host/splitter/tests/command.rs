@@ -464,6 +464,9 @@ fn stores_that_are_not_sound() {
         assert!(dump.out.contains("0: pair table, 16 bytes"), "{}", dump.out);
         refused(dump, Refusal::Unsound, fault);
         refused(run!("dump", file, "3", "--json"), Refusal::Unsound, fault);
+        let quiet = run!("dump", file, "--quiet");
+        assert_eq!(quiet.out, "");
+        refused(quiet, Refusal::Unsound, fault);
     }
 }
 
