@@ -46,8 +46,8 @@ functions that are proved to lose nothing.
     splitter help [COMMAND]                say more of a command
     splitter --version                     say which version this is
 
-FILE is a store file, which docs/STORE_FILE.md describes, or a font; - is
-standard input. Numbers may be written in tens or, as 0x1F, in sixteens.
+FILE is a store file, which docs/STORE_FILE.md describes, and for font a font; -
+is standard input. Numbers may be written in tens or, as 0x1F, in sixteens.
 
     --edition 1|2  for sample, plan, split and font: by which edition of the
                    rule tables are cut; 1 unless it is said
