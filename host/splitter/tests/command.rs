@@ -520,6 +520,8 @@ fn files_that_cannot_be_read() {
     run_all("its header asks for");
     fs::write(&damaged, b"something else").unwrap();
     run_all("it is not a store file");
+    fs::write(&damaged, made::font(&[])).unwrap();
+    run_all("it is a font and not a store file");
     let mut version = whole.clone();
     version[5] = 3;
     fs::write(&damaged, &version).unwrap();
