@@ -4,7 +4,10 @@ mod mend;
 
 pub use mend::mend;
 
-use crate::{check::Outcome, Archive, Attachment, Call, MarkSubject, Pair, Scratch, Subject};
+use crate::{
+    check::Outcome, Archive, Attachment, Call, Functions, LookupSubject, MarkSubject, Pair,
+    Scratch, Subject,
+};
 use oracle::Store;
 use splitter::{
     explain::{self, Lent},
@@ -17,15 +20,25 @@ pub fn lent(store: &Store) -> StoreRef<'_> {
 }
 
 /// Why a split, a cut plan and a reading are refused, if they are.
-pub fn explanations(kind: Kind, call: &Call<u32>) -> [Explanation; 3] {
+pub fn explanations(functions: Functions, call: &Call<u32>) -> [Explanation; 3] {
     let edition = call.edition;
     let lent = lengths(&call.scratch, call.list.len());
+    let list = call.lookup_list;
+    let split = match functions {
+        Functions::Of(_) => explain::Call::Split { edition, lent },
+        Functions::InLookups => explain::Call::InLookups {
+            list,
+            edition,
+            lent,
+        },
+    };
     let calls = [
-        explain::Call::Split { edition, lent },
+        split,
         explain::Call::Plan { edition, lent },
         explain::Call::Reading,
     ];
-    calls.map(|asked| kind.explain_call(asked, self::lent(&call.store), call.table))
+    let (kind, store) = (functions.kind(), self::lent(&call.store));
+    calls.map(|asked| kind.explain_call(asked, store, call.table))
 }
 
 fn lengths(scratch: &Scratch, list: usize) -> Lent {
@@ -40,29 +53,33 @@ fn lengths(scratch: &Scratch, list: usize) -> Lent {
 }
 
 /// What the proved functions answer to a split, a cut plan and a reading.
-pub fn proved_answers(kind: Kind, call: &Call<u32>) -> [u32; 3] {
+pub fn proved_answers(functions: Functions, call: &Call<u32>) -> [u32; 3] {
     let (mut split, mut plan) = (call.clone(), call.to_plan());
     let (store, table) = (&call.store, call.table);
-    match kind {
+    let answer = match functions {
+        Functions::Of(Kind::Pairs) => Archive.split_pairpos(&mut split),
+        Functions::Of(Kind::Marks) => Archive.split_markbasepos(&mut split),
+        Functions::InLookups => Archive.split_in_lookups(&mut split),
+    };
+    let [of_plan, of_reading] = match functions.kind() {
         Kind::Pairs => [
-            Archive.split_pairpos(&mut split),
             Archive.cut_plan(&mut plan),
             Archive.read_pair(store, table, [0; 2], &mut Pair::default()),
         ],
         Kind::Marks => [
-            Archive.split_markbasepos(&mut split),
             Archive.cut_plan_markbasepos(&mut plan),
             Archive.read_mark(store, table, [0; 2], &mut Attachment::default()),
         ],
-    }
+    };
+    [answer, of_plan, of_reading]
 }
 
 /// The numbers that are explained are the proved functions' answers.
-pub fn as_answered(kind: Kind, call: &Call<u32>) -> Outcome {
-    let explanations = explanations(kind, call);
+pub fn as_answered(functions: Functions, call: &Call<u32>) -> Outcome {
+    let explanations = explanations(functions, call);
     let [ours, proved] = [
         explanations.each_ref().map(Explanation::number),
-        proved_answers(kind, call),
+        proved_answers(functions, call),
     ];
     match ours == proved {
         true => Ok(()),

@@ -59,7 +59,8 @@ pub use archive::Archive;
 pub use model::{cuts::Edition, Model};
 pub use random::Random;
 pub use subject::{
-    Attachment, Call, InLookups, LookupSubject, MarkSubject, Marks, Pair, Scratch, Splits, Subject,
+    Attachment, Call, Functions, InLookups, LookupSubject, MarkSubject, Marks, Pair, Scratch,
+    Splits, Subject,
 };
 pub use tally::Tally;
 

@@ -12,7 +12,8 @@ use crate::{
     damage::{self, Damage},
     explained::as_answered,
     generate::{Case, Listed},
-    lend, Call, Edition, InLookups, LookupSubject, MarkSubject, Marks, Random, Subject, Tally,
+    lend, Call, Edition, Functions, InLookups, LookupSubject, MarkSubject, Marks, Random, Subject,
+    Tally,
 };
 use splitter::Kind;
 
@@ -120,7 +121,7 @@ pub fn damaged(
     let scramble = damage::scramble;
     damage_each(&call, &damage::all(), scramble, &mut random, |call| {
         all_agree(subject, call)?;
-        as_answered(Kind::Pairs, call)?;
+        as_answered(Functions::Of(Kind::Pairs), call)?;
         let split = Split::by(subject, call);
         frame(&split)?;
         match Edition::of(call.edition) {
@@ -144,7 +145,7 @@ pub fn marks_damaged(
     let scramble = damage::scramble;
     damage_each(&call, &damage::marks(), scramble, &mut random, |call| {
         marks_agree(subject, call)?;
-        as_answered(Kind::Marks, call)?;
+        as_answered(Functions::Of(Kind::Marks), call)?;
         let split = Split::by(&Marks(subject), call);
         frame(&split)?;
         match Edition::of(call.edition) {
@@ -169,6 +170,7 @@ pub fn lookups_damaged(
     let scramble = damage::scramble_lookups;
     damage_each(&call, &damage::lookups(), scramble, &mut random, |call| {
         lookups_agree(subject, call)?;
+        as_answered(Functions::InLookups, call)?;
         let split = Split::by(&InLookups(subject), call);
         tally.answers[split.answer as usize] += 1;
         entered(subject, &split, tally)?;

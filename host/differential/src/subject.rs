@@ -1,6 +1,7 @@
 //! The exported functions, as a seam.
 
 use oracle::Store;
+use splitter::Kind;
 use std::fmt::Debug;
 
 /// Something that splits PairPos tables, plans their cuts and reads pairs.
@@ -89,6 +90,25 @@ impl<S: Subject + LookupSubject> Splits for InLookups<'_, S> {
 
     fn plan(&self, call: &mut Call<u16>) -> u32 {
         self.0.cut_plan(call)
+    }
+}
+
+/// Which functions are called.
+#[derive(Clone, Copy, Debug, PartialEq, Eq)]
+pub enum Functions {
+    /// Those of a kind of table.
+    Of(Kind),
+    /// Those of pairs, but that the split enters new tables in lookups.
+    InLookups,
+}
+
+impl Functions {
+    /// What the table is for.
+    pub fn kind(self) -> Kind {
+        match self {
+            Self::Of(kind) => kind,
+            Self::InLookups => Kind::Pairs,
+        }
     }
 }
 

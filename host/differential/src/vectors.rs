@@ -48,9 +48,9 @@ mod plain;
 mod readings;
 mod text;
 
-use crate::{check::Outcome, tally::ANSWERS, Tally};
+use crate::{check::Outcome, tally::ANSWERS, Functions, Tally};
 use answers::Answers;
-use cases::{Case, Functions};
+use cases::Case;
 use readings::Reading;
 use splitter::Kind;
 use text::Text;

@@ -6,6 +6,7 @@
 mod fault;
 mod lent;
 mod links;
+mod lookups;
 mod parts;
 mod room;
 mod sets;
@@ -15,7 +16,7 @@ mod table;
 pub use fault::{Fault, LinkRow, Part, Place, Wanted};
 pub use lent::{Call, Lent};
 
-use crate::{table::TableRef, Edition, Kind, Refusal, StoreRef};
+use crate::{table::TableRef, Edition, Kind, Refusal, Scratch, StoreRef};
 use std::{
     fmt::{self, Display, Formatter},
     ops::Deref,
@@ -80,6 +81,40 @@ pub fn explain_marks<'a>(store: impl Into<StoreRef<'a>>, table: u32) -> Explanat
     Kind::Marks.explain(store, table)
 }
 
+/// Explains what [`split_in_lookups`](crate::split_in_lookups()) answers, but for room.
+///
+/// ```
+/// use splitter::{explain_in_lookups, Edition, Refusal, Store};
+///
+/// // A lookup for marks that lists a table for pairs.
+/// let mut store = Store::new();
+/// let list = store.add_object(&[0, 1, 0, 0])?;
+/// let lookup = store.add_object(&[0, 4, 0, 0, 0, 1, 0, 0])?;
+/// let table = store.add_object(&[0, 1, 0, 0, 0, 4, 0, 0, 0, 0])?;
+/// store.add_link(list, 2, lookup)?;
+/// store.add_link(lookup, 6, table)?;
+///
+/// let explanation = explain_in_lookups(&store, list, table, Edition::Second);
+/// assert_eq!(explanation.refusal(), Some(Refusal::BadList));
+/// let sentence = "lookup, object 1: its type, at byte 0, is 4; it must be 2, to list a table for pairs";
+/// assert_eq!(explanation.to_string(), sentence);
+/// # Ok::<(), Refusal>(())
+/// ```
+pub fn explain_in_lookups<'a>(
+    store: impl Into<StoreRef<'a>>,
+    list: u32,
+    table: u32,
+    edition: Edition,
+) -> Explanation {
+    let call = Call::InLookups {
+        list,
+        edition: edition.number(),
+        lent: Lent::ENOUGH,
+    };
+    let Explanation(found) = Kind::Pairs.explain_call(call, store, table);
+    Explanation(found.filter(|(refusal, _)| *refusal != Refusal::NoRoom))
+}
+
 impl Kind {
     /// Explains what [`Kind::cut_plan`] answers for a table, in either edition. A split of it is refused
     /// alike, but for room.
@@ -91,7 +126,8 @@ impl Kind {
         self.explain_call(call, store, table)
     }
 
-    /// Explains what a call answers that is lent these buffers.
+    /// Explains what a call answers that is lent these buffers. A call over lookups is one of
+    /// [`Kind::Pairs`], whatever the kind.
     ///
     /// ```
     /// use splitter::{explain::{Call, Lent}, Kind, Refusal, Store};
@@ -107,8 +143,12 @@ impl Kind {
         store: impl Into<StoreRef<'a>>,
         table: u32,
     ) -> Explanation {
+        let kind = match call {
+            Call::InLookups { .. } => Self::Pairs,
+            Call::Reading | Call::Plan { .. } | Call::Split { .. } => self,
+        };
         let of = TableRef {
-            kind: self,
+            kind,
             store: store.into(),
             table,
         };
@@ -139,6 +179,8 @@ const BEFORE_FORMAT: &[Check] = &[
     (Refusal::BadEdition, lent::bad_edition),
     (Refusal::Unsound, |asked| soundness::fault(asked.store)),
     (Refusal::NoTable, table::not_in_use),
+    (Refusal::NoTable, lookups::list_not_in_use),
+    (Refusal::BadList, lookups::bad_list),
     (Refusal::BadTable, table::without_format),
 ];
 
@@ -155,6 +197,7 @@ const TO_CUT: &[Check] = &[
     (Refusal::BadLinks, links::at_no_slot),
     (Refusal::BadLinks, links::way_back),
     (Refusal::UnsortedSets, sets::unsorted),
+    (Refusal::ManySubtables, lookups::many_subtables),
     (Refusal::NoRoom, room::short),
 ];
 
@@ -171,6 +214,15 @@ impl Asked<'_> {
             None if self.is_split() => self.first(TO_READ).or_else(|| self.first(TO_CUT)),
             before => before,
         })
+    }
+
+    /// Where the table is cut; nothing where the call has no edition or is refused.
+    fn cuts(&self) -> Option<Vec<usize>> {
+        let edition = Edition::from_number(self.call.edition()?)?;
+        let cuts = self
+            .kind
+            .cut_plan(self.store, self.table, edition, &mut Scratch::new());
+        Some(cuts.ok()?.into_iter().map(usize::from).collect())
     }
 
     /// The first check that finds something, of those that the call makes.

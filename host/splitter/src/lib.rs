@@ -30,7 +30,7 @@
 //!
 //! | to | see |
 //! |---|---|
-//! | know why a table is refused: what is at fault, where, and what should be there | [`explain()`] |
+//! | know why a table is refused: what is at fault, where, and what should be there | [`explain()`], [`explain_in_lookups`] |
 //! | know whether a table is within the limit, or those that a split would leave | [`Kind::fit`], [`Kind::fits_at`] |
 //! | split tables of a graph of the host's own | [`split_graph`] |
 //! | read what a lookup says of two glyphs, by its subtables in order | [`apply_lookup`] |
@@ -104,7 +104,7 @@ pub mod store_file;
 mod table;
 
 pub use edition::Edition;
-pub use explain::{explain, explain_marks, Explanation};
+pub use explain::{explain, explain_in_lookups, explain_marks, Explanation};
 pub use fit::{Fit, Past};
 pub use graph::{split_graph, split_marks_graph, GraphStore, ObjectGraph};
 pub use kind::Kind;

@@ -1,12 +1,16 @@
 //! Lookups of a store, and what they say of two glyphs.
 
-use crate::{read_pair, Kind, PairValues, Refusal, StoreRef};
+use crate::{read_pair, table::word, Kind, PairValues, Refusal, StoreRef};
+use std::collections::HashSet;
 
 /// The bit of a flag that says that a mark filtering set stands behind the offsets.
-const FILTERS: u16 = 0x0010;
+pub(crate) const FILTERS: u16 = 0x0010;
+
+/// Where the offsets of a lookup list start.
+pub(crate) const LIST_HEADER: usize = 2;
 
 /// Where the offsets of a lookup start.
-const HEADER: usize = 6;
+pub(crate) const HEADER: usize = 6;
 
 /// A lookup: subtables in an order. It is an object of OpenType's layout, whose offsets are links.
 #[derive(Clone, Debug, PartialEq, Eq)]
@@ -107,4 +111,43 @@ pub fn apply_lookup<'a>(
     }
     let mut subtables = lookup.subtables();
     Ok(subtables.find_map(|table| read_pair(store, table, first, second).ok()?))
+}
+
+/// What a list leads to, in its order, each once.
+pub(crate) fn lookups_of(store: StoreRef, list: u32) -> Vec<u32> {
+    let mut seen = HashSet::new();
+    let lookups = store.links_of(list).map(|link| link.child);
+    lookups.filter(|&lookup| seen.insert(lookup)).collect()
+}
+
+/// A lookup for pairs that names a table, and in which new tables are entered.
+pub(crate) struct Naming {
+    /// Its number.
+    pub lookup: u32,
+    /// How many bytes it has.
+    pub bytes: usize,
+    /// How many links.
+    pub links: usize,
+    /// How often it names the table.
+    pub listings: usize,
+}
+
+impl Naming {
+    /// Those of a list, in its order, each once.
+    pub fn all(store: StoreRef, list: u32, table: u32) -> Vec<Self> {
+        let lookups = lookups_of(store, list).into_iter();
+        let naming = lookups.filter_map(|lookup| {
+            let bytes = store.object(lookup)?;
+            let (links, listings) = (store.links_of(lookup), store.links_of(lookup));
+            let listings = listings.filter(|link| link.child == table).count();
+            let of_pairs = word(bytes, 0) == usize::from(Kind::Pairs.lookup_type());
+            (of_pairs && listings > 0).then_some(Self {
+                lookup,
+                bytes: bytes.len(),
+                links: links.len(),
+                listings,
+            })
+        });
+        naming.collect()
+    }
 }

@@ -1,6 +1,6 @@
 //! What a call needs to be lent, by what the headers of the table and of its parts say.
 
-use crate::{Kind, Room, StoreRef};
+use crate::{lookup::Naming, table::word, Kind, Room, StoreRef};
 
 /// What a split or a cut plan of a table needs.
 ///
@@ -41,21 +41,12 @@ impl Need {
     /// the table is written once more, with every new table at each of its listings.
     pub fn in_lookups(store: StoreRef, list: u32, table: u32) -> Self {
         let mut need = Self::of(Kind::Pairs, store, table);
-        let mut lookups: Vec<u32> = store.links_of(list).map(|link| link.child).collect();
-        lookups.sort_unstable();
-        lookups.dedup();
-        for lookup in lookups {
-            let bytes = store.object(lookup).unwrap_or_default();
-            let links = store.links_of(lookup);
-            let listings = store.links_of(lookup).filter(|link| link.child == table);
-            let listings = listings.count();
-            if word(bytes, 0) == usize::from(Kind::Pairs.lookup_type()) && listings > 0 {
-                need.each_cut.data += 2 * listings;
-                need.each_cut.links += listings;
-                need.once.data += bytes.len();
-                need.once.objects += 1;
-                need.once.links += links.len();
-            }
+        for lookup in Naming::all(store, list, table) {
+            need.each_cut.data += 2 * lookup.listings;
+            need.each_cut.links += lookup.listings;
+            need.once.data += lookup.bytes;
+            need.once.objects += 1;
+            need.once.links += lookup.links;
         }
         need
     }
@@ -126,12 +117,4 @@ fn covered(coverage: &[u8]) -> usize {
     let last = 6 * count - 2;
     let [start, end, before] = [last, last + 2, last + 4].map(|place| word(coverage, place));
     (before + end + 1).saturating_sub(start)
-}
-
-/// The number at a place, or 0 where there is none.
-fn word(bytes: &[u8], place: usize) -> usize {
-    match bytes.get(place..place + 2) {
-        Some(&[high, low]) => u16::from_be_bytes([high, low]).into(),
-        _ => 0,
-    }
 }

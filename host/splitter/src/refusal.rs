@@ -7,7 +7,8 @@ use std::{
 
 /// Why a call was refused. It changed nothing.
 ///
-/// Where several apply, the first is given. [`explain`](crate::explain()) says what is at fault.
+/// Where several apply, the first is given. [`explain`](crate::explain()) says what is at fault, and of a
+/// call over lookups [`explain_in_lookups`](crate::explain_in_lookups).
 #[derive(Clone, Copy, Debug, PartialEq, Eq, Hash)]
 #[non_exhaustive]
 pub enum Refusal {

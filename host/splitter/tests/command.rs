@@ -464,6 +464,9 @@ fn stores_that_are_not_sound() {
         assert!(dump.out.contains("0: pair table, 16 bytes"), "{}", dump.out);
         refused(dump, Refusal::Unsound, fault);
         refused(run!("dump", file, "3", "--json"), Refusal::Unsound, fault);
+        let quiet = run!("dump", file, "--quiet");
+        assert_eq!(quiet.out, "");
+        refused(quiet, Refusal::Unsound, fault);
     }
 }
 
@@ -517,6 +520,8 @@ fn files_that_cannot_be_read() {
     run_all("its header asks for");
     fs::write(&damaged, b"something else").unwrap();
     run_all("it is not a store file");
+    fs::write(&damaged, made::font(&[])).unwrap();
+    run_all("it is a font and not a store file");
     let mut version = whole.clone();
     version[5] = 3;
     fs::write(&damaged, &version).unwrap();

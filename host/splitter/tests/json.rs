@@ -469,6 +469,7 @@ fn a_dump() {
     assert!(done(run!("dump", unlisted, "0")).contains(tree));
     assert!(done(run!("dump", unlisted)).contains("The file lists no table. Its objects: 4"));
     assert!(one.contains("To it there are 4 links:\n  at       4 of 3: mark array"));
+    assert_eq!(done(run!("dump", file, "--quiet")), "");
     let told = parse(&done(run!("dump", file, "--json")));
     let objects = told.at("objects");
     assert_eq!(

@@ -4,8 +4,11 @@ mod common;
 
 use common::{bytes, format1_records, listed, store, LIST, LOOKUP};
 use splitter::{
-    apply_lookup, split, split_in_lookups, split_in_lookups_into, Edition::First, Lookup, Refusal,
-    Scratch, Store, StoreMut,
+    apply_lookup,
+    explain::{Call, Lent},
+    explain_in_lookups, split, split_in_lookups, split_in_lookups_into,
+    Edition::First,
+    Kind, Lookup, Refusal, Scratch, Store, StoreMut,
 };
 
 /// Tables 2 and 3 of glyph 10, with one set each: an advance of 5 before glyph 70 and 6 before 71, and one of
@@ -200,6 +203,125 @@ fn room_at_its_edge() {
     }
 }
 
+/// Table 0, which is cut once, and a list of one lookup of these words and links.
+fn with(words: &[u16], links: &[[u32; 2]]) -> (Store, u32) {
+    let mut store = format1_records(&[7_500; 3]);
+    let list = store.add_object(&bytes(&[1, 0])).unwrap();
+    let lookup = store.add_object(&bytes(words)).unwrap();
+    store.add_link(list, 2, lookup).unwrap();
+    for &[position, child] in links {
+        store.add_link(lookup, position, child).unwrap();
+    }
+    (store, list)
+}
+
+/// The words of a lookup that can list no more.
+fn full() -> Vec<u16> {
+    let mut words = vec![2, 0, 65_535];
+    words.resize(3 + 65_535, 0);
+    words
+}
+
+/// What is at fault: an object, a link row or a count, what stands there and what should.
+#[test]
+fn faults() {
+    let (whole, _) = listed();
+    let said =
+        |store: &Store, list, table| explain_in_lookups(store, list, table, First).to_string();
+    assert_eq!(said(&whole, LIST, 0), "nothing is at fault");
+    assert_eq!(
+        said(&whole, 99, 0),
+        "the number of the lookup list is 99; it must be below 9, how many objects are in use"
+    );
+    assert_eq!(
+        said(&whole, LIST, 1),
+        "lookup list, object 5: no lookup of it names table 1; one of type 2 must"
+    );
+    assert_eq!(
+        said(&whole, 7, 0),
+        "lookup list, object 7: its length is 2; it must be 8, by its count of lookups"
+    );
+    let full = full();
+    for (words, links, sentence) in [
+        (
+            &[4, 0, 1, 0][..],
+            &[[6, 0]][..],
+            "its type, at byte 0, is 4; it must be 2, to list a table for pairs",
+        ),
+        (&[2], &[], "its length is 2; it must be at least 6, to have a header"),
+        (
+            &[2, 0, 1, 0, 0],
+            &[[6, 0]],
+            "its length is 10; it must be 8, by its count of subtables",
+        ),
+        (
+            &[2, 0x0010, 1, 0],
+            &[[6, 0]],
+            "its length is 8; it must be 10, by its count of subtables and with a mark filtering set",
+        ),
+        (
+            &full,
+            &[[6, 0]],
+            "the number of subtables that it would have is 65536; it must be at most 65535, with the new \
+             tables behind each listing of the table",
+        ),
+    ] {
+        let (store, list) = with(words, links);
+        let expected = format!("lookup, object {}: {sentence}", list + 1);
+        assert_eq!(said(&store, list, 0), expected);
+    }
+    let (store, list) = with(&[2, 0x0010, 1, 0, 0], &[[6, 0], [8, 0]]);
+    let row = store.view().link_rows().len() - 1;
+    let lookup = list + 1;
+    assert_eq!(
+        said(&store, list, 0),
+        format!(
+            "link row {row} of lookup, object {lookup} stands at position 8, which is no slot; it leads to \
+             object 0"
+        )
+    );
+}
+
+/// Room for what the split adds and for the lookups together, one short of each. The call is one of pairs,
+/// whatever kind is asked.
+#[test]
+fn short_room_is_explained() {
+    let (store, room) = listed();
+    let explain = |kind: Kind, room, list| {
+        let mut store = store.clone();
+        store.reserve(room);
+        let lent = Lent {
+            list,
+            ..Lent::ENOUGH
+        };
+        let call = Call::InLookups {
+            list: LIST,
+            edition: First.number(),
+            lent,
+        };
+        kind.explain_call(call, &store, 0)
+    };
+    for kind in [Kind::Pairs, Kind::Marks] {
+        assert_eq!(explain(kind, room, 1).number(), 0);
+        assert_eq!(explain(kind, room, 0).number(), 8);
+        let mut short = [room; 3];
+        short[0].data -= 1;
+        short[1].objects -= 1;
+        short[2].links -= 1;
+        let counts = [room.data, room.objects, room.links];
+        let names = ["data bytes", "objects", "links"];
+        for ((room, name), needed) in short.into_iter().zip(names).zip(counts) {
+            let explanation = explain(kind, room, 1);
+            assert_eq!(explanation.refusal(), Some(Refusal::NoRoom));
+            let sentence = format!(
+                "the room for new {name} is {}; it must be at least {needed}, for what the split adds",
+                needed - 1
+            );
+            assert_eq!(explanation.to_string(), sentence);
+        }
+    }
+}
+
 #[test]
 fn refusals() {
     let refused = |store: &Store, list, table, refusal| {
@@ -207,6 +329,8 @@ fn refusals() {
         let answer = split_in_lookups(&mut same, list, table, First, &mut Scratch::new());
         assert_eq!(answer, Err(refusal));
         assert_eq!(same, *store);
+        let explanation = explain_in_lookups(store, list, table, First);
+        assert_eq!(explanation.refusal(), Some(refusal));
     };
     let (whole, _) = listed();
     refused(&whole, 99, 0, Refusal::NoTable);
@@ -218,16 +342,6 @@ fn refusals() {
     // A table of another format that the lookup names is nothing to split.
     let answer = split_in_lookups(&mut whole.clone(), LIST, 7, First, &mut Scratch::new());
     assert_eq!(answer, Ok(vec![]));
-    let with = |words: &[u16], links: &[[u32; 2]]| {
-        let mut store = format1_records(&[7_500; 3]);
-        let list = store.add_object(&bytes(&[1, 0])).unwrap();
-        let lookup = store.add_object(&bytes(words)).unwrap();
-        store.add_link(list, 2, lookup).unwrap();
-        for &[position, child] in links {
-            store.add_link(lookup, position, child).unwrap();
-        }
-        (store, list)
-    };
     for (words, links) in [
         (&[4, 0, 1, 0][..], &[[6, 0]][..]),
         (&[2, 0, 1, 0], &[]),
@@ -238,9 +352,7 @@ fn refusals() {
         let (store, list) = with(words, links);
         refused(&store, list, 0, Refusal::BadList);
     }
-    let mut slots = vec![2, 0, 65_535];
-    slots.resize(3 + 65_535, 0);
-    let (store, list) = with(&slots, &[[6, 0]]);
+    let (store, list) = with(&full(), &[[6, 0]]);
     refused(&store, list, 0, Refusal::ManySubtables);
 }
 

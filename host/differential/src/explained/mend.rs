@@ -1,6 +1,13 @@
 //! A fault mended, where it stands and as it is wanted.
 
-use crate::{edit, model::numbers, Call};
+use crate::{
+    edit,
+    model::{
+        lookups::{LOOKUP_HEADER, PAIR_TYPE},
+        numbers,
+    },
+    Call,
+};
 use splitter::{
     explain::{Fault, LinkRow, Part, Place, Wanted},
     Room,
@@ -9,6 +16,12 @@ use splitter::{
 /// Mends what a fault names, if one of its numbers can be what is wanted.
 pub fn mend(call: &mut Call<u32>, fault: &Fault) -> Option<()> {
     match fault {
+        Fault::Number {
+            place: Place::Subtables { lookup },
+            wanted: Wanted::AtMost(most),
+            found,
+            ..
+        } => shorten(call, *lookup, u16::try_from(found - most).ok()?),
         Fault::Number {
             place,
             wanted,
@@ -43,6 +56,7 @@ pub fn mend(call: &mut Call<u32>, fault: &Fault) -> Option<()> {
             edit::remove_links(&mut call.store, |link| [link[0], link[3]] == [last, table]);
             Some(())
         }
+        Fault::NotListed { list, table } => enter(call, *list, *table),
         _ => None,
     }
 }
@@ -67,6 +81,7 @@ fn set(call: &mut Call<u32>, place: &Place, number: usize) -> Option<()> {
     match *place {
         Place::Edition => call.edition = number as u32,
         Place::Table => call.table = number as u32,
+        Place::LookupList => call.lookup_list = number as u32,
         Place::Count(name) => store.counts[buffer(name)?] = number as u32,
         Place::Head(row) => store.objects[2 * row] = number as u32,
         Place::Tail(row) => {
@@ -143,4 +158,33 @@ fn empty(part: Part) -> Vec<u16> {
         Part::MarkArray | Part::BaseArray => vec![0],
         _ => vec![1, 0],
     }
+}
+
+/// Enters a lookup for pairs that names a table at the end of a list.
+fn enter(call: &mut Call<u32>, list: u32, table: u32) -> Option<()> {
+    let store = &mut call.store;
+    let mut bytes = edit::bytes(store, list).to_vec();
+    let slot = bytes.len() as u32;
+    let count = numbers::u16_at(&bytes, 0)?.checked_add(1)?;
+    bytes.extend([0; 2]);
+    edit::replace(store, list, &bytes);
+    edit::set_word(store, list, 0, count);
+    let lookup = edit::add(store, &numbers::bytes([PAIR_TYPE, 0, 1, 0]));
+    edit::link(store, list, slot, lookup);
+    edit::link(store, lookup, LOOKUP_HEADER as u32, table);
+    Some(())
+}
+
+/// Takes so many slots from the end of a lookup.
+fn shorten(call: &mut Call<u32>, lookup: u32, slots: u16) -> Option<()> {
+    let store = &mut call.store;
+    let mut bytes = edit::bytes(store, lookup).to_vec();
+    let count = numbers::u16_at(&bytes, 4)?;
+    let kept = count.checked_sub(slots)?;
+    let [start, end] = [kept, count].map(|slot| LOOKUP_HEADER + 2 * usize::from(slot));
+    bytes.drain(start..end);
+    edit::remove_links(store, |link| link[0] == lookup && link[1] as usize >= start);
+    edit::replace(store, lookup, &bytes);
+    edit::set_word(store, lookup, 4, kept);
+    Some(())
 }

@@ -1,7 +1,7 @@
 //! What a stored call answers and leaves, as the oracle has it, or in the second edition the model.
 
 use super::{
-    cases::{Case, Functions},
+    cases::Case,
     readings::{self, Reading},
 };
 use crate::{
@@ -12,7 +12,7 @@ use crate::{
     model::answers,
     product,
     tally::ANSWERS,
-    Call, Edition, InLookups, Marks, Model, Scratch, Splits, Tally,
+    Call, Edition, Functions, InLookups, Marks, Model, Scratch, Splits, Tally,
 };
 use splitter::Kind;
 

@@ -9,7 +9,7 @@ use super::plain;
 use crate::{
     damage::{self, Damage},
     generate::{self, Listed},
-    lend, Call, Edition, Random,
+    lend, Call, Edition, Functions, Random,
 };
 use oracle::Store;
 use splitter::Kind;
@@ -23,25 +23,6 @@ pub struct Case {
     pub functions: Functions,
     /// What it is lent.
     pub call: Call<u32>,
-}
-
-/// The functions that a case calls.
-#[derive(Clone, Copy, Debug, PartialEq, Eq)]
-pub enum Functions {
-    /// Those of a kind of table.
-    Of(Kind),
-    /// Those of pairs, but that the split enters new tables in lookups.
-    InLookups,
-}
-
-impl Functions {
-    /// What the table is for.
-    pub fn kind(self) -> Kind {
-        match self {
-            Self::Of(kind) => kind,
-            Self::InLookups => Kind::Pairs,
-        }
-    }
 }
 
 const PAIRS: Functions = Functions::Of(Kind::Pairs);

@@ -1,11 +1,7 @@
 //! The stored text.
 
-use super::{
-    answers::Answers,
-    cases::{Case, Functions},
-    readings::Reading,
-};
-use crate::{Call, Scratch};
+use super::{answers::Answers, cases::Case, readings::Reading};
+use crate::{Call, Functions, Scratch};
 use splitter::Kind;
 use std::fmt::Write;
 

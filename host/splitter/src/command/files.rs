@@ -7,7 +7,8 @@ pub use whole::write;
 use super::{failure::Failure, screen::Screen, text::shown};
 use splitter::{
     explain,
-    store_file::{RawFile, StoreFile},
+    font::FontTables,
+    store_file::{FileError, RawFile, StoreFile},
     Refusal,
 };
 use std::{
@@ -22,6 +23,10 @@ const LONGEST_STORE: u64 = 1 << 25;
 /// No longer font is read.
 const LONGEST_FONT: u64 = 1 << 30;
 
+const A_FONT: &str =
+    "it is a font and not a store file: \"splitter font\" looks into it, and with \
+                      -o DIR writes its tables as store files";
+
 /// Reads a store file whose store is sound.
 pub fn read_store(path: &Path) -> Result<StoreFile, Failure> {
     let file = read_raw(path)?;
@@ -35,7 +40,10 @@ pub fn read_store(path: &Path) -> Result<StoreFile, Failure> {
 /// Reads a store file, whether or not its store is sound.
 pub fn read_raw(path: &Path) -> Result<RawFile, Failure> {
     let bytes = read(path, LONGEST_STORE)?;
-    RawFile::from_bytes(&bytes).map_err(|error| about(path, error))
+    RawFile::from_bytes(&bytes).map_err(|error| match error {
+        FileError::NotAStoreFile if FontTables::read(&bytes).is_ok() => about(path, A_FONT),
+        error => about(path, error),
+    })
 }
 
 /// Reads the bytes of a font.

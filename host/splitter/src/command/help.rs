@@ -46,13 +46,14 @@ functions that are proved to lose nothing.
     splitter help [COMMAND]                say more of a command
     splitter --version                     say which version this is
 
-FILE is a store file, which docs/STORE_FILE.md describes, or a font; - is
-standard input. Numbers may be written in tens or, as 0x1F, in sixteens.
+FILE is a store file, which docs/STORE_FILE.md describes, and for font a font; -
+is standard input. Numbers may be written in tens or, as 0x1F, in sixteens.
 
     --edition 1|2  for sample, plan, split and font: by which edition of the
                    rule tables are cut; 1 unless it is said
-    --json         write JSON, for programs; docs/COMMAND.md describes it
-    -q, --quiet    write nothing: the exit code tells
+    --json         for all but sample: write JSON, for programs;
+                   docs/COMMAND.md describes it
+    -q, --quiet    for all but sample: write nothing, and let the exit code tell
 
 Edition 1 cuts as the crate skera 0.6.0 does, for fonts that are fielded.
 Edition 2 measures again what the item at a cut leads to, and leaves no table of
@@ -162,7 +163,7 @@ error.
 ";
 
 const DUMP: &str = "\
-splitter dump FILE [OBJECT] [--marks] [--all] [--json]
+splitter dump FILE [OBJECT] [--marks] [--all] [--json | --quiet]
 
 Shows what is in a store file, also where its store is not sound: the objects as
 a tree from the tables that it lists, each with what it is, how long it is and
@@ -170,9 +171,10 @@ at which positions it leads to others, and those that no table leads to. With
 OBJECT, a tree from that object, who leads to it, and its bytes; one that no
 table leads to is taken for a table.
 
-    --marks    tables are mark-to-base, whatever the file says
-    --all      show long lists whole
-    --json     write all objects, or that one, as JSON, for programs
+    --marks        tables are mark-to-base, whatever the file says
+    --all          show long lists whole
+    --json         write all objects, or that one, as JSON, for programs
+    -q, --quiet    write nothing: the exit code tells whether it is sound
 
 Where the store is not sound it is said what is at fault; the exit code is 1.
 ";

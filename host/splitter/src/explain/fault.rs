@@ -44,6 +44,13 @@ pub enum Fault {
         /// The objects on the way. The first and the last are the table.
         objects: Vec<u32>,
     },
+    /// No lookup of a list names the table.
+    NotListed {
+        /// The list.
+        list: u32,
+        /// The table.
+        table: u32,
+    },
 }
 
 /// A link, and its place among the rows.
@@ -63,6 +70,8 @@ pub enum Place {
     Edition,
     /// The number of the table that was asked for.
     Table,
+    /// The number of the lookup list that was asked for.
+    LookupList,
     /// A count of what is in use: `data`, `objects` or `links`.
     Count(&'static str),
     /// Where an object starts, by its row.
@@ -103,6 +112,11 @@ pub enum Place {
         /// Which coverage it is.
         part: Part,
     },
+    /// How many subtables a lookup would have.
+    Subtables {
+        /// The lookup.
+        lookup: u32,
+    },
     /// The length of a scratch buffer, by its name, in numbers.
     Scratch(&'static str),
     /// The room behind what is in use of `data`, `objects` or `links`.
@@ -129,7 +143,7 @@ pub enum Wanted {
     Either(u64, u64),
 }
 
-/// What an object is to a table.
+/// What an object is to a table, or to a lookup list.
 #[derive(Clone, Copy, Debug, PartialEq, Eq, Hash)]
 #[non_exhaustive]
 pub enum Part {
@@ -151,6 +165,10 @@ pub enum Part {
     MarkArray,
     /// The base array.
     BaseArray,
+    /// The lookup list.
+    LookupList,
+    /// A lookup of the list.
+    Lookup,
     /// Any object.
     Object,
 }
@@ -179,6 +197,8 @@ impl Part {
             Self::BaseCoverage => "base coverage",
             Self::MarkArray => "mark array",
             Self::BaseArray => "base array",
+            Self::LookupList => "lookup list",
+            Self::Lookup => "lookup",
             Self::Object => "object",
         }
     }
@@ -258,6 +278,11 @@ impl Display for Fault {
                 objects.first().copied().unwrap_or_default(),
                 way(objects),
             ),
+            Self::NotListed { list, table } => write!(
+                f,
+                "{}: no lookup of it names table {table}; one of type 2 must",
+                Part::LookupList.of(*list),
+            ),
         }
     }
 }
@@ -291,6 +316,7 @@ impl Display for Place {
         match self {
             Self::Edition => f.write_str("the edition"),
             Self::Table => f.write_str("the number of the table"),
+            Self::LookupList => f.write_str("the number of the lookup list"),
             Self::Count(what) => write!(f, "the count of {} in use", counted(what)),
             Self::Head(row) => write!(f, "the head of object row {row}"),
             Self::Tail(row) => write!(f, "the tail of object row {row}"),
@@ -319,6 +345,11 @@ impl Display for Place {
             Self::Glyphs { object, part } => {
                 write!(f, "{}: the number of its glyphs", part.of(*object))
             }
+            Self::Subtables { lookup } => write!(
+                f,
+                "{}: the number of subtables that it would have",
+                Part::Lookup.of(*lookup)
+            ),
             Self::Scratch(name) => write!(f, "the scratch {name}: its length"),
             Self::Room(what) => write!(f, "the room for new {}", counted(what)),
             Self::List => f.write_str("the list for the result: its length"),

@@ -22,6 +22,15 @@ pub enum Call {
         /// What it is lent beside the store.
         lent: Lent,
     },
+    /// A split whose new tables are entered in the lookups of a list. It is of pair tables alone.
+    InLookups {
+        /// The number of the list.
+        list: u32,
+        /// The number of the edition.
+        edition: u32,
+        /// What it is lent beside the store.
+        lent: Lent,
+    },
 }
 
 /// The lengths of scratch and list, in numbers.
@@ -56,12 +65,20 @@ impl Lent {
 impl Call {
     /// Whether it is refused for this at all.
     pub(super) fn refuses(self, by: Refusal) -> bool {
+        match by {
+            Refusal::BadEdition | Refusal::ShortScratch | Refusal::BadLinks | Refusal::NoRoom => {
+                self != Self::Reading
+            }
+            Refusal::BadList | Refusal::ManySubtables => self.list().is_some(),
+            _ => true,
+        }
+    }
+
+    /// The number of its lookup list; other calls have none.
+    pub(super) fn list(self) -> Option<u32> {
         match self {
-            Self::Reading => !matches!(
-                by,
-                Refusal::BadEdition | Refusal::ShortScratch | Refusal::BadLinks | Refusal::NoRoom
-            ),
-            Self::Plan { .. } | Self::Split { .. } => true,
+            Self::InLookups { list, .. } => Some(list),
+            Self::Reading | Self::Plan { .. } | Self::Split { .. } => None,
         }
     }
 
@@ -69,7 +86,9 @@ impl Call {
     pub(super) fn edition(self) -> Option<u32> {
         match self {
             Self::Reading => None,
-            Self::Plan { edition, .. } | Self::Split { edition, .. } => Some(edition),
+            Self::Plan { edition, .. }
+            | Self::Split { edition, .. }
+            | Self::InLookups { edition, .. } => Some(edition),
         }
     }
 
@@ -77,7 +96,9 @@ impl Call {
     pub(super) fn lent(self) -> Lent {
         match self {
             Self::Reading => Lent::ENOUGH,
-            Self::Plan { lent, .. } | Self::Split { lent, .. } => lent,
+            Self::Plan { lent, .. } | Self::Split { lent, .. } | Self::InLookups { lent, .. } => {
+                lent
+            }
         }
     }
 }

@@ -29,7 +29,12 @@ fn of_array(asked: &Asked, part: Part, is_slot: impl Fn(usize) -> bool) -> Optio
 }
 
 /// The first link of an object that stands at no slot.
-fn stray(asked: &Asked, parent: u32, part: Part, is_slot: impl Fn(usize) -> bool) -> Option<Fault> {
+pub(super) fn stray(
+    asked: &Asked,
+    parent: u32,
+    part: Part,
+    is_slot: impl Fn(usize) -> bool,
+) -> Option<Fault> {
     let rows = asked.store.link_rows();
     let start = rows.partition_point(|row| row[0] < parent);
     let mut links = (start..).zip(asked.store.links_of(parent));

@@ -1,25 +1,23 @@
-//! Room that is too short for what a split writes.
+//! Room that is too short for what a split writes, and for the lookups that it writes anew.
 
 use super::{Asked, Call, Fault, Part, Place, Wanted};
 use crate::{
+    lookup::Naming,
     pieces::{pieces, Piece},
-    Edition, Kind, Room, Scratch,
+    Kind, Room,
 };
 
 pub(super) fn short(asked: &Asked) -> Option<Fault> {
-    let (store, table) = (asked.store, asked.table);
-    let edition = Edition::from_number(asked.call.edition()?)?;
-    let cuts = asked
-        .kind
-        .cut_plan(store, table, edition, &mut Scratch::new());
-    let cuts: Vec<usize> = cuts.ok()?.into_iter().map(usize::from).collect();
+    let cuts = asked.cuts()?;
     let list = asked.call.lent().list;
     if list < cuts.len() {
         let wanted = Wanted::AtLeast(cuts.len() as u64);
         return Some(Fault::number(Place::List, list, wanted, "one for each cut"));
     }
     match asked.call {
-        Call::Split { .. } if !cuts.is_empty() => short_store(asked, &need(asked, &cuts)),
+        Call::Split { .. } | Call::InLookups { .. } if !cuts.is_empty() => {
+            short_store(asked, &need(asked, &cuts))
+        }
         _ => None,
     }
 }
@@ -54,11 +52,19 @@ fn need(asked: &Asked, cuts: &[usize]) -> Room {
         (Kind::Pairs, _) => (2, 3, 0),
         (Kind::Marks, _) => (3, 4, links_of_arrays(asked)),
     };
-    Room {
+    let mut need = Room {
         data: data(asked, cuts),
         objects: new + (new + 1) * own_parts,
         links: new * links_each + links_once,
+    };
+    if let Some(list) = asked.call.list() {
+        for lookup in Naming::all(asked.store, list, asked.table) {
+            need.data += lookup.bytes + 2 * new * lookup.listings;
+            need.objects += 1;
+            need.links += lookup.links + new * lookup.listings;
+        }
     }
+    need
 }
 
 fn links_of_arrays(asked: &Asked) -> usize {

@@ -4,17 +4,22 @@ use super::{Asked, Fault, Part, Place, Wanted};
 use crate::{table::row_size, Kind};
 
 pub(super) fn not_in_use(asked: &Asked) -> Option<Fault> {
+    number_not_in_use(asked, Place::Table, asked.table)
+}
+
+/// The number of an object that was asked for, where it is not in use.
+pub(super) fn number_not_in_use(asked: &Asked, place: Place, number: u32) -> Option<Fault> {
     let [_, objects, _] = asked.store.counts();
     let wanted = Wanted::Below(objects.into());
-    (asked.table >= objects).then(|| {
+    (number >= objects).then(|| {
         let because = "how many objects are in use";
-        Fault::number(Place::Table, asked.table as usize, wanted, because)
+        Fault::number(place, number as usize, wanted, because)
     })
 }
 
 pub(super) fn without_format(asked: &Asked) -> Option<Fault> {
     let wanted = Wanted::AtLeast(2);
-    (asked.bytes().len() < 2).then(|| length_fault(asked, wanted, "to have a format"))
+    (asked.bytes().len() < 2).then(|| of_table(asked, wanted, "to have a format"))
 }
 
 pub(super) fn length(asked: &Asked) -> Option<Fault> {
@@ -27,21 +32,34 @@ pub(super) fn length(asked: &Asked) -> Option<Fault> {
     let wanted = (header + of_items) as u64;
     if bytes.len() < header {
         let wanted = Wanted::AtLeast(header as u64);
-        return Some(length_fault(asked, wanted, "to have a header"));
+        return Some(of_table(asked, wanted, "to have a header"));
     }
     (bytes.len() as u64 != wanted).then(|| {
         let because = match asked.kind {
             Kind::Pairs => "by its header",
             Kind::Marks => "as every mark-to-base table's is",
         };
-        length_fault(asked, Wanted::Exactly(wanted), because)
+        of_table(asked, Wanted::Exactly(wanted), because)
     })
 }
 
-fn length_fault(asked: &Asked, wanted: Wanted, because: &'static str) -> Fault {
-    let place = Place::Length {
-        object: asked.table,
-        part: Part::Table,
-    };
-    Fault::number(place, asked.bytes().len(), wanted, because)
+fn of_table(asked: &Asked, wanted: Wanted, because: &'static str) -> Fault {
+    length_fault(
+        asked.table,
+        Part::Table,
+        asked.bytes().len(),
+        wanted,
+        because,
+    )
+}
+
+/// The length of an object that is not what it must be.
+pub(super) fn length_fault(
+    object: u32,
+    part: Part,
+    found: usize,
+    wanted: Wanted,
+    because: &'static str,
+) -> Fault {
+    Fault::number(Place::Length { object, part }, found, wanted, because)
 }

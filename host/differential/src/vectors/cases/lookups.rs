@@ -1,13 +1,13 @@
 //! Tables in lookups made by hand: limits, and shapes that seldom come by chance.
 
-use super::{super::plain, Case, Functions};
+use super::{super::plain, Case};
 use crate::{
     by_hand::{format1_records, push_list, push_lookup},
     edit,
     generate::Listed,
     lend,
     model::lookups::FILTERS,
-    Call, Edition, Random,
+    Call, Edition, Functions, Random,
 };
 use oracle::Store;
 

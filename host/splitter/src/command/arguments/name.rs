@@ -74,7 +74,12 @@ impl Name {
                 ("--quiet", false),
             ],
             Self::Pair | Self::Mark => &[("--json", false), ("--quiet", false)],
-            Self::Dump => &[("--marks", false), ("--all", false), ("--json", false)],
+            Self::Dump => &[
+                ("--marks", false),
+                ("--all", false),
+                ("--json", false),
+                ("--quiet", false),
+            ],
             Self::Font => &[
                 ("--edition", true),
                 ("--output", true),
