@@ -1,21 +1,24 @@
--- A sorted pair set, record by record: what is left of the test behind the records that are passed, and that glyphs rise. Assumes nothing.
+-- A sorted pair set: its glyphs ascend exactly if each is above the one before, and which records have been compared. Assumes nothing.
 use Prim.Native.Nat.{ℕ, zero, suc, _+_, _-_, _*_, _≤_, _<_}
-use mathlib.Core.Path.{_≡_, refl, sym, ap, ap₂, subst, _∙_}
+use mathlib.Core.Path.{_≡_, refl, sym, ap, ap₂, _∙_}
 use mathlib.Core.Bool.{Bool, true, false, _&&_}
 use mathlib.Core.List.{List, [], _∷_}
-use native.Mathlib.Nat.{mul-suc}
+use mathlib.Core.Logic.{⊎-elim}
+use native.Mathlib.Nat.{mul-suc, mul-le-mul-left}
+use native.Mathlib.Numerals.{add-one}
 use native.Mathlib.Omega.{arith}
 use lib.ListN.{length, drop, getD}
 use lib.Seq.{drop-nil, getD-drop}
-use lib.Dec.{leb, eqb}
+use lib.Dec.{leb, ltb, eqb}
 use borrow.Author.Tests.{leb-true, eqb-true, eq-eqb, ne-eqb, le-leb, lt-leb}
 use Rattle.folds.specs.Folds.{before}
-use Rattle.folds.proofs.Tests.{and-both, and-first, by-index}
-use Rattle.folds.proofs.Folds.{before-none, before-more}
+use Rattle.folds.proofs.Agree.{both-ways}
+use Rattle.folds.proofs.Tests.{and-both, and-intro, and-first, by-index, by-test, either, true-false}
+use Rattle.folds.proofs.Folds.{all-at, all-intro, all-fails, before-none, before-more}
 use Rattle.folds.proofs.Halving.{Rising}
 use Rattle.ot_layouts.specs.Numbers.{u16At}
 use Rattle.ot_layouts.specs.PairPos.{ascending, setSorted}
-use Rattle.pair_sets.specs.Passing.{secondAt, ascendFrom, Passing}
+use Rattle.pair_sets.specs.Rising.{secondAt, RecordsThere, rises}
 use Rattle.pair_sets.proofs.Widths.{record-within}
 
 drop-drop : (m n : ℕ) (xs : List ℕ) → drop m (drop n xs) ≡ drop (n + m) xs
@@ -29,20 +32,88 @@ u16-drop b k =
     let e : k + 0 ≡ k = omega arith in
     ap₂ (λ (x y : ℕ). 256 * x + y) (getD-drop k b 0 0 ∙ ap (λ (i : ℕ). getD b i 0) e) (getD-drop k b 1 0)
 
+-- record i is one of those that are there
+pub glyph-within : {b : List ℕ} {size k n : ℕ} → RecordsThere b size k n → (i : ℕ) → i < k + n → 2 + (2 + size) * i + (2 + size) ≤ length b
+glyph-within {b} {size} {k} {n} t i l = omega (arith, record-within (2 + size) i (k + n) l, t .long)
+
+-- where some records are there, those among them are
+pub some-there : {b : List ℕ} {size k n : ℕ} → RecordsThere b size k n → (i m : ℕ) → i + m ≤ k + n → RecordsThere b size i m
+some-there {b} {size} {k} {n} t i m l = record { long = omega (arith, mul-le-mul-left (2 + size) l, t .long); few = omega (arith, t .few) }
+
 module _ (b : List ℕ) (size : ℕ) where
   abbrev second : ℕ → ℕ
   second = secondAt b size
-
-  abbrev ascends : ℕ → ℕ → ℕ → Bool
-  ascends = ascendFrom b size
 
   -- where record r stands
   abbrev place : ℕ → ℕ
   place r = 2 + (2 + size) * r
 
-  -- one above the glyph of the record before it
-  abbrev pub leastAt : ℕ → ℕ
-  leastAt r = before (λ j. u16At b (2 + (2 + size) * j) + 1) r
+  -- the n records from r on ascend, from `least` on
+  abbrev ascends : ℕ → ℕ → ℕ → Bool
+  ascends least n r = ascending size least n (drop (place r) b)
+
+  -- ---- glyphs that rise, one by one
+
+  pub rises-at : (k n : ℕ) → rises b size k n ≡ true → (j : ℕ) → k ≤ j → j < k + n → second j < second (j + 1)
+  unfolding rises
+  rises-at k n h j l m =
+      let e : k + (j - k) ≡ j = omega arith in
+      let f : second (k + (j - k)) < second (k + (j - k) + 1) = leb-true _ _ (all-at (λ i. ltb (second (k + i)) (second (k + i + 1))) n h (j - k) (omega arith)) in
+      rw e at f
+
+  pub rises-each : (k n : ℕ) → ((j : ℕ) → k ≤ j → j < k + n → second j < second (j + 1)) → rises b size k n ≡ true
+  unfolding rises
+  rises-each k n h = all-intro (λ i. ltb (second (k + i)) (second (k + i + 1))) n (λ i l. le-leb _ _ (h (k + i) (omega arith) (omega arith)))
+
+  pub rises-none : (k n : ℕ) → n ≡ 0 → rises b size k n ≡ true
+  rises-none k n e = rises-each k n (λ j lo hi. let z : ⊥ = omega arith in absurd z)
+
+  -- records j and i, one behind the other, and their glyphs
+  module _ (k n j i : ℕ) (e : i ≡ j + 1) {g h : ℕ} (g≡ : g ≡ secondAt b size j) (h≡ : h ≡ secondAt b size i) where
+    pub rises-not : k ≤ j → i ≤ k + n → h ≤ g → false ≡ rises b size k n
+    rises-not l m f =
+        by-test (rises b size k n)
+        (λ t. let u : second j < second i = rw (← e) at (rises-at k n t j l (omega arith)) in let z : ⊥ = omega arith in absurd z)
+        (λ u. sym u)
+
+    -- those before them rise: these decide
+    pub rises-last : j ≡ k + n → rises b size k n ≡ true → ltb g h ≡ rises b size k (n + 1)
+    rises-last l t =
+        both-ways (ltb g h) (rises b size k (n + 1))
+        (λ u.
+        rises-each k (n + 1)
+        (λ m lo hi. ⊎-elim (λ (q : m < k + n). rises-at k n t m lo q) (λ (q : k + n ≤ m). rises-here u m (omega arith)) (either m (k + n))))
+        (λ u. let v : second j < second i = rw (← e) at (rises-at k (n + 1) u j (omega arith) (omega arith)) in le-leb (suc g) h (omega arith))
+      where
+        rises-here : ltb g h ≡ true → (m : ℕ) → j ≡ m → second m < second (m + 1)
+        rises-here u m d =
+            let f : suc g ≤ h = leb-true (suc g) h u in
+            let v : second j < second i = omega arith in
+            let w : second j < second (j + 1) = rw e at v in
+            rw d at w
+
+    pub rises-more : j ≡ k + n → rises b size k n ≡ true → g < h → rises b size k (n + 1) ≡ true
+    rises-more l t u = sym (rises-last l t) ∙ le-leb (suc g) h u
+
+  -- ---- records in parts
+
+  -- where some do not, those that they are among do not
+  pub part : (a n c m : ℕ) → rises b size c m ≡ false → a ≤ c → c + m ≤ a + n → false ≡ rises b size a n
+  part a n c m f l e =
+      by-test (rises b size a n)
+      (λ t. true-false (sym (rises-each c m (λ j lo hi. rises-at a n t j (omega arith) (omega arith))) ∙ f))
+      (λ h. sym h)
+
+  -- where the first p of them do, the rest decides
+  pub rest : (a p c m n : ℕ) → rises b size a p ≡ true → a ≤ c → c ≤ a + p → c + m ≡ a + n → rises b size c m ≡ rises b size a n
+  rest a p c m n h l k e =
+      both-ways (rises b size c m) (rises b size a n)
+      (λ t.
+      rises-each a n
+      (λ j lo hi. ⊎-elim (λ (q : j < a + p). rises-at a p h j lo q) (λ (q : a + p ≤ j). rises-at c m t j (omega arith) (omega arith)) (either j (a + p))))
+      (λ t. rises-each c m (λ j lo hi. rises-at a n t j (omega arith) (omega arith)))
+
+  -- ---- what is sorted
 
   ascend-step : (least n r : ℕ) → ascends least (suc n) r ≡ (leb least (second r) && ascends (second r + 1) n (r + 1))
   unfolding ascending
@@ -51,38 +122,66 @@ module _ (b : List ℕ) (size : ℕ) where
       ap₂ (λ (x : ℕ) (y : List ℕ). leb least x && ascending size (x + 1) n y) (u16-drop b (place r))
       (drop-drop (2 + size) (place r) b ∙ ap (λ (k : ℕ). drop k b) e)
 
-  -- with n records left behind record r
-  pub ascend-at : (least n r : ℕ) → r < n → ascends least (n - r) r ≡ (leb least (second r) && ascends (second r + 1) (n - (r + 1)) (r + 1))
-  ascend-at least n r l =
-      let e : n - r ≡ suc (n - (r + 1)) = omega arith in
-      ap (λ (m : ℕ). ascends least m r) e ∙ ascend-step least (n - (r + 1)) r
+  rises-first : (r n : ℕ) → rises b size r (suc n) ≡ (leb (second r + 1) (second (r + 1)) && rises b size (r + 1) n)
+  rises-first r n =
+      both-ways (rises b size r (suc n)) (leb (second r + 1) (second (r + 1)) && rises b size (r + 1) n)
+      (λ t.
+      and-intro (leb (second r + 1) (second (r + 1))) _ (le-leb (second r + 1) (second (r + 1)) (omega (arith, rises-at r (suc n) t r (omega arith) (omega arith))))
+      (rises-each (r + 1) n (λ j lo hi. rises-at r (suc n) t j (omega arith) (omega arith))))
+      (λ t.
+      let (first, more) = and-both (leb (second r + 1) (second (r + 1))) (rises b size (r + 1) n) t in
+      let f : second r + 1 ≤ second (r + 1) = leb-true (second r + 1) (second (r + 1)) first in
+      let up : second r < second (r + 1) = omega arith in
+      rises-each r (suc n)
+      (λ j lo hi.
+      ⊎-elim (λ (q : j < r + 1). let e : r ≡ j = omega arith in rw e at up) (λ (q : r + 1 ≤ j). rises-at (r + 1) n more j q (omega arith)) (either j (r + 1))))
 
-  pub ascend-none : (least n r : ℕ) → n ≤ r → ascends least (n - r) r ≡ true
+  -- records ascend from one above a glyph exactly if they rise behind it
+  ascend-rises : (n r : ℕ) → ascends (second r + 1) n (r + 1) ≡ rises b size r n
   unfolding ascending
-  ascend-none least n r l = let e : n - r ≡ 0 = omega arith in ap (λ (m : ℕ). ascends least m r) e
+  ascend-rises zero r = sym (rises-none r 0 refl)
+  ascend-rises (suc n) r =
+      ascend-step (second r + 1) n (r + 1)
+      ∙ ap (λ (t : Bool). leb (second r + 1) (second (r + 1)) && t) (ascend-rises n (r + 1))
+      ∙ sym (rises-first r n)
 
-  -- none is passed
-  pub ascend-all : (n : ℕ) → ascends 0 (n - 0) 0 ≡ ascending size 0 n (drop 2 b)
-  ascend-all n =
-      let e : n - 0 ≡ n = omega arith in
-      let f : place 0 ≡ 2 = omega arith in
-      ap₂ (λ (m k : ℕ). ascending size 0 m (drop k b)) e f
+  ascend-all : (n : ℕ) → ascending size 0 n (drop 2 b) ≡ rises b size 0 (n - 1)
+  unfolding ascending
+  ascend-all zero = sym (rises-none 0 (0 - 1) (omega arith))
+  ascend-all (suc n) =
+      let e : place 0 ≡ 2 = omega arith in
+      let d : suc n - 1 ≡ n = omega arith in
+      ap (λ (k : ℕ). ascending size 0 (suc n) (drop k b)) (sym e) ∙ ascend-step 0 n 0
+      ∙ ap (λ (t : Bool). t && ascends (second 0 + 1) n (0 + 1)) (le-leb 0 (second 0) (omega arith))
+      ∙ ascend-rises n 0
+      ∙ ap (λ (m : ℕ). rises b size 0 m) (sym d)
 
-  -- ---- a set that is sorted
+  pub too-short : length b < 2 → false ≡ setSorted b size
+  unfolding setSorted
+  too-short h = sym (and-first (eqb (length b) (2 + (2 + size) * u16At b 0)) _ (ne-eqb (length b) (2 + (2 + size) * u16At b 0) (λ e. omega arith)))
 
-  -- of n records
+  pub not-long : {n : ℕ} → n ≡ u16At b 0 → (length b ≡ 2 + (2 + size) * n → ⊥) → false ≡ setSorted b size
+  unfolding setSorted
+  not-long {n} e h = sym (and-first (eqb (length b) (2 + (2 + size) * u16At b 0)) _ (ne-eqb (length b) (2 + (2 + size) * u16At b 0) (rw e at h)))
+
+  pub exact : {n : ℕ} → n ≡ u16At b 0 → length b ≡ 2 + (2 + size) * n → rises b size 0 (n - 1) ≡ setSorted b size
+  unfolding setSorted
+  exact {n} e l =
+      sym
+      (ap (λ (t : Bool). t && ascending size 0 (u16At b 0) (drop 2 b)) (eq-eqb (length b) (2 + (2 + size) * u16At b 0) (rw e at l))
+      ∙ ap (λ (m : ℕ). ascending size 0 m (drop 2 b)) (sym e)
+      ∙ ascend-all n)
+
+  -- a set of n records that is sorted
   pub record Sorted (n : ℕ) : Type 0 where
     pub count : n ≡ u16At b 0
     pub long : length b ≡ 2 + (2 + size) * n
     pub rising : Rising second second n
 
-  left-ascends : (n : ℕ) → ascending size 0 n (drop 2 b) ≡ true → (r : ℕ) → r ≤ n → ascends (leastAt r) (n - r) r ≡ true
-  left-ascends n h =
-      by-index (λ r. r ≤ n → ascends (leastAt r) (n - r) r ≡ true)
-      (λ l. ap (λ (least : ℕ). ascends least (n - 0) 0) (before-none _) ∙ ascend-all n ∙ h)
-      (λ r ih l.
-      ap (λ (least : ℕ). ascends least (n - (r + 1)) (r + 1)) (before-more _ r)
-      ∙ and-both (leb (leastAt r) (second r)) _ (sym (ascend-at (leastAt r) n r (omega arith)) ∙ ih (omega arith)) .1)
+  above-before : (n : ℕ) → rises b size 0 (n - 1) ≡ true → (r : ℕ) → r < n → before (λ j. second j + 1) r ≤ second r
+  unfolding before
+  above-before n h zero k = omega arith
+  above-before n h (suc r) k = let f : second r < second (r + 1) = rises-at 0 (n - 1) h r (omega arith) (omega arith) in rw (← add-one r) (omega arith)
 
   pub sorted : setSorted b size ≡ true → Sorted (u16At b 0)
   unfolding setSorted
@@ -93,86 +192,7 @@ module _ (b : List ℕ) (size : ℕ) where
         count = refl;
         long = eqb-true (length b) (2 + (2 + size) * n) l;
         rising = record {
-          above = λ r k. leb-true _ _ (and-both (leb (leastAt r) (second r)) _ (sym (ascend-at (leastAt r) n r k) ∙ left-ascends n a r (omega arith)) .0);
+          above = above-before n (sym (ascend-all n) ∙ a);
           ordered = λ r k. omega arith;
         };
       }
-
-  -- ---- the test
-
-  pub too-short : length b < 2 → false ≡ setSorted b size
-  unfolding setSorted
-  too-short h = sym (and-first (eqb (length b) (2 + (2 + size) * u16At b 0)) _ (ne-eqb (length b) (2 + (2 + size) * u16At b 0) (λ e. omega arith)))
-
-  pub not-long : {n : ℕ} → n ≡ u16At b 0 → (length b ≡ 2 + (2 + size) * n → ⊥) → false ≡ setSorted b size
-  unfolding setSorted
-  not-long {n} e h = sym (and-first (eqb (length b) (2 + (2 + size) * u16At b 0)) _ (ne-eqb (length b) (2 + (2 + size) * u16At b 0) (rw e at h)))
-
-  pub start : {n : ℕ} → n ≡ u16At b 0 → length b ≡ 2 + (2 + size) * n → Passing b size n 0 0
-  unfolding setSorted
-  start {n} e l =
-      record {
-        count = e;
-        long = l;
-        within = omega arith;
-        rest =
-            ap (λ (t : Bool). t && ascending size 0 (u16At b 0) (drop 2 b)) (eq-eqb (length b) (2 + (2 + size) * u16At b 0) (rw e at l))
-            ∙ ap (λ (m : ℕ). ascending size 0 m (drop 2 b)) (sym e)
-            ∙ sym (ascend-all n);
-      }
-
-  -- record k stands within the set
-  pub glyph-within : {n least r : ℕ} → Passing b size n least r → (k : ℕ) → k < n → 2 + (2 + size) * k + (2 + size) ≤ length b
-  glyph-within {n} p k l = omega (arith, record-within (2 + size) k n l, p .long)
-
-  module _ {n least r glyph : ℕ} (p : Passing b size n least r) (l : r < n) (e : glyph ≡ u16At b (2 + (2 + size) * r)) where
-    pub turn : least ≤ glyph → Passing b size n (glyph + 1) (r + 1)
-    turn h =
-        record {
-          count = p .count;
-          long = p .long;
-          within = omega arith;
-          rest =
-              p .rest ∙ ascend-at least n r l
-              ∙ ap₂ (λ (t : Bool) (g : ℕ). t && ascends (g + 1) (n - (r + 1)) (r + 1)) (le-leb least (second r) (omega arith)) (sym e);
-        }
-
-    pub fail : glyph < least → false ≡ setSorted b size
-    fail h = sym (p .rest ∙ ascend-at least n r l ∙ and-first (leb least (second r)) _ (lt-leb least (second r) (omega arith)))
-
-  pub stop : {n least r : ℕ} → Passing b size n least r → n ≤ r → true ≡ setSorted b size
-  stop {n} {least} {r} p h = sym (p .rest ∙ ascend-none least n r h)
-
-  -- ---- four records at once
-
-  upto-there : {n least r r′ : ℕ} → Passing b size n least r → r ≡ r′ → Passing b size n least r′
-  upto-there {n} {least} p e = subst (λ (k : ℕ). Passing b size n least k) e p
-
-  module _ {n least r g0 g1 g2 g3 : ℕ} (p : Passing b size n least r) (l : r + 3 < n) (e0 : g0 ≡ secondAt b size r) (e1 : g1 ≡ secondAt b size (r + 1))
-      (e2 : g2 ≡ secondAt b size (r + 2)) (e3 : g3 ≡ secondAt b size (r + 3)) where
-    pub fail0 : g0 < least → false ≡ setSorted b size
-    fail0 = fail p (omega arith) e0
-
-    module _ (h0 : least ≤ g0) where
-      one : Passing b size n (g0 + 1) (r + 1)
-      one = turn p (omega arith) e0 h0
-
-      pub fail1 : g1 ≤ g0 → false ≡ setSorted b size
-      fail1 h = fail one (omega arith) e1 (omega arith)
-
-      module _ (h1 : g0 < g1) where
-        two : Passing b size n (g1 + 1) (r + 2)
-        two = upto-there (turn one (omega arith) e1 (omega arith)) (omega arith)
-
-        pub fail2 : g2 ≤ g1 → false ≡ setSorted b size
-        fail2 h = fail two (omega arith) e2 (omega arith)
-
-        module _ (h2 : g1 < g2) where
-          three : Passing b size n (g2 + 1) (r + 3)
-          three = upto-there (turn two (omega arith) e2 (omega arith)) (omega arith)
-
-          pub fail3 : g3 ≤ g2 → false ≡ setSorted b size
-          fail3 h = fail three (omega arith) e3 (omega arith)
-
-          pub four : g2 < g3 → Passing b size n (g3 + 1) (r + 4)
-          four h = upto-there (turn three (omega arith) e3 (omega arith)) (omega arith)

@@ -17,7 +17,7 @@ use Rattle.ot_layouts.specs.PairPos.{setReadable, setSorted, valuesAt, firstRec
 use Rattle.pair_sets.specs.Sets.{recordFound}
 use Rattle.pair_sets.specs.declared.Found.the-variants.{At, Nothing}
 use Rattle.pair_sets.proofs.Widths.{record-within}
-use Rattle.pair_sets.specs.Passing.{secondAt}
+use Rattle.pair_sets.specs.Rising.{secondAt}
 use Rattle.pair_sets.proofs.Ascending.{Sorted, sorted}
 
 -- record r is of glyph g

@@ -1,2 +1,2 @@
 pub mod Sets
-pub mod Passing
+pub mod Rising

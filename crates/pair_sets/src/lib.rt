@@ -4,12 +4,12 @@ pub mod linked;
 use ot_wire::u16_at;
 ghost use mathlib.Core.Path.{_≡_};
 ghost use mathlib.Core.Bool.{true};
-ghost use Prim.Native.Nat.{_+_, _*_, _≤_};
+ghost use Prim.Native.Nat.{_+_, _-_, _*_, _≤_};
 ghost use lib.ListN.{length};
 ghost use Rattle.ot_layouts.specs.PairPos.{setSorted, firstRecord};
 ghost use Rattle.folds.specs.Moments.{came};
 ghost use Rattle.pair_sets.specs.Sets.{recordFound};
-ghost use Rattle.pair_sets.specs.Passing.{secondAt, Passing};
+ghost use Rattle.pair_sets.specs.Rising.{secondAt, RecordsThere, rises};
 
 // The record of a pair set that a search finds.
 pub enum Found {
@@ -25,25 +25,88 @@ fn glyph_of(set: &[u8], size: usize, k: usize) -> u16
     u16_at(set, 2 + (2 + size) * k)
 }
 
-// Whether the glyphs of the records from `from` on rise, the first of them no less than `least`.
-fn rest_sorted(set: &[u8], size: usize, count: usize, least: usize, from: usize) -> bool
-    requires { ⌜ Passing (now set) size count least from ⌝ }
-    ensures { λ r. ⌜ r ≡ setSorted (came set) size ⌝ }
+// Whether the glyphs of the five records from `k` on rise.
+fn five_rise(set: &[u8], size: usize, k: usize) -> bool
+    requires { ⌜ RecordsThere (now set) size k 5 ⌝ }
+    ensures { λ r. ⌜ r ≡ rises (came set) size k 4 ⌝ }
 {
-    let mut least = least;
-    let mut r = from;
-    while r < count {
-        let glyph = glyph_of(set, size, r) as usize;
-        if glyph < least {
+    let first = glyph_of(set, size, k);
+    let second = glyph_of(set, size, k + 1);
+    if second <= first {
+        return false;
+    }
+    let third = glyph_of(set, size, k + 2);
+    if third <= second {
+        return false;
+    }
+    let fourth = glyph_of(set, size, k + 3);
+    if fourth <= third {
+        return false;
+    }
+    fourth < glyph_of(set, size, k + 4)
+}
+
+// Whether those of nine do: the fifth is the last of one five and the first of the other.
+fn nine_rise(set: &[u8], size: usize, k: usize) -> bool
+    requires { ⌜ RecordsThere (now set) size k 9 ⌝ }
+    ensures { λ r. ⌜ r ≡ rises (came set) size k 8 ⌝ }
+{
+    if !five_rise(set, size, k) {
+        return false;
+    }
+    five_rise(set, size, k + 4)
+}
+
+// Whether those of seventeen do.
+fn seventeen_rise(set: &[u8], size: usize, k: usize) -> bool
+    requires { ⌜ RecordsThere (now set) size k 17 ⌝ }
+    ensures { λ r. ⌜ r ≡ rises (came set) size k 16 ⌝ }
+{
+    if !nine_rise(set, size, k) {
+        return false;
+    }
+    nine_rise(set, size, k + 8)
+}
+
+// Whether the glyphs of a set rise, seventeen at a time. The last seventeen are looked at whole, whatever was seen of them: how many would be left
+// is hard to foresee for a processor, and costs more than looking twice.
+fn many_rise(set: &[u8], size: usize, count: usize) -> bool
+    requires { ⌜ RecordsThere (now set) size 0 count × (17 ≤ count) ⌝ }
+    ensures { λ r. ⌜ r ≡ rises (came set) size 0 (count - 1) ⌝ }
+{
+    let last = count - 17;
+    let mut k: usize = 0;
+    while k < last {
+        if !seventeen_rise(set, size, k) {
             return false;
         }
-        least = glyph + 1;
-        r += 1;
+        k += 16;
+    }
+    seventeen_rise(set, size, last)
+}
+
+// Whether the glyphs of a set rise, one by one.
+fn few_rise(set: &[u8], size: usize, count: usize) -> bool
+    requires { ⌜ RecordsThere (now set) size 0 count ⌝ }
+    ensures { λ r. ⌜ r ≡ rises (came set) size 0 (count - 1) ⌝ }
+{
+    if count == 0 {
+        return true;
+    }
+    let mut last = glyph_of(set, size, 0);
+    let mut k: usize = 0;
+    while k + 1 < count {
+        let glyph = glyph_of(set, size, k + 1);
+        if glyph <= last {
+            return false;
+        }
+        last = glyph;
+        k += 1;
     }
     true
 }
 
-// Whether nothing stands behind the records of a set, and each one's glyph is above the one before it. Four records a turn: every set of a table is looked at.
+// Whether nothing stands behind the records of a set, and each one's glyph is above the one before it.
 pub fn is_sorted(set: &[u8], size: usize) -> bool
     requires { ⌜ size ≤ 32 ⌝ }
     ensures { λ r. ⌜ r ≡ setSorted (came set) size ⌝ }
@@ -55,29 +118,10 @@ pub fn is_sorted(set: &[u8], size: usize) -> bool
     if set.len() != 2 + (2 + size) * count {
         return false;
     }
-    let mut least: usize = 0;
-    let mut r: usize = 0;
-    while r + 3 < count {
-        let first = glyph_of(set, size, r);
-        let second = glyph_of(set, size, r + 1);
-        let third = glyph_of(set, size, r + 2);
-        let fourth = glyph_of(set, size, r + 3);
-        if (first as usize) < least {
-            return false;
-        }
-        if second <= first {
-            return false;
-        }
-        if third <= second {
-            return false;
-        }
-        if fourth <= third {
-            return false;
-        }
-        least = (fourth as usize) + 1;
-        r += 4;
+    if count < 17 {
+        return few_rise(set, size, count);
     }
-    rest_sorted(set, size, count, least, r)
+    many_rise(set, size, count)
 }
 
 // The record of a sorted set with the second glyph, by halving: the glyphs before `lo` are below it, and those from `hi` on above it.
