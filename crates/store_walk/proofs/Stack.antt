@@ -31,13 +31,17 @@ stack-other e w c v top (x ∷ xs) out (a, b, d, s) =
     let same : getD (set w c v) x 0 ≡ getD w x 0 = getD-set-other w c x v 0 (λ q. out (inl (sym q))) in
     (a, rw same b, d, rw same (stack-other e w c v (getD w x 0 - e - 1) xs (λ h. out (inr h)) s))
 
+-- nor is a change to an object that was not found
+pub stack-apart : (e : ℕ) (w : List ℕ) (c v top : ℕ) (xs : List ℕ) → getD w c 0 < e → Stacked e w top xs → Stacked e (set w c v) top xs
+stack-apart e w c v top xs low s = stack-other e w c v top xs (λ i. omega (arith, stack-high e w top xs s c i)) s
+
 pub stack-push : (e : ℕ) (w : List ℕ) (c top : ℕ) (xs : List ℕ) → c < length w → getD w c 0 < e → Stacked e w top xs → Stacked e (set w c (e + 1 + top)) (c + 1) (c ∷ xs)
 unfolding In Stacked
 stack-push e w c top xs h low s =
     let out : In c xs → ⊥ = λ i. omega (arith, stack-high e w top xs s c i) in
     let here : getD (set w c (e + 1 + top)) c 0 ≡ e + 1 + top = getD-set-same w c (e + 1 + top) 0 h in
     let next : top ≡ getD (set w c (e + 1 + top)) c 0 - e - 1 = omega arith in
-    (refl, omega arith, out, subst (λ (t : ℕ). Stacked e (set w c (e + 1 + top)) t xs) next (stack-other e w c (e + 1 + top) top xs out s))
+    (refl, omega arith, out, subst (λ (t : ℕ). Stacked e (set w c (e + 1 + top)) t xs) next (stack-apart e w c (e + 1 + top) top xs low s))
 
 pub stack-empty : (e : ℕ) (w : List ℕ) (top : ℕ) (xs : List ℕ) → top ≡ 0 → Stacked e w top xs → (i : ℕ) → In i xs → ⊥
 unfolding In Stacked

@@ -1,17 +1,17 @@
 -- What holds at each turn of a walk, and what it leaves, on plain lists and numbers. Assumes nothing.
-use Prim.Native.Nat.{ℕ, suc, _+_, _-_, _*_, _≤_, _<_}
-use mathlib.Core.Bool.{Bool, not}
+use Prim.Native.Nat.{ℕ, suc, _+_, _-_, _*_, _≤_, _<_, max}
+use mathlib.Core.Bool.{Bool, cond, not}
 use mathlib.Core.List.{List, [], _∷_}
 use mathlib.Core.Logic.{_⊎_, inl, inr, ⊎-elim}
 use mathlib.Core.Path.{_≡_, refl, sym, ap, subst, _∙_}
 use native.Mathlib.Decide.{ℕ-discrete}
-use native.Mathlib.Nat.{suc-mul, eq-or-lt-of-le}
+use native.Mathlib.Nat.{suc-mul, mul-le-mul-right, eq-or-lt-of-le}
 use native.Mathlib.Omega.{arith}
 use lib.Dec.{leb, ltb, eqb}
 use lib.ListN.{length, getD, set, length-set}
-use lib.Seq.{getD-set-same, getD-set-other}
-use borrow.Author.Tests.{le-leb, lt-leb, lt-ltb, eq-eqb, ne-eqb}
-use Rattle.folds.specs.Folds.{sum}
+use lib.Seq.{getD-set-same, getD-set-other, set-getD}
+use borrow.Author.Tests.{le-leb, lt-leb, le-ltb, lt-ltb, eq-eqb, ne-eqb}
+use Rattle.folds.specs.Folds.{sum, before}
 use Rattle.folds.proofs.Tests.{and-intro, either}
 use Rattle.folds.proofs.Tally.{tally, count, tally-same, tally-one, tally-le}
 use Rattle.store_rules.specs.Store.{Store, perLink, rowParent, rowPosition, rowChild}
@@ -20,8 +20,8 @@ use Rattle.store_rules.proofs.Sound.{Fits}
 use Rattle.store_reader.specs.Rows.{keyOf, FirstRow}
 use Rattle.store_reader.proofs.Rows.{position-most}
 use Rattle.store_walk.specs.Marks.{between}
-use Rattle.store_walk.proofs.Ends.{zero-or}
-use Rattle.store_walk.proofs.Stack.{In, Stacked, Popped, stack-push, stack-pop, stack-empty}
+use Rattle.store_walk.proofs.Ends.{zero-or, rows-start}
+use Rattle.store_walk.proofs.Stack.{In, Stacked, Popped, stack-apart, stack-push, stack-pop, stack-empty}
 
 -- a store of m link rows, for what can be reached along them
 abbrev pub graph : List ℕ → ℕ → Store
@@ -58,6 +58,10 @@ found e w i = leb e (getD w i 0)
 -- object i has not the mark e: its rows are still to come, if they come at all
 abbrev pub unread : ℕ → List ℕ → ℕ → Bool
 unread e w i = not (eqb (getD w i 0) e)
+
+-- each of n objects has its rows up to the one that the scratch says
+abbrev EndsIn : List ℕ → ℕ → ℕ → List ℕ → Type 0
+EndsIn l m n w = (i : ℕ) → i < n → FirstRow l m (keyOf (i + 1) 0) (getD w (n + i) 0)
 
 -- m link rows name objects below n, at positions of 32 bits
 pub record Used (l : List ℕ) (m n : ℕ) : Type 0 where
@@ -99,6 +103,15 @@ pub record Spread (o l : List ℕ) (n m lo hi e : ℕ) (w₀ w : List ℕ) (tota
   pub closed : (k : ℕ) → k < m → Has e w (parentAtRow l k) → Has e w (childAtRow l k)
   pub outside : (i : ℕ) → n ≤ i → getD w i 0 ≡ getD w₀ i 0
   pub total-is : total + tally (sizeAt o) (has e w₀) n ≡ tally (sizeAt o) (has e w) n
+
+-- an object without rows, by whether it was found: it gets the mark and its size is added, or all stays as it is
+by-found : (e : ℕ) (w : List ℕ) (c size : ℕ) (P : List ℕ → ℕ → Type 0) → (getD w c 0 < e → P (set w c e) size) → (Found e w c → P w 0)
+    → P (set w c (max (getD w c 0) e)) (cond (ltb (getD w c 0) e) size 0)
+by-found e w c size P fresh again =
+    ⊎-elim
+    (λ a. let q : max (getD w c 0) e ≡ e = omega arith in rw (q, lt-ltb (getD w c 0) e a) (fresh a))
+    (λ a. let q : max (getD w c 0) e ≡ getD w c 0 = omega arith in rw (q, le-ltb (getD w c 0) e a, set-getD w c 0) (again a))
+    (either (getD w c 0) e)
 
 -- the rows of the parent x
 module _ {l : List ℕ} {m n x row stop : ℕ} (u : Used l m n) (f : FirstRow l m (keyOf x 0) row) (g : FirstRow l m (keyOf (x + 1) 0) stop) where
@@ -152,36 +165,38 @@ module _ {o l : List ℕ} {n m lo hi e : ℕ} {w₀ : List ℕ} (latest : (i : �
         past : (k : ℕ) → Ahead row stop k → Found e w (childAtRow l k) ⊎ Ahead (row + 1) stop k
         past k a = ⊎-elim (λ q. inl (rw (← q) t)) (λ b. inr (omega arith)) (eq-or-lt-of-le (a .0))
 
-    -- an object that can be reached and was not found goes onto the stack
-    module _ {c : ℕ} (big : 2 * n ≤ length w₀) (c< : c < n) (rc : Reach (graph l m) (between lo hi) c) (low : getD w c 0 < e) where
+    -- an object that can be reached and was not found gets the mark, or a number above it
+    module _ {c x : ℕ} (big : 2 * n ≤ length w₀) (c< : c < n) (rc : Reach (graph l m) (between lo hi) c) (low : getD w c 0 < e) (high : e ≤ x) where
       abbrev marked : List ℕ
-      marked = set w c (e + 1 + top)
+      marked = set w c x
 
-      here : getD marked c 0 ≡ e + 1 + top
-      here = getD-set-same w c (e + 1 + top) 0 (omega (arith, v .long))
+      here : getD marked c 0 ≡ x
+      here = getD-set-same w c x 0 (omega (arith, v .long))
 
       -- an object is c, or has the number that it had
       at : (i : ℕ) → (i ≡ c) ⊎ (getD marked i 0 ≡ getD w i 0)
-      at i = elim (ℕ-discrete i c) [ yes q ↦ inl q | no d ↦ inr (getD-set-other w c i (e + 1 + top) 0 d) ]
+      at i = elim (ℕ-discrete i c) [ yes q ↦ inl q | no d ↦ inr (getD-set-other w c i x 0 d) ]
 
       more : (i : ℕ) → Found e w i → Found e marked i
       more i t = ⊎-elim (λ q. rw q (omega (arith, here))) (λ q. omega arith) (at i)
 
-      mark : Inv o l n m lo hi e w₀ marked (total + sizeAt o c) row stop (c + 1)
-      unfolding In
-      mark = record {
+      -- with these objects on the stack, c among them if it has rows
+      mark : {top′ : ℕ} (xs : List ℕ) → Stacked e marked top′ xs → ((i : ℕ) → i < n → e < getD marked i 0 → In i xs) → ((i : ℕ) → In i xs → Reach (graph l m) (between lo hi) i)
+          → ((k : ℕ) → k < m → parentAtRow l k ≡ c → x ≡ e → ⊥) → Inv o l n m lo hi e w₀ marked (total + sizeAt o c) row stop top′
+      mark xs stacked waiting reaches none = record {
         long = simp length-set (v .long);
         stop-le = v .stop-le;
-        stack = c ∷ v .stack;
-        stacked = stack-push e w c top (v .stack) (omega (arith, v .long)) low (v .stacked);
-        waiting = λ i a h. ⊎-elim inl (λ q. inr (v .waiting i a (omega arith))) (at i);
-        reaches = λ i. ⊎-elim (λ q. rw q rc) (v .reaches i);
+        stack = xs;
+        stacked = stacked;
+        waiting = waiting;
+        reaches = reaches;
         other = λ i a. ⊎-elim (λ q. inr (rw q (omega (arith, here)))) (λ q. ⊎-elim (λ z. inl (q ∙ z)) (λ t. inr (more i t)) (v .other i a)) (at i);
         only = λ i a t. ⊎-elim (λ q. inr (rw q rc)) (λ q. v .only i a (omega arith)) (at i);
         current = v .current;
         seeds = λ k a b. ⊎-elim (λ t. inl (more (childAtRow l k) t)) inr (v .seeds k a b);
-        pending = λ k a t. ⊎-elim (λ q. absurd (omega (arith, here, ap (λ (i : ℕ). getD marked i 0) q))) (λ q. ⊎-elim (λ p. inl (more (childAtRow l k) p)) inr (v .pending k a (sym q ∙ t))) (at (parentAtRow l k));
-        outside = λ i a. getD-set-other w c i (e + 1 + top) 0 (omega arith) ∙ v .outside i a;
+        pending = λ k a t. ⊎-elim (λ q. absurd (none k a q (sym here ∙ ap (λ (i : ℕ). getD marked i 0) (sym q) ∙ t)))
+            (λ q. ⊎-elim (λ p. inl (more (childAtRow l k) p)) inr (v .pending k a (sym q ∙ t))) (at (parentAtRow l k));
+        outside = λ i a. getD-set-other w c i x 0 (omega arith) ∙ v .outside i a;
         total-is = omega (arith, grown, v .total-is);
       }
         where
@@ -193,11 +208,46 @@ module _ {o l : List ℕ} {n m lo hi e : ℕ} {w₀ : List ℕ} (latest : (i : �
               tally-one (sizeAt o) (found e w) (found e marked) c n c< (lt-leb e (getD w c 0) low)
               (le-leb e (getD marked c 0) (omega (arith, here))) same
 
-      -- it has no mark yet, as before
-      mark-unread : count (unread e marked) n ≡ count (unread e w) n
-      mark-unread =
+      -- above the mark it is unread, as before
+      high-unread : e < x → count (unread e marked) n ≡ count (unread e w) n
+      high-unread above =
           tally-same (λ i. 1) (unread e marked) (unread e w) n
           (λ i a. ⊎-elim (λ q. rw q (ap not (ne-eqb (getD marked c 0) e (omega (arith, here)) ∙ sym (ne-eqb (getD w c 0) e (omega arith))))) (λ q. rw q) (at i))
+
+      -- with the mark it is unread no more
+      mark-unread : x ≡ e → count (unread e w) n ≡ count (unread e marked) n + 1
+      mark-unread exact =
+          tally-one (λ i. 1) (unread e marked) (unread e w) c n c<
+          (ap not (eq-eqb (getD marked c 0) e (here ∙ exact))) (ap not (ne-eqb (getD w c 0) e (omega arith)))
+          (λ i a d. ⊎-elim (λ q. absurd (d q)) (λ q. rw q) (at i))
+
+    module _ {c : ℕ} (big : 2 * n ≤ length w₀) (c< : c < n) (rc : Reach (graph l m) (between lo hi) c) (low : getD w c 0 < e) where
+      -- it goes onto the stack
+      stack-mark : Inv o l n m lo hi e w₀ (set w c (e + 1 + top)) (total + sizeAt o c) row stop (c + 1)
+      unfolding In
+      stack-mark =
+          let le : e ≤ e + 1 + top = omega arith in
+          mark big c< rc low le (c ∷ v .stack) (stack-push e w c top (v .stack) (omega (arith, v .long)) low (v .stacked))
+          (λ i a h. ⊎-elim inl (λ q. inr (v .waiting i a (omega arith))) (at big c< rc low le i))
+          (λ i. ⊎-elim (λ q. rw q rc) (v .reaches i)) (λ k a q z. omega arith)
+
+      -- or has no rows, and need not wait there
+      leaf-mark : ((k : ℕ) → k < m → parentAtRow l k ≡ c → ⊥) → Inv o l n m lo hi e w₀ (set w c e) (total + sizeAt o c) row stop top
+      leaf-mark none =
+          let le : e ≤ e = omega arith in
+          mark big c< rc low le (v .stack) (stack-apart e w c e top (v .stack) low (v .stacked))
+          (λ i a h. ⊎-elim (λ q. absurd (omega (arith, here big c< rc low le, ap (λ (j : ℕ). getD (set w c e) j 0) q))) (λ q. v .waiting i a (omega arith)) (at big c< rc low le i))
+          (v .reaches) (λ k a q z. none k a q)
+
+    -- the ends of the rows are as they came
+    still-ends : EndsIn l m n w₀ → EndsIn l m n w
+    still-ends ends i h = subst (FirstRow l m (keyOf (i + 1) 0)) (sym (v .outside (n + i) (omega arith))) (ends i h)
+
+    -- an object whose rows would start where they end has none
+    pub rowless : Used l m n → EndsIn l m n w₀ → {i : ℕ} → i < n → before (λ j. getD w (n + j) 0) i ≡ getD w (n + i) 0 → (k : ℕ) → k < m → parentAtRow l k ≡ i → ⊥
+    rowless u ends {i} h q k a z =
+        let b : Ahead (before (λ j. getD w (n + j) 0) i) (getD w (n + i) 0) k = parent-in u (rows-start l m n w (still-ends ends) i h) (still-ends ends i h) k a (sym z) in
+        omega arith
 
     -- the stack's last is an object
     pub top-few : Used l m n → top ≤ n
@@ -209,7 +259,7 @@ module _ {o l : List ℕ} {n m lo hi e : ℕ} {w₀ : List ℕ} (latest : (i : �
       child< = u .children row (omega (arith, v .stop-le))
 
       pub push-unread : count (unread e (set w (childAtRow l row) (e + 1 + top))) n ≡ count (unread e w) n
-      push-unread = mark-unread big child< (v .current row (omega arith) h) low
+      push-unread = high-unread big child< (v .current row (omega arith) h) low (omega arith) (omega arith)
 
     -- the last of the stack leaves it and gets the mark, and its rows are walked
     module _ (u : Used l m n) (big : 2 * n ≤ length w₀) (some : 0 < top) where
@@ -231,9 +281,8 @@ module _ {o l : List ℕ} {n m lo hi e : ℕ} {w₀ : List ℕ} (latest : (i : �
       at-top : getD popped (top - 1) 0 ≡ e
       at-top = getD-set-same w (top - 1) e 0 (omega (arith, v .long, top-used))
 
-      -- the ends of the rows are as they came
-      pub pop-ends : ((i : ℕ) → i < n → FirstRow l m (keyOf (i + 1) 0) (getD w₀ (n + i) 0)) → (i : ℕ) → i < n → FirstRow l m (keyOf (i + 1) 0) (getD popped (n + i) 0)
-      pop-ends ends i h = subst (FirstRow l m (keyOf (i + 1) 0)) (sym (getD-set-other w (top - 1) (n + i) e 0 (omega (arith, top-used)) ∙ v .outside (n + i) (omega arith))) (ends i h)
+      pub pop-ends : EndsIn l m n w₀ → EndsIn l m n popped
+      pop-ends ends i h = subst (FirstRow l m (keyOf (i + 1) 0)) (sym (getD-set-other w (top - 1) (n + i) e 0 (omega (arith, top-used)))) (still-ends ends i h)
 
       -- an object is the last, or has the number that it had
       apart : (i : ℕ) → (i ≡ top - 1) ⊎ (getD popped i 0 ≡ getD w i 0)
@@ -309,8 +358,32 @@ module _ {o l : List ℕ} {n m lo hi e : ℕ} {w₀ : List ℕ} (latest : (i : �
       → Inv o l n m lo hi e w₀ (set w (childAtRow l row) (e + 1 + top)) (total + sizeAt o (childAtRow l row)) (row + 1) stop (childAtRow l row + 1)
   push {w} {row = row} {top = top} v u big h low =
       let c< : childAtRow l row < n = child< v u big h low in
-      skip (mark v big c< (v .current row (omega arith) h) low)
+      skip (stack-mark v big c< (v .current row (omega arith) h) low)
       (omega (arith, getD-set-same w (childAtRow l row) (e + 1 + top) 0 (omega (arith, v .long))))
+
+  -- a row whose child has no rows, found or not
+  module _ {w : List ℕ} {total row stop top : ℕ} (v : Inv o l n m lo hi e w₀ w total row stop top) (u : Used l m n) (big : 2 * n ≤ length w₀) (h : row < stop) where
+    abbrev c : ℕ
+    c = childAtRow l row
+
+    leaf-used : c < n
+    leaf-used = u .children row (omega (arith, v .stop-le))
+
+    pub leaf : ((k : ℕ) → k < m → parentAtRow l k ≡ c → ⊥) → Inv o l n m lo hi e w₀ (set w c (max (getD w c 0) e)) (total + cond (ltb (getD w c 0) e) (sizeAt o c) 0) (row + 1) stop top
+    leaf none =
+        by-found e w c (sizeAt o c) (λ w′ x. Inv o l n m lo hi e w₀ w′ (total + x) (row + 1) stop top)
+        (λ low. skip (leaf-mark v big leaf-used (v .current row (omega arith) h) low none) (omega (arith, getD-set-same w c e 0 (omega (arith, v .long, leaf-used)))))
+        (λ t. let z : total + 0 ≡ total = omega arith in rw z (skip v t))
+
+    pub leaf-unread : count (unread e (set w c (max (getD w c 0) e))) n ≤ count (unread e w) n
+    leaf-unread =
+        by-found e w c (sizeAt o c) (λ w′ x. count (unread e w′) n ≤ count (unread e w) n)
+        (λ low. omega (arith, mark-unread v big leaf-used (v .current row (omega arith) h) low (omega arith) refl))
+        (λ t. omega arith)
+
+-- the measure falls with a row
+pub falls-row : (m u u′ row stop : ℕ) → u′ ≤ u → row < stop → u′ * (m + 1) + (stop - (row + 1)) < u * (m + 1) + (stop - row)
+falls-row m u u′ row stop h l = omega (arith, mul-le-mul-right (m + 1) h)
 
 -- the measure falls when the stack gives its last object
 pub falls : (m u u′ row stop a : ℕ) → u ≡ u′ + 1 → stop ≤ m → u′ * (m + 1) + (stop - row) < u * (m + 1) + a

@@ -1,11 +1,12 @@
 // What can be reached along the link rows of a sound store: how many bytes it has, each object counted once, and whether a table is among it.
 use buffers::clear_u32;
 use store_reader::next_row;
-ghost use Prim.Native.Nat.{ℕ, _+_, _*_, _≤_, _<_};
-ghost use mathlib.Core.Bool.{Bool, true};
+ghost use Prim.Native.Nat.{ℕ, _+_, _*_, _≤_, _<_, max};
+ghost use mathlib.Core.Bool.{Bool, true, cond};
 ghost use mathlib.Core.Path.{_≡_};
 ghost use mathlib.Core.List.{List};
 ghost use lib.ListN.{length, getD, replicate};
+ghost use lib.Dec.{ltb, eqb};
 ghost use Rattle.folds.specs.Folds.{before};
 ghost use Rattle.store_rules.specs.Store.{lent, sound};
 ghost use Rattle.folds.specs.Moments.{came, left};
@@ -65,9 +66,32 @@ fn first_row_of(walk: &[u32], n: usize, i: usize) -> u32
     walk[n + (i - 1)]
 }
 
+// Whether object `i` of `n` has no link rows: they would start where they end.
+fn has_no_rows(walk: &[u32], n: usize, i: usize) -> bool
+    requires { ⌜ (n + i < length (now walk)) × (n + i < 4294967296) ⌝ }
+    ensures { λ r. ⌜ r ≡ eqb (before (λ j. getD (came walk) (n + j) 0) i) (getD (came walk) (n + i) 0) ⌝ }
+{
+    first_row_of(walk, n, i) == walk[n + i]
+}
+
+// What an object with this mark adds: its size, or nothing if this epoch has found it. Which of the two cannot be foretold, so both are at hand
+// and no branch is needed to choose; nor is one for `later`.
+fn added(size: u32, mark: u32, epoch: u32) -> u32
+    ensures { λ r. ⌜ r ≡ cond (ltb mark epoch) size 0 ⌝ }
+{
+    if mark < epoch { size } else { 0 }
+}
+
+// The later of two marks.
+fn later(mark: u32, epoch: u32) -> u32
+    ensures { λ r. ⌜ r ≡ max mark epoch ⌝ }
+{
+    if mark < epoch { epoch } else { mark }
+}
+
 // The length of all objects that can be reached from the children of the link rows `lo` up to `hi` and have not the mark `epoch` yet; each is
 // counted once. Those whose rows are still to come are a stack: `top` is one more than the last of them, 0 where there is none, and each has
-// in the place of its mark one more than the epoch and the `top` that it found.
+// in the place of its mark one more than the epoch and the `top` that it found. Most objects have no rows, and these get their mark at once.
 pub fn subgraph_size(
     objects: &[u32],
     links: &[u32],
@@ -89,7 +113,13 @@ pub fn subgraph_size(
             let child = links[store_reader::PER_LINK * row + store_reader::CHILD];
             let c = child as usize;
             row += 1;
-            if walk[c] < epoch {
+            let mark = walk[c];
+            let n = counts[1] as usize;
+            if has_no_rows(walk, n, c) {
+                let size = store_reader::size_of(objects, c);
+                sum += added(size, mark, epoch) as u64;
+                walk[c] = later(mark, epoch);
+            } else if mark < epoch {
                 walk[c] = epoch + 1 + top;
                 top = child + 1;
                 sum += store_reader::size_of(objects, c) as u64;

@@ -1,11 +1,14 @@
 -- `store_walk::subgraph_size` meets its contract: found are objects that had the mark or can be reached, and what an object with the mark leads to was found
 -- or is still to come. The measure is the objects that have not the mark, and the rows left of the one before them. Assumes nothing.
-use Prim.Native.Nat.{ℕ, _+_, _-_, _*_, _<_, _≤_}
-use mathlib.Core.Path.{ap}
+use Prim.Native.Nat.{ℕ, _+_, _-_, _*_, _<_, _≤_, max}
+use mathlib.Core.Bool.{cond}
+use mathlib.Core.Path.{_≡_, ap}
 use native.Mathlib.Omega.{arith}
-use lib.ListN.{getD, set, length-set}
+use lib.Dec.{ltb}
+use lib.ListN.{length, getD, set, length-set}
 use denote.Ref.{now}
 use borrow.Author.Needs.{needs}
+use borrow.Author.Tests.{eqb-true}
 use Rattle.folds.specs.Folds.{sum, before}
 use Rattle.folds.proofs.Tally.{count}
 use Rattle.store_rules.specs.Store.{lent}
@@ -13,7 +16,8 @@ use Rattle.store_rules.proofs.Sound.{Fits, sound-fits, sizes-most}
 use Rattle.store_reader.specs.Rows.{keyOf, FirstRow}
 use Rattle.store_walk.proofs.Ends.{rows-start}
 use Rattle.store_walk.proofs.Marks.{marks-closed, walked, marks-bytes, walked-bytes}
-use Rattle.store_walk.proofs.Turns.{Inv, Used, used, childAtRow, sizeAt, unread, start, skip, push, push-unread, pop, pop-ends, pop-unread, top-used, top-high, top-few, done, total-most, falls}
+use Rattle.store_walk.proofs.Turns.{Inv, Used, used, childAtRow, sizeAt, unread, start, skip, rowless, leaf, leaf-unread, push, push-unread}
+use Rattle.store_walk.proofs.Turns.{pop, pop-ends, pop-unread, top-used, top-high, top-few, done, total-most, falls, falls-row}
 use Rattle.store_walk.proofs.subgraph_size.Statement.{statement}
 use Rattle.store_walk.proofs.subgraph_size.Tie as tie
 
@@ -38,38 +42,65 @@ use-of s = used (lent (s .pre .1 .1 .bytes) (now (s .args .objects)) (now (s .ar
 child : (c : tie.Then1 Inv-loop μ-loop) → childAtRow (now (begin (c .before) .args .links)) (c .before .loop .row) < getD (begin (c .before) .args .t3) 1 0
 child c = use-of (begin (c .before)) .children (c .before .loop .row) (omega arith)
 
-abbrev then1 : tie.Then2 Inv-loop μ-loop → tie.Then1 Inv-loop μ-loop
-then1 c = c .before .before .before
+-- the row's start, from where it is known whether its child has rows
+abbrev then1 : tie.After-has-no-rows Inv-loop μ-loop → tie.Then1 Inv-loop μ-loop
+then1 c = c .before .before .before .before
+
+-- what holds once the row's child, which has no rows, has the mark
+marked : (c : tie.Then2 Inv-loop μ-loop) → (let a = then1 (c .before) .before in let x = begin a .args in let d = childAtRow (now (x .links)) (a .loop .row) in
+    Inv (now (x .objects)) (now (x .links)) (getD (x .t3) 1 0) (getD (x .t3) 2 0) (x .lo) (x .hi) (x .epoch) (now (x .walk))
+    (set (a .loop .walk) d (max (getD (a .loop .walk) d 0) (x .epoch))) (a .loop .sum + cond (ltb (getD (a .loop .walk) d 0) (x .epoch)) (sizeAt (now (x .objects)) d) 0)
+    (a .loop .row + 1) (a .loop .stop) (a .loop .top))
+marked c =
+    let t = then1 (c .before) in
+    let a = t .before in
+    let s = begin a in
+    let m = s .pre .1 .1 .marks in
+    leaf (m .latest) (a .loop .inv) (use-of s) (m .room) (t .if1 .taken)
+    (rowless (m .latest) (a .loop .inv) (use-of s) (m .ends) (child t) (eqb-true _ _ (rw (c .before .has-no-rows .ensures) at (c .if2 .taken))))
+
+-- and what it adds
+adds : (c : tie.After-added Inv-loop μ-loop) → (let a = then1 (c .before .before .before) .before in let x = begin a .args in let d = childAtRow (now (x .links)) (a .loop .row) in
+    c .added .result ≡ cond (ltb (getD (a .loop .walk) d 0) (x .epoch)) (sizeAt (now (x .objects)) d) 0)
+adds c = rw (c .before .size-of .ensures) at (c .added .ensures)
 
 -- what holds once the row's child, which was not found yet, stands in the stack
-entered : (c : tie.Then2 Inv-loop μ-loop) → (let a = then1 c .before in let x = begin a .args in let d = childAtRow (now (x .links)) (a .loop .row) in
+entered : (c : tie.Then3 Inv-loop μ-loop) → (let a = then1 (c .before .before) .before in let x = begin a .args in let d = childAtRow (now (x .links)) (a .loop .row) in
     Inv (now (x .objects)) (now (x .links)) (getD (x .t3) 1 0) (getD (x .t3) 2 0) (x .lo) (x .hi) (x .epoch) (now (x .walk))
     (set (a .loop .walk) d (x .epoch + 1 + a .loop .top)) (a .loop .sum + sizeAt (now (x .objects)) d) (a .loop .row + 1) (a .loop .stop) (d + 1))
 entered c =
-    let t = then1 c in
+    let t = then1 (c .before .before) in
     let a = t .before in
     let s = begin a in
-    push (s .pre .1 .1 .marks .latest) (a .loop .inv) (use-of s) (s .pre .1 .1 .marks .room) (t .if1 .taken) (c .if2 .taken)
+    push (s .pre .1 .1 .marks .latest) (a .loop .inv) (use-of s) (s .pre .1 .1 .marks .room) (t .if1 .taken) (c .if3 .taken)
+
+-- what its length is read from
+sized : (t : tie.Then1 Inv-loop μ-loop) → (let x = begin (t .before) .args in let o = now (x .objects) in let d = childAtRow (now (x .links)) (t .before .loop .row) in
+    (2 * d + 1 < length o) × (getD o (2 * d) 0 ≤ getD o (2 * d + 1) 0))
+sized t =
+    let a = t .before in
+    let f = fit (begin a) in
+    (omega (arith, f .objectsIn, child t), f .object (childAtRow (now (begin a .args .links)) (a .loop .row)) (child t) .ordered)
 
 -- the lengths of all objects add up to no more than the data
 sizes : (s : tie.Start Inv-loop μ-loop) → sum (sizeAt (now (s .args .objects))) (getD (s .args .t3) 1 0) ≤ 16777216
 sizes s = sizes-most (lent (s .pre .1 .1 .bytes) (now (s .args .objects)) (now (s .args .links)) (s .args .t3)) (fit s)
 
 -- the stack's last object
-parent-used : (c : tie.Else3 Inv-loop μ-loop) → (let a = c .before .before in a .loop .top - 1 < getD (begin a .args .t3) 1 0)
+parent-used : (c : tie.Else4 Inv-loop μ-loop) → (let a = c .before .before in a .loop .top - 1 < getD (begin a .args .t3) 1 0)
 parent-used c =
     let a = c .before .before in
     let m = begin a .pre .1 .1 .marks in
     top-used (m .latest) (a .loop .inv) (use-of (begin a)) (m .room) (omega arith)
 
-parent-high : (c : tie.Else3 Inv-loop μ-loop) → (let a = c .before .before in begin a .args .epoch < getD (a .loop .walk) (a .loop .top - 1) 0)
+parent-high : (c : tie.Else4 Inv-loop μ-loop) → (let a = c .before .before in begin a .args .epoch < getD (a .loop .walk) (a .loop .top - 1) 0)
 parent-high c =
     let a = c .before .before in
     let m = begin a .pre .1 .1 .marks in
     top-high (m .latest) (a .loop .inv) (use-of (begin a)) (m .room) (omega arith)
 
 -- its rows end where the scratch says, with its own mark set
-ends : (c : tie.Else3 Inv-loop μ-loop) → (let a = c .before .before in let x = begin a .args in
+ends : (c : tie.Else4 Inv-loop μ-loop) → (let a = c .before .before in let x = begin a .args in
     (i : ℕ) → i < getD (x .t3) 1 0 → FirstRow (now (x .links)) (getD (x .t3) 2 0) (keyOf (i + 1) 0) (getD (set (a .loop .walk) (a .loop .top - 1) (x .epoch)) (getD (x .t3) 1 0 + i) 0))
 ends c =
     let a = c .before .before in
@@ -109,59 +140,95 @@ cast-c c = omega (arith, child (c .before))
 add-row : tie.Need-add-row Inv-loop μ-loop
 add-row c = omega (arith, fit (begin (c .before .before)) .linksMost)
 
-mul-if2 : tie.Need-mul-if2 Inv-loop μ-loop
-mul-if2 c = omega (arith, child (c .before), fit (begin (c .before .before)) .objectsMost)
+mul-mark : tie.Need-mul-mark Inv-loop μ-loop
+mul-mark c = omega (arith, child (c .before), fit (begin (c .before .before)) .objectsMost)
 
-slice-read-if2 : tie.Need-slice-read-if2 Inv-loop μ-loop
-slice-read-if2 c = omega (arith, child (c .before .before))
+slice-read-mark : tie.Need-slice-read-mark Inv-loop μ-loop
+slice-read-mark c = omega (arith, child (c .before .before))
 
-add-walk : tie.Need-add-walk Inv-loop μ-loop
-add-walk c = omega (arith, begin (then1 c .before) .pre .1 .1 .early)
-
-add-walk-2 : tie.Need-add-walk-2 Inv-loop μ-loop
-add-walk-2 c =
-    let a = then1 c .before in
+has-no-rows-requires : tie.Need-has-no-rows-requires Inv-loop μ-loop
+has-no-rows-requires c κs =
+    let t = c .before .before .before in
+    let a = t .before in
     let s = begin a in
-    omega (arith, s .pre .1 .1 .early, top-few (s .pre .1 .1 .marks .latest) (a .loop .inv) (use-of s), fit s .objectsMost)
-
-mul-walk : tie.Need-mul-walk Inv-loop μ-loop
-mul-walk c = omega (arith, child (then1 c), fit (begin (then1 c .before)) .objectsMost)
-
-slice-write-walk : tie.Need-slice-write-walk Inv-loop μ-loop
-slice-write-walk c = omega (arith, child (then1 c))
-
-add-top : tie.Need-add-top Inv-loop μ-loop
-add-top c = omega (arith, child (then1 c), fit (begin (then1 c .before)) .objectsMost)
+    (omega (arith, child t, a .loop .inv .long, s .pre .1 .1 .marks .room), omega (arith, child t, fit s .objectsMost))
 
 size-of-requires : tie.Need-size-of-requires Inv-loop μ-loop
-size-of-requires c κs =
-    let t = then1 c in
-    let a = t .before in
-    let f = fit (begin a) in
-    (omega (arith, f .objectsIn, child t), f .object (childAtRow (now (begin a .args .links)) (a .loop .row)) (child t) .ordered)
+size-of-requires c κs = sized (then1 (c .before))
 
 add-sum : tie.Need-add-sum Inv-loop μ-loop
 add-sum c =
-    let s = begin (then1 (c .before) .before) in
-    omega (arith, total-most (s .pre .1 .1 .marks .latest) (entered (c .before)) (sizes s), c .size-of .ensures)
+    let d = c .before .before in
+    let s = begin (then1 (d .before) .before) in
+    omega (arith, total-most (s .pre .1 .1 .marks .latest) (marked d) (sizes s), adds c)
+
+mul-walk : tie.Need-mul-walk Inv-loop μ-loop
+mul-walk c =
+    let t = then1 (c .before .before .before .before) in
+    omega (arith, child t, fit (begin (t .before)) .objectsMost)
+
+slice-write-walk : tie.Need-slice-write-walk Inv-loop μ-loop
+slice-write-walk c = omega (arith, child (then1 (c .before .before .before .before)))
 
 loop-less : tie.Need-loop-less Inv-loop μ-loop
 loop-less c =
-    let t = then1 (c .before) in
+    let t = then1 (c .before .before .before .before) in
+    let a = t .before in
+    let x = begin a .args in
+    let p = begin a .pre .1 .1 .marks in
+    rw (c .later .ensures)
+    (falls-row (getD (x .t3) 2 0) _ _ (a .loop .row) (a .loop .stop) (leaf-unread (p .latest) (a .loop .inv) (use-of (begin a)) (p .room) (t .if1 .taken)) (t .if1 .taken))
+
+loop-again : tie.Need-loop-again Inv-loop μ-loop
+loop-again c = rw (adds (c .before), c .later .ensures) (marked (c .before .before .before))
+
+add-walk : tie.Need-add-walk Inv-loop μ-loop
+add-walk c = omega (arith, begin (then1 (c .before .before) .before) .pre .1 .1 .early)
+
+add-walk-2 : tie.Need-add-walk-2 Inv-loop μ-loop
+add-walk-2 c =
+    let a = then1 (c .before .before) .before in
+    let s = begin a in
+    omega (arith, s .pre .1 .1 .early, top-few (s .pre .1 .1 .marks .latest) (a .loop .inv) (use-of s), fit s .objectsMost)
+
+mul-walk-2 : tie.Need-mul-walk-2 Inv-loop μ-loop
+mul-walk-2 c =
+    let t = then1 (c .before .before) in
+    omega (arith, child t, fit (begin (t .before)) .objectsMost)
+
+slice-write-walk-2 : tie.Need-slice-write-walk-2 Inv-loop μ-loop
+slice-write-walk-2 c = omega (arith, child (then1 (c .before .before)))
+
+add-top : tie.Need-add-top Inv-loop μ-loop
+add-top c =
+    let t = then1 (c .before .before) in
+    omega (arith, child t, fit (begin (t .before)) .objectsMost)
+
+size-of-requires-2 : tie.Need-size-of-requires-2 Inv-loop μ-loop
+size-of-requires-2 c κs = sized (then1 (c .before .before))
+
+add-sum-2 : tie.Need-add-sum-2 Inv-loop μ-loop
+add-sum-2 c =
+    let s = begin (then1 (c .before .before .before) .before) in
+    omega (arith, total-most (s .pre .1 .1 .marks .latest) (entered (c .before)) (sizes s), c .size-of2 .ensures)
+
+loop-less-2 : tie.Need-loop-less-2 Inv-loop μ-loop
+loop-less-2 c =
+    let t = then1 (c .before .before .before) in
     let a = t .before in
     let s = begin a in
     let m = getD (s .args .t3) 2 0 in
-    omega (arith, ap (λ (x : ℕ). x * (m + 1)) (push-unread (s .pre .1 .1 .marks .latest) (a .loop .inv) (use-of s) (s .pre .1 .1 .marks .room) (t .if1 .taken) (c .before .if2 .taken)))
-
-loop-again : tie.Need-loop-again Inv-loop μ-loop
-loop-again c = rw (c .size-of .ensures) (entered (c .before))
-
-loop-less-2 : tie.Need-loop-less-2 Inv-loop μ-loop
-loop-less-2 c = omega arith
+    omega (arith, ap (λ (x : ℕ). x * (m + 1)) (push-unread (s .pre .1 .1 .marks .latest) (a .loop .inv) (use-of s) (s .pre .1 .1 .marks .room) (t .if1 .taken) (c .before .if3 .taken)))
 
 loop-again-2 : tie.Need-loop-again-2 Inv-loop μ-loop
-loop-again-2 c =
-    let a = c .before .before .before .before in
+loop-again-2 c = rw (c .size-of2 .ensures) (entered (c .before))
+
+loop-less-3 : tie.Need-loop-less-3 Inv-loop μ-loop
+loop-less-3 c = omega arith
+
+loop-again-3 : tie.Need-loop-again-3 Inv-loop μ-loop
+loop-again-3 c =
+    let a = then1 (c .before .before) .before in
     skip (begin a .pre .1 .1 .marks .latest) (a .loop .inv) (omega arith)
 
 same-length : tie.Need-same-length Inv-loop μ-loop
@@ -176,7 +243,7 @@ returns c =
     let k = s .args .t3 in
     λ b from v.
     walked-bytes (s .pre .1 .1 .bytes) b o l k
-    (walked (fit s) (marks-bytes b (s .pre .1 .1 .bytes) o l k v) (done (s .pre .1 .1 .marks .latest) (a .loop .inv) (use-of s) (s .pre .0) (c .before .if1 .left) (c .if3 .taken)))
+    (walked (fit s) (marks-bytes b (s .pre .1 .1 .bytes) o l k v) (done (s .pre .1 .1 .marks .latest) (a .loop .inv) (use-of s) (s .pre .0) (c .before .if1 .left) (c .if4 .taken)))
 
 sub-parent : tie.Need-sub-parent Inv-loop μ-loop
 sub-parent c = omega arith
@@ -196,11 +263,11 @@ sub-top c = omega (arith, parent-high (c .before))
 sub-top-2 : tie.Need-sub-top-2 Inv-loop μ-loop
 sub-top-2 c = omega (arith, parent-high (c .before))
 
-mul-walk-2 : tie.Need-mul-walk-2 Inv-loop μ-loop
-mul-walk-2 c = omega (arith, parent-used (c .before), fit (begin (c .before .before .before)) .objectsMost)
+mul-walk-3 : tie.Need-mul-walk-3 Inv-loop μ-loop
+mul-walk-3 c = omega (arith, parent-used (c .before), fit (begin (c .before .before .before)) .objectsMost)
 
-slice-write-walk-2 : tie.Need-slice-write-walk-2 Inv-loop μ-loop
-slice-write-walk-2 c = omega (arith, parent-used (c .before))
+slice-write-walk-3 : tie.Need-slice-write-walk-3 Inv-loop μ-loop
+slice-write-walk-3 c = omega (arith, parent-used (c .before))
 
 first-row-of-requires : tie.Need-first-row-of-requires Inv-loop μ-loop
 first-row-of-requires c κs =
@@ -229,8 +296,8 @@ cast-stop c =
     let b = c .before .before .before .before in
     omega (arith, ends b (b .before .before .loop .top - 1) (parent-used b) .within, fit (begin (b .before .before)) .linksMost)
 
-loop-less-3 : tie.Need-loop-less-3 Inv-loop μ-loop
-loop-less-3 c =
+loop-less-4 : tie.Need-loop-less-4 Inv-loop μ-loop
+loop-less-4 c =
     let b = c .before .before .before .before in
     let a = b .before .before in
     let x = begin a .args in
@@ -240,8 +307,8 @@ loop-less-3 c =
     falls (getD (x .t3) 2 0) (count (unread (x .epoch) (a .loop .walk)) n) (count (unread (x .epoch) w) n) (c .before .first-row-of .result) (getD w (n + (a .loop .top - 1)) 0) (a .loop .stop - a .loop .row)
     (pop-unread (p .latest) (a .loop .inv) (use-of (begin a)) (p .room) (omega arith)) (ends b (a .loop .top - 1) (parent-used b) .within)
 
-loop-again-3 : tie.Need-loop-again-3 Inv-loop μ-loop
-loop-again-3 c =
+loop-again-4 : tie.Need-loop-again-4 Inv-loop μ-loop
+loop-again-4 c =
     let b = c .before .before .before .before in
     let a = b .before .before in
     let p = begin a .pre .1 .1 .marks in
@@ -260,20 +327,32 @@ subgraph-size-spec =
     shared-slice-read-child
     cast-c
     add-row
-    mul-if2
-    slice-read-if2
-    add-walk
-    add-walk-2
-    mul-walk
-    slice-write-walk
-    add-top
+    mul-mark
+    slice-read-mark
+    (λ c. search needs)
+    (λ c. search needs)
+    has-no-rows-requires
     size-of-requires
+    (λ c κs. search needs)
     (λ c. search needs)
     add-sum
+    (λ c κs. search needs)
+    mul-walk
+    slice-write-walk
     loop-less
     loop-again
+    add-walk
+    add-walk-2
+    mul-walk-2
+    slice-write-walk-2
+    add-top
+    size-of-requires-2
+    (λ c. search needs)
+    add-sum-2
     loop-less-2
     loop-again-2
+    loop-less-3
+    loop-again-3
     same-length
     returns
     (λ c. search needs)
@@ -284,13 +363,13 @@ subgraph-size-spec =
     slice-read-top
     sub-top
     sub-top-2
-    mul-walk-2
-    slice-write-walk-2
+    mul-walk-3
+    slice-write-walk-3
     first-row-of-requires
     cast-row
     add-stop
     mul-stop
     slice-read-stop
     cast-stop
-    loop-less-3
-    loop-again-3)
+    loop-less-4
+    loop-again-4)
