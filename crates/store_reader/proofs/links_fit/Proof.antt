@@ -2,6 +2,7 @@
 use Prim.Native.Nat.{ℕ, _+_, _-_, _*_}
 use mathlib.Core.List.{List, []}
 use mathlib.Core.Path.{_≡_, sym, ap, _∙_}
+use native.Mathlib.Omega.{arith}
 use lib.ListN.{getD}
 use denote.Ref.{now}
 use borrow.Author.Needs.{needs}
@@ -31,8 +32,11 @@ add-least c =
     let d = c .before in
     let a = d .before .before .before in
     let p = a .before .before .before .args in
-    link-room (lent [] (now (p .objects)) (now (p .links)) (p .t3)) (a .loop .k) (d .before .link-fits .ensures []) (d .if1 .left) (search needs)
-    (a .before .shared-slice-known2 .given (perLink * a .loop .k + rowPosition)) (c .key-at .ensures)
+    omega (
+      arith,
+      link-room (lent [] (now (p .objects)) (now (p .links)) (p .t3)) (a .loop .k) (d .before .link-fits .ensures []) (d .if1 .left) (search needs)
+          (a .before .shared-slice-known2 .given (perLink * a .loop .k + rowPosition)) (c .key-at .ensures),
+    )
 
 loop-again : tie.Need-loop-again Inv-loop μ-loop
 loop-again c =
