@@ -6,11 +6,15 @@ use mathlib.Core.Path.{_≡_, sym, ap, _∙_}
 use native.Mathlib.Omega.{arith}
 use lib.ListN.{length}
 use lib.Dec.{leb, ltb, eqb}
-use borrow.Author.Tests.{lt-ltb, le-ltb, le-leb, lt-leb, leb-true, eq-eqb, ne-eqb, not-true, not-false}
+use mir.Syntax.{w32, w64}
+use mir.Val.{Fits}
+use borrow.Author.Tests.{ltb-true, lt-ltb, le-ltb, le-leb, lt-leb, leb-true, eq-eqb, ne-eqb, not-true, not-false}
 use Rattle.folds.specs.Folds.{all, before}
 use Rattle.folds.proofs.Tests.{either, and-second, and-first}
 use Rattle.folds.proofs.Folds.{all-none, all-more, all-fails, before-none, before-more}
+use Rattle.folds.proofs.Joined.{and-five}
 use Rattle.store_rules.specs.Store.{Store, byteRoom, objectRoom, linkRoom, sound, headOf, tailOf, sizeOf, parentOf, positionOf, childOf, widthOf, objectFits, ascends, linkFits}
+use Rattle.store_reader.specs.Rows.{rowKey}
 
 -- two tests agree where each holds if the other does
 leb-same : (a b c d : ℕ) → (a ≤ b → c ≤ d) → (c ≤ d → a ≤ b) → leb a b ≡ leb c d
@@ -103,6 +107,13 @@ module _ (s : Store) (k : ℕ) where
   pub link-rest : parentOf s k < s .objectCount → childOf s k < s .objectCount → widthOf s k ≡ 2 → {t : Bool} → t ≡ placeTest → not t ≡ false → ascends s k ≡ linkFits s k
   unfolding linkFits
   link-rest a b w {t} e h = rw (lt-ltb (parentOf s k) (s .objectCount) a, lt-ltb (childOf s k) (s .objectCount) b, eq-eqb (widthOf s k) 2 w, ← e, not-false t h)
+
+  -- one more than the key of a row that fits has 64 bits: its parent is in use, so below a number of 32 bits
+  pub link-room : {t : Bool} {key : ℕ} → t ≡ linkFits s k → not t ≡ false → Fits w32 (s .objectCount) → Fits w32 (positionOf s k) → key ≡ rowKey (s .links) k → Fits w64 (key + 1)
+  unfolding linkFits
+  link-room {t} {key} e h many small at =
+      let used : parentOf s k < s .objectCount = ltb-true (parentOf s k) (s .objectCount) (and-five parentTest childTest widthTest placeTest (ascends s k) (sym e ∙ not-false t h) .0) in
+      omega arith
 
 -- ---- the store: each test fails alone, and the last decides where the others hold
 

@@ -3,18 +3,20 @@ use Prim.Native.Nat.{ℕ, zero, suc, _+_, _-_, _*_, _<_, _≤_}
 use mathlib.Core.Bool.{Bool, true, false, _&&_, _||_}
 use mathlib.Core.List.{List}
 use mathlib.Core.Logic.{_⊎_, inl, inr, ⊎-elim}
-use mathlib.Core.Path.{_≡_, refl, sym, ap, subst, _∙_}
+use mathlib.Core.Path.{_≡_, refl, sym, subst, _∙_}
 use native.Mathlib.Decide.{ℕ-discrete}
 use native.Mathlib.Nat.{not-suc-le-zero, le-of-suc-le-suc, eq-or-lt-of-le}
+use native.Mathlib.Numerals.{add-one}
 use native.Mathlib.Omega.{arith}
 use lib.Dec.{leb, ltb, eqb}
 use lib.ListN.{getD}
 use borrow.Author.Tests.{ltb-true, lt-ltb, le-ltb, le-leb, lt-leb, eq-eqb, ne-eqb}
+use Rattle.folds.specs.Folds.{before}
 use Rattle.folds.proofs.Tests.{either, and-first, and-second}
 use Rattle.store_rules.specs.Store.{Store, perLink, rowParent, rowPosition, sound, parentOf, positionOf, ascends}
 use Rattle.store_rules.proofs.Sound.{Fits, sound-fits}
 use Rattle.store_reader.specs.declared.LinkRows.{LinkRows}
-use Rattle.store_reader.specs.Rows.{keyOf, rowKey, InOrder, FirstRow, Bracket, ParentRows}
+use Rattle.store_reader.specs.Rows.{keyOf, rowKey, leastKey, InOrder, FirstRow, Bracket, ParentRows}
 
 -- pairs ascend as their keys do, where second parts have 32 bits
 key-ascends : (p q p′ q′ : ℕ) → q < 4294967296 → q′ < 4294967296 → ltb (keyOf p q) (keyOf p′ q′) ≡ (ltb p p′ || eqb p p′ && ltb q q′)
@@ -31,17 +33,15 @@ key-ascends p q p′ q′ h h′ =
     same e (inr g) = le-ltb (keyOf p q) (keyOf p′ q′) (omega arith) ∙ sym (le-ltb q q′ g)
 
 module _ (s : Store) where
-  pub first-ascends : (k : ℕ) → k ≡ 0 → true ≡ ascends s k
-  unfolding ascends
-  first-ascends k e = rw e
-
   ascends-after : (k : ℕ) → positionOf s k < 4294967296 → positionOf s (suc k) < 4294967296 → ltb (rowKey (s .links) k) (rowKey (s .links) (suc k)) ≡ ascends s (suc k)
   unfolding ascends
   ascends-after k h h′ = key-ascends (parentOf s k) (positionOf s k) (parentOf s (suc k)) (positionOf s (suc k)) h h′
 
-  pub next-ascends : (k : ℕ) → (k ≡ 0 → ⊥) → positionOf s (k - 1) < 4294967296 → positionOf s k < 4294967296 → ltb (rowKey (s .links) (k - 1)) (rowKey (s .links) k) ≡ ascends s k
-  next-ascends zero ne h h′ = absurd (ne refl)
-  next-ascends (suc k) ne h h′ = let e : suc k - 1 ≡ k = omega arith in ap (λ (j : ℕ). ltb (rowKey (s .links) j) (rowKey (s .links) (suc k))) e ∙ ascends-after k (rw e at h) h′
+  -- a row stands behind the one before it if its key is no less than one more than that one's
+  pub least-ascends : ((j : ℕ) → positionOf s j < 4294967296) → (k : ℕ) → leb (leastKey (s .links) k) (rowKey (s .links) k) ≡ ascends s k
+  unfolding ascends before
+  least-ascends small zero = le-leb 0 (rowKey (s .links) 0) (omega arith)
+  least-ascends small (suc k) = rw (add-one (rowKey (s .links) k)) (ascends-after k (small k) (small (suc k)))
 
 module _ (s : Store) (f : Fits s) where
   -- positions are within objects, and these within the data

@@ -2,6 +2,7 @@
 use Prim.Native.Nat.{ℕ, _+_, _*_, _<_, _≤_}
 use mathlib.Core.List.{List}
 use lib.ListN.{length, getD}
+use Rattle.folds.specs.Folds.{before}
 use Rattle.store_rules.specs.Store.{perLink, rowParent, rowPosition}
 use Rattle.store_reader.specs.declared.LinkRows.{LinkRows}
 
@@ -11,6 +12,10 @@ pub record Inside (n : ℕ) (o : List ℕ) (i : ℕ) : Type 0 where
   pub ordered : getD o (2 * i) 0 ≤ getD o (2 * i + 1) 0
   pub inside : getD o (2 * i + 1) 0 ≤ n
 
+-- the least head that object i may have: the tail of the object before it, 0 where there is none
+abbrev pub leastHead : List ℕ → ℕ → ℕ
+leastHead o i = before (λ j. getD o (2 * j + 1) 0) i
+
 -- parent and position as one number: as a position has 32 bits, numbers ascend as the pairs do
 abbrev pub keyOf : ℕ → ℕ → ℕ
 keyOf p q = 4294967296 * p + q
@@ -18,6 +23,10 @@ keyOf p q = 4294967296 * p + q
 -- row k's parent and position
 abbrev pub rowKey : List ℕ → ℕ → ℕ
 rowKey l k = keyOf (getD l (perLink * k + rowParent) 0) (getD l (perLink * k + rowPosition) 0)
+
+-- the least key that row k may have: one more than that of the row before it, 0 where there is none
+abbrev pub leastKey : List ℕ → ℕ → ℕ
+leastKey l k = before (λ j. rowKey l j + 1) k
 
 -- there are m rows, "strictly ascending by (parent, position)"
 pub record InOrder (l : List ℕ) (m : ℕ) : Type 0 where

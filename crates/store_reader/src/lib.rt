@@ -4,11 +4,11 @@ ghost use mathlib.Core.Path.{_≡_};
 ghost use mathlib.Core.List.{List};
 ghost use lib.ListN.{length, getD};
 ghost use lib.Dec.{leb};
-ghost use Rattle.folds.specs.Folds.{all, before};
-ghost use Rattle.store_rules.specs.Store.{lent, perLink, rowPosition, rowChild, bytesOf, objectFits, ascends, linkFits, sound, handedOut, childAt};
+ghost use Rattle.folds.specs.Folds.{all};
+ghost use Rattle.store_rules.specs.Store.{lent, perLink, rowPosition, rowChild, bytesOf, objectFits, linkFits, sound, handedOut, childAt};
 ghost use Rattle.folds.specs.Moments.{came};
 ghost use Rattle.store_rules.specs.Moments.{storeCameWith};
-ghost use Rattle.store_reader.specs.Rows.{Inside, keyOf, rowKey, InOrder, Bracket, FirstRow, ParentRows};
+ghost use Rattle.store_reader.specs.Rows.{Inside, leastHead, keyOf, rowKey, leastKey, InOrder, Bracket, FirstRow, ParentRows};
 ghost use Rattle.store_reader.specs.Children.{childFound};
 
 pub mod held_rows;
@@ -36,26 +36,14 @@ pub struct LinkRows {
     pub after: usize,
 }
 
-// The tail of the object before object `i`, 0 before the first.
-fn tail_before(objects: &[u32], i: usize) -> u32
-    requires { ⌜ 2 * i ≤ length (now objects) ⌝ }
-    ensures { λ r. ⌜ r ≡ before (λ j. getD (came objects) (2 * j + 1) 0) i ⌝ }
-{
-    if i == 0 {
-        return 0;
-    }
-    let j = i - 1;
-    objects[2 * j + 1]
-}
-
-// Whether object row `i` fits: head ≤ tail ≤ data in use, and its head is at or after the tail before it.
-fn object_fits(objects: &[u32], counts: [u32; 3], i: usize) -> bool
-    requires { ⌜ 2 * i + 1 < length (now objects) ⌝ }
+// Whether object row `i` fits: head ≤ tail ≤ data in use, and its head is at or after `least`, the tail before it.
+fn object_fits(objects: &[u32], counts: [u32; 3], i: usize, least: u32) -> bool
+    requires { ⌜ (2 * i + 1 < length (now objects)) × (least ≡ leastHead (now objects) i) ⌝ }
     ensures { λ r. ⌜ ((b l : List ℕ) → r ≡ objectFits (lent b (came objects) l counts) i) ⌝ }
 {
     let head = objects[2 * i];
     let tail = objects[2 * i + 1];
-    if head < tail_before(objects, i) {
+    if head < least {
         return false;
     }
     if tail < head {
@@ -71,10 +59,12 @@ fn objects_fit(objects: &[u32], counts: [u32; 3]) -> bool
 {
     let count = counts[1] as usize;
     let mut i: usize = 0;
+    let mut least: u32 = 0;
     while i < count {
-        if !object_fits(objects, counts, i) {
+        if !object_fits(objects, counts, i, least) {
             return false;
         }
+        least = objects[2 * i + 1];
         i += 1;
     }
     true
@@ -95,17 +85,6 @@ fn key_at(links: &[u32], k: usize) -> u64
     key_of(links[PER_LINK * k + PARENT], links[PER_LINK * k + POSITION])
 }
 
-// Whether link row `k` stands behind the row before it.
-fn row_ascends(links: &[u32], k: usize) -> bool
-    requires { ⌜ perLink * k + rowPosition < length (now links) ⌝ }
-    ensures { λ r. ⌜ ((b o c : List ℕ) → r ≡ ascends (lent b o (came links) c) k) ⌝ }
-{
-    if k == 0 {
-        return true;
-    }
-    key_at(links, k - 1) < key_at(links, k)
-}
-
 // Whether position + 2 is within object `i`.
 fn position_fits(objects: &[u32], i: usize, position: u32) -> bool
     requires { ⌜ 2 * i + 1 < length (now objects) ⌝ }
@@ -114,9 +93,10 @@ fn position_fits(objects: &[u32], i: usize, position: u32) -> bool
     (objects[2 * i] as u64) + (position as u64) + 2 <= (objects[2 * i + 1] as u64)
 }
 
-// Whether link row `k` fits: parent and child in use, width 2, position + 2 within the parent, and behind the row before it.
-fn link_fits(objects: &[u32], links: &[u32], counts: [u32; 3], k: usize) -> bool
-    requires { ⌜ (2 * getD counts 1 0 ≤ length (now objects)) × (perLink * k + rowChild < length (now links)) ⌝ }
+// Whether link row `k` fits: parent and child in use, width 2, position + 2 within the parent, and its key is at or past `least`, one more than that of
+// the row before it.
+fn link_fits(objects: &[u32], links: &[u32], counts: [u32; 3], k: usize, least: u64) -> bool
+    requires { ⌜ (2 * getD counts 1 0 ≤ length (now objects)) × (perLink * k + rowChild < length (now links)) × (least ≡ leastKey (now links) k) ⌝ }
     ensures { λ r. ⌜ ((b : List ℕ) → r ≡ linkFits (lent b (came objects) (came links) counts) k) ⌝ }
 {
     let parent = links[PER_LINK * k + PARENT];
@@ -132,20 +112,22 @@ fn link_fits(objects: &[u32], links: &[u32], counts: [u32; 3], k: usize) -> bool
     if !position_fits(objects, parent as usize, links[PER_LINK * k + POSITION]) {
         return false;
     }
-    row_ascends(links, k)
+    least <= key_at(links, k)
 }
 
-// Whether each link row in use fits.
+// Whether each link row in use fits. A parent in use is below the count, so one more than a row's key is a number of 64 bits.
 fn links_fit(objects: &[u32], links: &[u32], counts: [u32; 3]) -> bool
     requires { ⌜ (2 * getD counts 1 0 ≤ length (now objects)) × (perLink * getD counts 2 0 ≤ length (now links)) ⌝ }
     ensures { λ r. ⌜ ((b : List ℕ) → r ≡ all (linkFits (lent b (came objects) (came links) counts)) (getD counts 2 0)) ⌝ }
 {
     let count = counts[2] as usize;
     let mut k: usize = 0;
+    let mut least: u64 = 0;
     while k < count {
-        if !link_fits(objects, links, counts, k) {
+        if !link_fits(objects, links, counts, k, least) {
             return false;
         }
+        least = key_at(links, k) + 1;
         k += 1;
     }
     true

@@ -1,9 +1,13 @@
 -- `store_reader::link_fits` meets its contract: its tests are those of the definition, in the same order. Assumes nothing.
-use mathlib.Core.Path.{_∙_}
+use Prim.Native.Nat.{_+_, _*_}
+use mathlib.Core.Path.{ap₂, _∙_}
+use native.Mathlib.Omega.{arith}
+use lib.Dec.{leb}
 use denote.Ref.{now}
 use borrow.Author.Needs.{needs}
-use Rattle.store_rules.specs.Store.{lent}
+use Rattle.store_rules.specs.Store.{perLink, rowPosition, lent}
 use Rattle.store_reader.proofs.Checks.{link-parent, link-child, link-width, link-place, link-rest}
+use Rattle.store_reader.proofs.Rows.{least-ascends}
 use Rattle.store_reader.proofs.link_fits.Statement.{statement}
 use Rattle.store_reader.proofs.link_fits.Tie as tie
 
@@ -33,9 +37,11 @@ returns-4 c =
 returns-5 : tie.Need-returns-5
 returns-5 c =
     let d = c .before .before .before .before .before .before in
-    let a = d .before .before .before .before .before .before .args in
+    let start = d .before .before .before .before .before .before in
+    let a = start .args in
     λ b.
-    c .row-ascends .ensures b (now (a .objects)) (a .t3)
+    ap₂ leb (start .pre .2) (c .key-at .ensures)
+    ∙ least-ascends (lent b (now (a .objects)) (now (a .links)) (a .t3)) (λ j. omega (arith, d .before .shared-slice-known4 .given (perLink * j + rowPosition))) (a .k)
     ∙ link-rest (lent b (now (a .objects)) (now (a .links)) (a .t3)) (a .k) (d .before .before .if1 .left) (d .if2 .left)
     (c .before .before .before .before .if3 .left) (c .before .before .position-fits .ensures) (c .before .if4 .left)
 

@@ -9,19 +9,19 @@ use Rattle.store_reader.proofs.object_fits.Tie as tie
 
 returns : tie.Need-returns
 returns c =
-    let a = c .before .before .before .before .before .args in
-    λ b l. object-early (lent b (now (a .objects)) l (a .t2)) (a .i) (omega (arith, c .if1 .taken, c .before .tail-before .ensures))
+    let a = c .before .before .before .args in
+    λ b l. object-early (lent b (now (a .objects)) l (a .t2)) (a .i) (omega (arith, c .if1 .taken, c .before .before .before .pre .1))
 
 returns-2 : tie.Need-returns-2
 returns-2 c =
-    let a = c .before .before .before .before .before .before .args in
+    let a = c .before .before .before .before .args in
     λ b l. object-turned (lent b (now (a .objects)) l (a .t2)) (a .i) (c .if2 .taken)
 
 returns-3 : tie.Need-returns-3
 returns-3 c =
-    let start = c .before .before .before .before .before .before in
+    let start = c .before .before .before .before in
     let a = start .args in
-    λ b l. object-ends (lent b (now (a .objects)) l (a .t2)) (a .i) (omega (arith, c .before .if1 .left, c .before .before .tail-before .ensures)) (c .if2 .left)
+    λ b l. object-ends (lent b (now (a .objects)) l (a .t2)) (a .i) (omega (arith, c .before .if1 .left, start .pre .1)) (c .if2 .left)
 
 pub object-fits-spec : {M : Type 1} → statement M
 object-fits-spec =
@@ -34,7 +34,6 @@ object-fits-spec =
     (λ c. search needs)
     (λ c. search needs)
     (λ c. search needs)
-    (λ c κs. search needs)
     returns
     returns-2
     (λ c. search needs)
