@@ -91,7 +91,7 @@ fn later(mark: u32, epoch: u32) -> u32
 
 // The length of all objects that can be reached from the children of the link rows `lo` up to `hi` and have not the mark `epoch` yet; each is
 // counted once. Those whose rows are still to come are a stack: `top` is one more than the last of them, 0 where there is none, and each has
-// in the place of its mark one more than the epoch and the `top` that it found. Most objects have no rows, and these get their mark at once.
+// in the place of its mark one more than the epoch and the `top` that it found. An object with no rows gets its mark at once.
 pub fn subgraph_size(
     objects: &[u32],
     links: &[u32],
