@@ -13,7 +13,7 @@ cast-head : tie.Need-cast-head
 cast-head c = let a = c .before .before .before .before .before .before .before .args in omega (arith, c .slice-known3 .given (2 * a .lookup))
 
 slice-read-tail : tie.Need-slice-read-tail
-slice-read-tail c = omega (arith, row-there (c .before .before .before .before .before .before .before .before .pre))
+slice-read-tail c = let start = c .before .before .before .before .before .before .before .before in omega (arith, row-there (start .pre))
 
 cast-tail : tie.Need-cast-tail
 cast-tail c = let a = c .before .before .before .before .before .before .before .before .args in omega (arith, c .slice-known4 .given (2 * a .lookup + 1))

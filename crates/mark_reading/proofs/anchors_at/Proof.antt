@@ -30,7 +30,7 @@ cast-child-at : tie.Need-cast-child-at
 cast-child-at c = let start = c .before .before .before .before .before .before .before .before in omega (arith, mark-most (start .pre .0) (start .pre .1 .0))
 
 child-at-requires : tie.Need-child-at-requires
-child-at-requires c κs = spot-in-order (c .before .before .before .before .before .before .before .before .pre .0)
+child-at-requires c κs = let start = c .before .before .before .before .before .before .before .before in spot-in-order (start .pre .0)
 
 returns : tie.Need-returns
 returns c =
@@ -72,14 +72,16 @@ cast-child-at-2 c =
     omega (arith, base-most (start .pre .0) (start .pre .1 .0) (c .before .before .before .before .before .before .bytes-of .ensures (a .links .now) (a .counts)) (c .before .before .before .before .before .u16-at .ensures) (start .pre .1 .1))
 
 child-at-requires-2 : tie.Need-child-at-requires-2
-child-at-requires-2 c κs = spot-in-order (c .before .before .before .before .before .before .before .before .before .before .before .before .before .pre .0)
+child-at-requires-2 c κs = let start = c .before .before .before .before .before .before .before .before .before .before .before .before .before in spot-in-order (start .pre .0)
 
 returns-2 : tie.Need-returns-2
 returns-2 c =
     let start = c .before .before .before .before .before .before .before .before .before .before .before .before .before .before .before .before in
-    let a = start .args in (
-      no-base-anchor (start .pre .0) (start .pre .1 .0) (c .before .before .before .before .before .before .before .before .before .bytes-of .ensures (a .links .now) (a .counts)) (c .before .before .before .before .before .before .before .before .u16-at .ensures) (start .pre .1 .1)
-          _ (c .before .before .before .before .before .before .before .child-at .ensures (a .«data» .now) (a .objects .now)) (c .before .before .before .before .before .first .given .1)
+    let a = start .args in
+    let of-mark = c .before .before .before .before .before .before .before in
+    let read = of-mark .before in (
+      no-base-anchor (start .pre .0) (start .pre .1 .0) (read .before .bytes-of .ensures (a .links .now) (a .counts)) (read .u16-at .ensures) (start .pre .1 .1)
+          _ (of-mark .child-at .ensures (a .«data» .now) (a .objects .now)) (c .before .before .before .before .before .first .given .1)
           _ (c .before .before .child-at2 .ensures (a .«data» .now) (a .objects .now)) (c .enum-told2 .given .1),
       nothing-small,
     )

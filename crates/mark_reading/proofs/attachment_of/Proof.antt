@@ -39,8 +39,9 @@ anchors-at-requires c κs =
 returns-3 : tie.Need-returns-3
 returns-3 c =
     let start = c .before .before .before .before .before .before .before .before .before .before .before .before .before .before .before .before in
-    let a = start .args in (
-      both-places (start .pre) (a .mark) (a .base) _ (c .before .before .before .before .before .before .before .before .place-below .ensures (a .links .now) (a .counts)) (c .before .before .before .before .before .before .first .given .1)
+    let a = start .args in
+    let of-mark = c .before .before .before .before .before .before in (
+      both-places (start .pre) (a .mark) (a .base) _ (of-mark .before .before .place-below .ensures (a .links .now) (a .counts)) (of-mark .first .given .1)
           _ (c .before .before .before .before .place-below2 .ensures (a .links .now) (a .counts)) (c .before .before .second .given .1) (c .anchors-at .result) (c .anchors-at .ensures .0),
       c .anchors-at .ensures .1,
     )

@@ -19,8 +19,9 @@ split-planned-requires : tie.Need-split-planned-requires
 split-planned-requires c κs =
     let cut = c .before .before .before .before .before .before .before .before .before .before .before in
     let decided = cut .before .before .before .before .before .before .before .before .before .before .before .before in
+    let lent-out = decided .before .before .before .before .before .before .before .before .before .before .before .before .before .before .before .before .before .before in
     let kept = decided .decide .kept .1 .1 .1 .1 .1 .1 .1 in
-    ready (decided .decide .ensures) (cut .decision2 .given .1) (λ i. decided .before .before .before .before .before .before .before .before .before .before .before .before .before .before .before .before .before .before .slice-known .given i .fits) (kept .0) (kept .1 .0) (kept .1 .1 .0)
+    ready (decided .decide .ensures) (cut .decision2 .given .1) (λ i. lent-out .slice-known .given i .fits) (kept .0) (kept .1 .0) (kept .1 .1 .0)
 
 returns : tie.Need-returns
 unfolding markSplitCall splitCases lastCases
@@ -34,19 +35,32 @@ returns c =
     (decided .decide .ensures .answers ∙ ap decidedAs (c .before .before .decision .given .1) ∙ ap some (sym (c .number-of .ensures)))
 
 same-walk : tie.Need-same-length-12
-same-walk c = c .before .before .before .before .before .before .before .before .before .before .before .before .before .before .before .before .before .before .before .before .before .before .before .before .before .before .before .before .before .before .before .before .before .before .before .before .before .walk .given
+same-walk c =
+    let decided = c .before .before .before .before .before .before .before .before .before .before .before .before .before .before .before .before .before .before .before .before .before .before .before .before .before .before .before .before .before .before .before .before .before .before .before .before .before in
+    decided .walk .given
 
 same-set : tie.Need-same-length-13
-same-set c = c .before .before .before .glyph-set2 .given ∙ c .before .before .before .before .before .before .before .before .before .before .before .before .before .before .before .before .before .before .before .before .before .before .before .before .before .before .before .before .before .before .before .before .before .before .before .glyph-set .given
+same-set c =
+    let split = c .before .before .before in
+    let decided = split .before .before .before .before .before .before .before .before .before .before .before .before .before .before .before .before .before .before .before .before .before .before .before .before .before .before .before .before .before .before .before .before in
+    split .glyph-set2 .given ∙ decided .glyph-set .given
 
 same-glyphs : tie.Need-same-length-14
-same-glyphs c = c .before .before .before .before .before .before .before .glyphs2 .given ∙ c .before .before .before .before .before .before .before .before .before .before .before .before .before .before .before .before .before .before .before .before .before .before .before .before .before .before .before .before .before .before .before .before .before .glyphs .given
+same-glyphs c =
+    let split = c .before .before .before .before .before .before .before in
+    let decided = split .before .before .before .before .before .before .before .before .before .before .before .before .before .before .before .before .before .before .before .before .before .before .before .before .before .before in
+    split .glyphs2 .given ∙ decided .glyphs .given
 
 same-classes : tie.Need-same-length-15
-same-classes c = c .before .before .before .before .before .classes2 .given ∙ c .before .before .before .before .before .before .before .before .before .before .before .before .before .before .before .before .before .before .before .before .before .before .before .before .before .before .before .before .before .before .before .classes .given
+same-classes c =
+    let split = c .before .before .before .before .before in
+    let decided = split .before .before .before .before .before .before .before .before .before .before .before .before .before .before .before .before .before .before .before .before .before .before .before .before .before .before in
+    split .classes2 .given ∙ decided .classes .given
 
 same-cuts : tie.Need-same-length-16
-same-cuts c = c .before .before .before .before .before .before .before .before .before .before .before .before .before .before .before .before .before .before .before .before .before .before .before .before .before .before .before .before .before .cuts .given
+same-cuts c =
+    let decided = c .before .before .before .before .before .before .before .before .before .before .before .before .before .before .before .before .before .before .before .before .before .before .before .before .before .before .before .before .before in
+    decided .cuts .given
 
 returns-2 : tie.Need-returns-2
 unfolding markSplitCall splitCases lastCases

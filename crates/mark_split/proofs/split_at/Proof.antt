@@ -27,7 +27,8 @@ returns c =
 part-carry-out-end : tie.Need-part-carry-out-end
 part-carry-out-end c =
     let start = c .before .before .before .before .before .before .before .before .before .before .before .before .before .before .before .before .before .before .before .before .before .before .before .before .before .before .before .before .before .before .before in
-    omega (arith, marks-room (start .pre .arranging), c .before .before .before .before .before .before .before .before .before .before .before .before .before .before .glyphs .given)
+    let lent-out = c .before .before .before .before .before .before .before .before .before .before .before .before .before .before in
+    omega (arith, marks-room (start .pre .arranging), lent-out .glyphs .given)
 
 carry-out-requires : tie.Need-carry-out-requires
 carry-out-requires c κs =

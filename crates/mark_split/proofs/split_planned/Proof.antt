@@ -37,10 +37,15 @@ returns c =
     nothing s (a .new-tables .now) (needed s (a .table)) (splitStore s (a .table)) (newTables s (a .table)) (places start) (counted start) (c .if1 .taken)
 
 classes-end : tie.Need-part-split-at-end-2
-classes-end c = omega (arith, classes-room (c .before .before .before .before .before .before .before .before .before .before .before .before .before .before .before .before .before .pre))
+classes-end c =
+    let start = c .before .before .before .before .before .before .before .before .before .before .before .before .before .before .before .before .before in
+    omega (arith, classes-room (start .pre))
 
 split-at-requires : tie.Need-split-at-requires
-split-at-requires c κs = fronts-lent (c .before .before .before .before .before .before .before .before .before .before .before .before .before .before .before .before .before .before .before .before .before .pre) (c .before .before .before .before .before .before .before .before .before .before .before .before .if1 .left)
+split-at-requires c κs =
+    let some-cut = c .before .before .before .before .before .before .before .before .before .before .before .before in
+    let start = some-cut .before .before .before .before .before .before .before .before .before in
+    fronts-lent (start .pre) (some-cut .if1 .left)
 
 returns-2 : tie.Need-returns-2
 unfolding lastCases

@@ -47,7 +47,7 @@ beside-requires c κs =
     (held-small (v .table .ordered) h, omega (arith, v .table .class2, linked-most (v .table .described) 10))
 
 add-is-due : tie.Need-add-is-due
-add-is-due c = omega (arith, most (c .before .before .before .before .before .before .before .before .before))
+add-is-due c = let m = c .before .before .before .before .before .before .before .before .before in omega (arith, most m)
 
 is-due-requires : tie.Need-is-due-requires
 is-due-requires c κs =
@@ -60,7 +60,7 @@ is-due-requires c κs =
     )
 
 add-measure-at-cut : tie.Need-add-measure-at-cut
-add-measure-at-cut c = omega (arith, early (c .before .before .before .before .before .before .before .before .before .before .before))
+add-measure-at-cut c = let m = c .before .before .before .before .before .before .before .before .before .before .before in omega (arith, early m)
 
 measure-at-cut-requires : tie.Need-measure-at-cut-requires
 measure-at-cut-requires c κs =
@@ -97,10 +97,13 @@ restart-requires c κs =
     (_, _, _, v .filled .first, v .table .ordered, h, e)
 
 same-length : tie.Need-same-length
-same-length c = c .before .before .before .before .before .before .before .before .before .walk2 .given ∙ c .before .before .before .before .before .before .before .before .before .before .before .before .before .before .before .before .before .before .before .before .before .before .walk .given
+same-length c =
+    let again = c .before .before .before .before .before .before .before .before .before in
+    let measured = again .before .before .before .before .before .before .before .before .before .before .before .before .before in
+    again .walk2 .given ∙ measured .walk .given
 
 same-length-2 : tie.Need-same-length-2
-same-length-2 c = c .before .set2 .given ∙ c .before .before .before .before .before .before .before .before .before .before .before .before .before .before .before .before .before .before .set .given
+same-length-2 c = let weighed = c .before .before .before .before .before .before .before .before .before .before .before .before .before .before .before .before .before .before in c .before .set2 .given ∙ weighed .set .given
 
 returns : tie.Need-returns
 returns c =
@@ -121,7 +124,7 @@ returns c =
     (anew .restart .ensures _ _ _ (v .filled .first) (v .table .ordered) h e)
 
 add-add : tie.Need-add-add
-add-add c = omega (arith, most (c .before .before .before .before .before .before .before .before .before .before .before .before))
+add-add c = let m = c .before .before .before .before .before .before .before .before .before .before .before .before in omega (arith, most m)
 
 add-requires-2 : tie.Need-add-requires-2
 add-requires-2 c κs = let m = c .before .before .before .before .before .before .before .before .before .before .before .before in let v = begin m .pre .1 .2 in (omega (arith, v .filled .small), omega (arith, most m))

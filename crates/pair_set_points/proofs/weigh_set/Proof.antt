@@ -51,7 +51,7 @@ add-partial : tie.Need-add-partial
 add-partial c = let s = begin (c .before .before .before .before .before) in omega (arith, partial-most (s .pre .1 .2) (s .pre .0))
 
 add-is-due : tie.Need-add-is-due
-add-is-due c = omega (arith, most (c .before .before .before .before .before .before .before .before))
+add-is-due c = let m = c .before .before .before .before .before .before .before .before in omega (arith, most m)
 
 is-due-requires : tie.Need-is-due-requires
 is-due-requires c κs =
@@ -61,7 +61,7 @@ is-due-requires c κs =
     (omega (arith, v .filled .small), omega (arith, most m), omega (arith, c .before .lesser .ensures, partial-most v (s .pre .0)))
 
 add-measure-at-cut : tie.Need-add-measure-at-cut
-add-measure-at-cut c = omega (arith, early (c .before .before .before .before .before .before .before .before .before .before))
+add-measure-at-cut c = let m = c .before .before .before .before .before .before .before .before .before .before in omega (arith, early m)
 
 measure-at-cut-requires : tie.Need-measure-at-cut-requires
 measure-at-cut-requires c κs =
@@ -107,7 +107,7 @@ returns-2 c =
     (cutDue .is-due .ensures) (test .if2 .taken) (again .measure-at-cut .ensures b _ _ _ (at-cut (short v (s .pre .0)) (v .at) y)) (after-cut .cut .ensures)
 
 add-add : tie.Need-add-add
-add-add c = omega (arith, most (c .before .before .before .before .before .before .before .before .before .before .before))
+add-add c = let m = c .before .before .before .before .before .before .before .before .before .before .before in omega (arith, most m)
 
 add-requires : tie.Need-add-requires
 add-requires c κs = let m = c .before .before .before .before .before .before .before .before .before .before .before in let v = begin m .pre .1 .2 in (omega (arith, v .filled .small), omega (arith, most m))

@@ -20,13 +20,13 @@ two c =
     let k = c .before .before .before .before .args .k in
     rises-more _ _ k 0 k (k + 1) refl (c .before .before .glyph-of .ensures) (c .before .glyph-of2 .ensures) (omega arith) (rises-none _ _ k 0 refl) (c .if1 .left)
 
-three : (c : tie.Else2) → Rise (c .before .before .before .before .before .before) 2
+three : (c : tie.Else2) → (let past = c .before .before in Rise (past .before .before .before .before) 2)
 three c =
     let past = c .before .before in
     let k = past .before .before .before .before .args .k in
     rises-more _ _ k 1 (k + 1) (k + 2) (omega arith) (past .before .glyph-of2 .ensures) (c .before .glyph-of3 .ensures) refl (two past) (c .if2 .left)
 
-four : (c : tie.Else3) → Rise (c .before .before .before .before .before .before .before .before) 3
+four : (c : tie.Else3) → (let past = c .before .before in Rise (past .before .before .before .before .before .before) 3)
 four c =
     let past = c .before .before in
     let k = past .before .before .before .before .before .before .args .k in
@@ -52,7 +52,8 @@ returns-3 c =
 returns-4 : tie.Need-returns-4
 returns-4 c =
     let past = c .before in
-    let k = past .before .before .before .before .before .before .before .before .args .k in
+    let start = past .before .before .before .before .before .before .before .before in
+    let k = start .args .k in
     rises-last _ _ k 3 (k + 3) (k + 4) (omega arith) (past .before .glyph-of4 .ensures) (c .glyph-of5 .ensures) refl (four past)
 
 pub five-rise-spec : {M : Type 1} → statement M

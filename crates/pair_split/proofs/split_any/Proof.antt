@@ -19,8 +19,9 @@ split-planned-requires : tie.Need-split-planned-requires
 split-planned-requires c κs =
     let after-decision2 = c .before .before .before .before .before .before .before .before .before .before in
     let decided = after-decision2 .before .before .before .before .before .before .before .before .before .before .before .before in
+    let lent-out = decided .before .before .before .before .before .before .before .before .before .before .before .before .before .before .before .before .before .before in
     let kept = decided .decide .kept .1 .1 .1 .1 .1 .1 .1 .1 in
-    ready (decided .decide .ensures) (after-decision2 .decision2 .given .1) (λ i. decided .before .before .before .before .before .before .before .before .before .before .before .before .before .before .before .before .before .before .slice-known .given i .fits) (kept .0) (kept .1 .0)
+    ready (decided .decide .ensures) (after-decision2 .decision2 .given .1) (λ i. lent-out .slice-known .given i .fits) (kept .0) (kept .1 .0)
 
 returns : tie.Need-returns
 unfolding splitCall splitCases lastCases
@@ -48,17 +49,20 @@ same-length-13 c =
 same-length-14 : tie.Need-same-length-14
 same-length-14 c =
     let split = c .before .before .before .before .before .before .before .before .before .before .before .before in
-    c .before .before .before .before .before .glyphs2 .given ∙ split .before .before .before .before .before .before .before .before .before .before .before .before .before .before .before .before .before .before .glyphs .given
+    let decided = split .before .before .before .before .before .before .before .before .before .before .before .before .before .before .before .before .before .before in
+    c .before .before .before .before .before .glyphs2 .given ∙ decided .glyphs .given
 
 same-length-15 : tie.Need-same-length-15
 same-length-15 c =
     let split = c .before .before .before .before .before .before .before .before .before .before .before .before in
-    c .before .before .before .classes2 .given ∙ split .before .before .before .before .before .before .before .before .before .before .before .before .before .before .before .before .classes .given
+    let decided = split .before .before .before .before .before .before .before .before .before .before .before .before .before .before .before .before in
+    c .before .before .before .classes2 .given ∙ decided .classes .given
 
 same-length-16 : tie.Need-same-length-16
 same-length-16 c =
     let split = c .before .before .before .before .before .before .before .before .before .before .before .before in
-    split .before .before .before .before .before .before .before .before .before .before .before .before .before .before .cuts .given
+    let decided = split .before .before .before .before .before .before .before .before .before .before .before .before .before .before in
+    decided .cuts .given
 
 returns-2 : tie.Need-returns-2
 unfolding splitCall splitCases lastCases

@@ -12,16 +12,16 @@ octets : (c : tie.After-shared-slice-known) → Bytes (c .before .args .«data»
 octets c i = omega (arith, c .shared-slice-known .given i)
 
 bytes-of-requires : tie.Need-bytes-of-requires
-bytes-of-requires c κs = marks-inside (c .before .before .before .before .before .before .before .before .before .before .before .pre .1 .opens)
+bytes-of-requires c κs = let start = c .before .before .before .before .before .before .before .before .before .before .before in marks-inside (start .pre .1 .opens)
 
 info-of-requires : tie.Need-info-of-requires
-info-of-requires c κs = cover-inside (c .before .before .before .before .before .before .before .before .before .before .before .before .pre .1)
+info-of-requires c κs = let start = c .before .before .before .before .before .before .before .before .before .before .before .before in cover-inside (start .pre .1)
 
 part-glyphs-end : tie.Need-part-order-places-end
-part-glyphs-end c = omega (arith, glyphs-room (c .before .before .before .before .before .before .before .before .before .before .before .before .before .pre .1))
+part-glyphs-end c = let start = c .before .before .before .before .before .before .before .before .before .before .before .before .before in omega (arith, glyphs-room (start .pre .1))
 
 part-classes-end : tie.Need-part-order-places-end-2
-part-classes-end c = omega (arith, classes-room (c .before .before .before .before .before .before .before .before .before .before .before .before .before .before .pre .1))
+part-classes-end c = let start = c .before .before .before .before .before .before .before .before .before .before .before .before .before .before in omega (arith, classes-room (start .pre .1))
 
 order-places-requires : tie.Need-order-places-requires
 order-places-requires c κs =
@@ -31,10 +31,16 @@ order-places-requires c κs =
     (ready .0, (ready .1, k .long))
 
 glyphs-end : tie.Need-part-compute-split-points-end
-glyphs-end c = omega (arith, glyphs-room (c .before .before .before .before .before .before .before .before .before .before .before .before .before .before .before .before .before .before .before .before .before .before .before .before .pre .1), c .before .before .before .before .before .before .glyphs .given)
+glyphs-end c =
+    let lent = c .before .before .before .before .before .before in
+    let start = lent .before .before .before .before .before .before .before .before .before .before .before .before .before .before .before .before .before .before in
+    omega (arith, glyphs-room (start .pre .1), lent .glyphs .given)
 
 classes-end : tie.Need-part-compute-split-points-end-2
-classes-end c = omega (arith, classes-room (c .before .before .before .before .before .before .before .before .before .before .before .before .before .before .before .before .before .before .before .before .before .before .before .before .before .before .pre .1), c .before .before .before .before .before .before .classes .given)
+classes-end c =
+    let lent = c .before .before .before .before .before .before in
+    let start = lent .before .before .before .before .before .before .before .before .before .before .before .before .before .before .before .before .before .before .before .before in
+    omega (arith, classes-room (start .pre .1), lent .classes .given)
 
 compute-split-points-requires : tie.Need-compute-split-points-requires
 compute-split-points-requires c κs =

@@ -123,7 +123,8 @@ abbrev μ-loop : tie.MeasureT-loop
 μ-loop glyphs count out₀ at end₀ from₀ k₀ out end from k = length glyphs - k
 
 -- where a run ends
-abbrev ends : (c : tie.Else1 Inv-loop μ-loop) → joinsNext (c .before .before .before .before .before .before .before .before .before .before .args .glyphs .now) (c .before .before .before .loop .k) ≡ false
+abbrev ends : (c : tie.Else1 Inv-loop μ-loop) → (let turn = c .before .before .before in let start = turn .before .before .before .before .before .before .before in
+    joinsNext (start .args .glyphs .now) (turn .loop .k) ≡ false)
 ends c = sym (c .before .joins-next .ensures) ∙ c .if1 .left
 
 room-at : (c : tie.Else1 Inv-loop μ-loop) → c .before .before .before .loop .end + 6 ≤ length (c .before .before .before .before .before .before .put-head .last .0)

@@ -43,8 +43,9 @@ returns c l n t k =
     let class1 = classes .before .before .before in
     let glyphs = class1 .before .before .before .before in
     let coverage = glyphs .before .before in
+    let lent = coverage .before .before .before .before .before .before .before .before in
     gathered k (coverage .bytes-of .ensures l n) (glyphs .glyphs-into .ensures) (class1 .bytes-of2 .ensures l n)
-    (λ i. omega (arith, coverage .before .before .before .before .before .before .before .before .shared-slice-known .given i)) (classes .classes-into .ensures) (order .order-by-class .ensures .0) (order .order-by-class .ensures .1)
+    (λ i. omega (arith, lent .shared-slice-known .given i)) (classes .classes-into .ensures) (order .order-by-class .ensures .0) (order .order-by-class .ensures .1)
 
 pub gather-spec : {M : Type 1} → statement M
 gather-spec =
