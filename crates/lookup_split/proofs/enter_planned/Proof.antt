@@ -133,8 +133,8 @@ enter-planned-spec =
     same-length-2
     same-length-3
     same-length-4
-    (λ c. search needs)
-    (λ c. search needs)
+    (λ c. search)
+    (λ c. search)
     same-length-7
     returns-2
     cast-new-count
@@ -142,7 +142,7 @@ enter-planned-spec =
     same-length-9
     same-length-10
     same-length-11
-    (λ c. search needs)
-    (λ c. search needs)
+    (λ c. search)
+    (λ c. search)
     same-length-14
     returns-3)

@@ -86,22 +86,22 @@ split-any-spec =
     (λ c κs. search needs)
     (λ c. search needs)
     split-planned-requires
-    (λ c. search needs)
-    (λ c. search needs)
-    (λ c. search needs)
-    (λ c. search needs)
-    (λ c. search needs)
-    (λ c. search needs)
-    (λ c. search needs)
-    (λ c. search needs)
+    (λ c. search)
+    (λ c. search)
+    (λ c. search)
+    (λ c. search)
+    (λ c. search)
+    (λ c. search)
+    (λ c. search)
+    (λ c. search)
     returns
-    (λ c. search needs)
-    (λ c. search needs)
-    (λ c. search needs)
+    (λ c. search)
+    (λ c. search)
+    (λ c. search)
     same-walk
     same-set
     same-glyphs
     same-classes
     same-cuts
-    (λ c. search needs)
+    (λ c. search)
     returns-2)

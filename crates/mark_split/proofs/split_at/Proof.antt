@@ -56,23 +56,23 @@ split-at-spec =
     (tie.spec
     measure-needs-requires
     is-short-requires
-    (λ c. search needs)
-    (λ c. search needs)
-    (λ c. search needs)
-    (λ c. search needs)
-    (λ c. search needs)
-    (λ c. search needs)
+    (λ c. search)
+    (λ c. search)
+    (λ c. search)
+    (λ c. search)
+    (λ c. search)
+    (λ c. search)
     returns
     (λ c. search needs)
     (λ c. search needs)
     (λ c. search needs)
     part-carry-out-end
     carry-out-requires
+    (λ c. search)
+    (λ c. search)
+    (λ c. search)
     (λ c. search needs)
     (λ c. search needs)
     (λ c. search needs)
-    (λ c. search needs)
-    (λ c. search needs)
-    (λ c. search needs)
-    (λ c. search needs)
+    (λ c. search)
     returns-2)
