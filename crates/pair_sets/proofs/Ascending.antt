@@ -4,7 +4,7 @@ use mathlib.Core.Path.{_≡_, refl, sym, ap, ap₂, _∙_}
 use mathlib.Core.Bool.{Bool, true, false, _&&_}
 use mathlib.Core.List.{List, [], _∷_}
 use mathlib.Core.Logic.{⊎-elim}
-use native.Mathlib.Nat.{mul-suc, mul-le-mul-left}
+use native.Mathlib.Nat.{mul-suc}
 use native.Mathlib.Numerals.{add-one}
 use native.Mathlib.Omega.{arith}
 use lib.ListN.{length, drop, getD}
@@ -36,10 +36,6 @@ u16-drop b k =
 pub glyph-within : {b : List ℕ} {size k n : ℕ} → RecordsThere b size k n → (i : ℕ) → i < k + n → 2 + (2 + size) * i + (2 + size) ≤ length b
 glyph-within {b} {size} {k} {n} t i l = omega (arith, record-within (2 + size) i (k + n) l, t .long)
 
--- where some records are there, those among them are
-pub some-there : {b : List ℕ} {size k n : ℕ} → RecordsThere b size k n → (i m : ℕ) → i + m ≤ k + n → RecordsThere b size i m
-some-there {b} {size} {k} {n} t i m l = record { long = omega (arith, mul-le-mul-left (2 + size) l, t .long); few = omega (arith, t .few) }
-
 module _ (b : List ℕ) (size : ℕ) where
   abbrev second : ℕ → ℕ
   second = secondAt b size
@@ -51,6 +47,10 @@ module _ (b : List ℕ) (size : ℕ) where
   -- the n records from r on ascend, from `least` on
   abbrev ascends : ℕ → ℕ → ℕ → Bool
   ascends least n r = ascending size least n (drop (place r) b)
+
+  -- a glyph is that of the record at its place
+  pub glyph-at : {g p : ℕ} (k : ℕ) → g ≡ u16At b p → p ≡ 2 + (2 + size) * k → g ≡ secondAt b size k
+  glyph-at k e d = e ∙ ap (λ (q : ℕ). u16At b q) d
 
   -- ---- glyphs that rise, one by one
 
@@ -103,6 +103,10 @@ module _ (b : List ℕ) (size : ℕ) where
       by-test (rises b size a n)
       (λ t. true-false (sym (rises-each c m (λ j lo hi. rises-at a n t j (omega arith) (omega arith))) ∙ f))
       (λ h. sym h)
+
+  -- where all do, the first of them do
+  pub front : (a n m : ℕ) → rises b size a n ≡ true → m ≤ n → rises b size a m ≡ true
+  front a n m t l = rises-each a m (λ j lo hi. rises-at a n t j lo (omega arith))
 
   -- where the first p of them do, the rest decides
   pub rest : (a p c m n : ℕ) → rises b size a p ≡ true → a ≤ c → c ≤ a + p → c + m ≡ a + n → rises b size c m ≡ rises b size a n

@@ -1,4 +1,5 @@
 pub mod Widths
 pub mod Ascending
+pub mod Windows
 pub mod Halved
 pub mod Slots

@@ -1,5 +1,6 @@
 -- Records of a pair set whose second glyphs rise. Assumes nothing.
 use Prim.Native.Nat.{ℕ, _+_, _*_, _≤_, _<_}
+use mathlib.Core.Path.{_≡_}
 use mathlib.Core.Bool.{Bool}
 use mathlib.Core.List.{List}
 use lib.ListN.{length}
@@ -19,3 +20,7 @@ pub record RecordsThere (b : List ℕ) (size k n : ℕ) : Type 0 where
 -- behind record k stand n whose glyphs are each above the one before
 unfoldable pub rises : List ℕ → ℕ → ℕ → ℕ → Bool
 rises b size k n = all (λ j. ltb (secondAt b size (k + j)) (secondAt b size (k + j + 1))) n
+
+-- r tells whether n do so behind the record at `at`, where records stand `step` bytes apart
+abbrev pub RisesFrom : List ℕ → ℕ → ℕ → ℕ → Bool → Type 0
+RisesFrom b step at n r = (size k : ℕ) → step ≡ 2 + size → at ≡ 2 + (2 + size) * k → r ≡ rises b size k n

@@ -1,15 +1,16 @@
 // Pair sets: whether one is sorted, and the record of a second glyph in one that is. The Rust text looks at no pair set's records.
 pub mod linked;
 
+use buffers::lesser;
 use ot_wire::u16_at;
 ghost use mathlib.Core.Path.{_≡_};
 ghost use mathlib.Core.Bool.{true};
-ghost use Prim.Native.Nat.{_+_, _-_, _*_, _≤_};
+ghost use Prim.Native.Nat.{_+_, _-_, _*_, _≤_, _<_};
 ghost use lib.ListN.{length};
 ghost use Rattle.ot_layouts.specs.PairPos.{setSorted, firstRecord};
 ghost use Rattle.folds.specs.Moments.{came};
 ghost use Rattle.pair_sets.specs.Sets.{recordFound};
-ghost use Rattle.pair_sets.specs.Rising.{secondAt, RecordsThere, rises};
+ghost use Rattle.pair_sets.specs.Rising.{secondAt, RecordsThere, rises, RisesFrom};
 
 // The record of a pair set that a search finds.
 pub enum Found {
@@ -25,64 +26,62 @@ fn glyph_of(set: &[u8], size: usize, k: usize) -> u16
     u16_at(set, 2 + (2 + size) * k)
 }
 
-// Whether the glyphs of the five records from `k` on rise.
-fn five_rise(set: &[u8], size: usize, k: usize) -> bool
-    requires { ⌜ RecordsThere (now set) size k 5 ⌝ }
-    ensures { λ r. ⌜ r ≡ rises (came set) size k 4 ⌝ }
+// Whether the glyphs of five records rise, of which the first stands at `at` and each `step` bytes behind the one before.
+fn five_rise(set: &[u8], step: usize, at: usize) -> bool
+    requires { ⌜ at + 4 * step + 2 ≤ length (now set) ⌝ }
+    ensures { λ r. ⌜ RisesFrom (came set) step at 4 r ⌝ }
 {
-    let first = glyph_of(set, size, k);
-    let second = glyph_of(set, size, k + 1);
+    let first = u16_at(set, at);
+    let second = u16_at(set, at + step);
     if second <= first {
         return false;
     }
-    let third = glyph_of(set, size, k + 2);
+    let third = u16_at(set, at + 2 * step);
     if third <= second {
         return false;
     }
-    let fourth = glyph_of(set, size, k + 3);
+    let fourth = u16_at(set, at + 3 * step);
     if fourth <= third {
         return false;
     }
-    fourth < glyph_of(set, size, k + 4)
+    fourth < u16_at(set, at + 4 * step)
 }
 
-// Whether those of nine do: the fifth is the last of one five and the first of the other.
-fn nine_rise(set: &[u8], size: usize, k: usize) -> bool
-    requires { ⌜ RecordsThere (now set) size k 9 ⌝ }
-    ensures { λ r. ⌜ r ≡ rises (came set) size k 8 ⌝ }
+// Whether those of seventeen do: four fives, of which each begins with the last of the one before.
+fn seventeen_rise(set: &[u8], step: usize, at: usize) -> bool
+    requires { ⌜ at + 16 * step + 2 ≤ length (now set) ⌝ }
+    ensures { λ r. ⌜ RisesFrom (came set) step at 16 r ⌝ }
 {
-    if !five_rise(set, size, k) {
+    if !five_rise(set, step, at) {
         return false;
     }
-    five_rise(set, size, k + 4)
-}
-
-// Whether those of seventeen do.
-fn seventeen_rise(set: &[u8], size: usize, k: usize) -> bool
-    requires { ⌜ RecordsThere (now set) size k 17 ⌝ }
-    ensures { λ r. ⌜ r ≡ rises (came set) size k 16 ⌝ }
-{
-    if !nine_rise(set, size, k) {
+    if !five_rise(set, step, at + 4 * step) {
         return false;
     }
-    nine_rise(set, size, k + 8)
+    if !five_rise(set, step, at + 8 * step) {
+        return false;
+    }
+    five_rise(set, step, at + 12 * step)
 }
 
 // Whether the glyphs of a set rise, seventeen at a time. The last seventeen are looked at whole, whatever was seen of them: how many would be left
 // is hard to foresee for a processor, and costs more than looking twice.
 fn many_rise(set: &[u8], size: usize, count: usize) -> bool
-    requires { ⌜ RecordsThere (now set) size 0 count × (17 ≤ count) ⌝ }
+    requires { ⌜ (size ≤ 32) × (length (now set) ≡ 2 + (2 + size) * count) × (17 ≤ count) × (count < 65536) ⌝ }
     ensures { λ r. ⌜ r ≡ rises (came set) size 0 (count - 1) ⌝ }
 {
-    let last = count - 17;
-    let mut k: usize = 0;
-    while k < last {
-        if !seventeen_rise(set, size, k) {
+    let step = 2 + size;
+    let last = set.len() - 17 * step;
+    let mut at: usize = 2;
+    loop {
+        if !seventeen_rise(set, step, at) {
             return false;
         }
-        k += 16;
+        if last <= at {
+            return true;
+        }
+        at = lesser(at + 16 * step, last);
     }
-    seventeen_rise(set, size, last)
 }
 
 // Whether the glyphs of a set rise, one by one.

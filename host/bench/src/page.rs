@@ -24,8 +24,9 @@ no more than the table needs, and checks neither store nor links. Its graph has 
 has no cut plan of its own: for it the same call is timed, and ends where it would add its first new object, since by then all cut places
 are known.
 
-What is not timed: making the store, turning it into the oracle's graph, copying either, and giving memory back. Each repetition has
-copies of its own, and the sides take turns. A time is that of the processor: waiting for a core while others have it does not count.
+What is not timed: making the store, turning it into the oracle's graph, copying either, and giving memory back. The sides take turns, and
+each call has a copy of its own, made right before it. A time is that of the processor: waiting for a core while others have it does not
+count.
 ";
 
 const INPUTS: &str = "\

@@ -179,34 +179,30 @@ impl Ready {
     }
 
     fn split(&self) -> Sides<Duration> {
-        let mut call = self.calls.first.clone();
-        let mut graph = self.graph_with_room();
-        let table = self.calls.first.table as usize;
-        match self.is_marks {
-            false => Sides {
-                ours: time(|| Archive.split(&mut call)),
-                oracle: time(|| graph.split_pairpos(table)),
-            },
-            true => Sides {
-                ours: time(|| Marks(&Archive).split(&mut call)),
-                oracle: time(|| graph.split_markbase_pos(table)),
-            },
+        Sides {
+            ours: self.split_by(Edition::First),
+            oracle: self.oracle(Graph::split_pairpos, Graph::split_markbase_pos),
         }
     }
 
     fn plan(&self) -> Sides<Duration> {
-        let mut plan = self.calls.first.to_plan();
+        Sides {
+            ours: self.plan_by(Edition::First),
+            oracle: self.oracle(Graph::plan_pairpos, Graph::plan_markbase_pos),
+        }
+    }
+
+    /// The oracle's time for the store's table. Like ours, its copy is made right before the call.
+    fn oracle<T>(
+        &self,
+        pairs: impl FnOnce(&mut Graph, usize) -> T,
+        marks: impl FnOnce(&mut Graph, usize) -> T,
+    ) -> Duration {
         let mut graph = self.graph_with_room();
         let table = self.calls.first.table as usize;
         match self.is_marks {
-            false => Sides {
-                ours: time(|| Archive.plan(&mut plan)),
-                oracle: time(|| graph.plan_pairpos(table)),
-            },
-            true => Sides {
-                ours: time(|| Marks(&Archive).plan(&mut plan)),
-                oracle: time(|| graph.plan_markbase_pos(table)),
-            },
+            false => time(|| pairs(&mut graph, table)),
+            true => time(|| marks(&mut graph, table)),
         }
     }
 

@@ -1,49 +1,52 @@
--- `pair_sets::many_rise` meets its contract: behind the first record `k` rise. Assumes nothing.
+-- `pair_sets::many_rise` meets its contract: `at` is the place of a record behind which nothing was looked at. Assumes nothing.
 use borrow.Author.Needs.{needs}
-use Prim.Native.Nat.{ℕ, _+_, _-_, _<_}
-use mathlib.Core.Path.{_≡_, refl, sym, _∙_}
-use mathlib.Core.Bool.{true}
+use Prim.Native.Nat.{_+_, _-_}
+use mathlib.Core.Path.{refl}
+use native.Mathlib.Nat.{mul-le-mul-left}
 use native.Mathlib.Omega.{arith}
-use borrow.Author.Tests.{not-true, not-false}
-use Rattle.pair_sets.specs.Rising.{rises}
-use Rattle.pair_sets.proofs.Ascending.{some-there, rises-none, part, rest}
+use lib.ListN.{length}
+use Rattle.pair_sets.proofs.Windows.{Passed, none-passed, within, fails, ends, goes-on}
 use Rattle.pair_sets.proofs.many_rise.Statement.{statement}
 use Rattle.pair_sets.proofs.many_rise.Tie as tie
 
 abbrev Inv-loop : tie.InvT-loop
-Inv-loop set size count last k₀ k = (k < count) × (rises set size 0 k ≡ true)
+Inv-loop set size count step last at₀ at = Passed set size count at
 
 abbrev μ-loop : tie.MeasureT-loop
-μ-loop set size count last k₀ k = count - k
+μ-loop set size count step last at₀ at = length set - at
+
+sub-last : tie.Need-sub-last Inv-loop μ-loop
+sub-last c = let s = c .before in omega (arith, mul-le-mul-left (2 + s .args .size) (s .pre .2))
 
 loop-holds : tie.Need-loop-holds Inv-loop μ-loop
-loop-holds c = (omega (arith, c .before .pre .1), rises-none _ _ 0 0 refl)
+loop-holds c = none-passed _ _ _ (c .before .pre .2)
 
 seventeen-rise-requires : tie.Need-seventeen-rise-requires Inv-loop μ-loop
-seventeen-rise-requires c κs = some-there (c .before .before .before .pre .0) (c .before .loop .k) 17 (omega arith)
+seventeen-rise-requires c κs = within (c .loop .inv) (c .before .before .pre .1)
 
 returns : tie.Need-returns Inv-loop μ-loop
 returns c =
-    let turn = c .before .before in
-    let k = turn .before .loop .k in
-    part _ _ 0 (turn .before .before .before .args .count - 1) k 16 (sym (c .before .seventeen-rise .ensures) ∙ not-true _ (c .if1 .taken)) (omega arith) (omega arith)
-
-loop-again : tie.Need-loop-again Inv-loop μ-loop
-loop-again c =
-    let turn = c .before .before in
-    let k = turn .before .loop .k in (
-      omega arith,
-      sym (rest _ _ 0 k k 16 (k + 16) (turn .before .loop .inv .1) (omega arith) (omega arith) (omega arith)) ∙ sym (c .before .seventeen-rise .ensures) ∙ not-false _ (c .if1 .left),
-    )
-
-seventeen-rise-requires-2 : tie.Need-seventeen-rise-requires-2 Inv-loop μ-loop
-seventeen-rise-requires-2 c κs = let start = c .before .before .before in some-there (start .pre .0) (start .args .count - 17) 17 (omega arith)
+    let seen = c .before in
+    let turn = seen .before in
+    let v = turn .loop .inv in
+    fails v (turn .before .before .pre .1) (seen .seventeen-rise .ensures _ (v .k) refl (v .place)) (c .if1 .taken)
 
 returns-2 : tie.Need-returns-2 Inv-loop μ-loop
 returns-2 c =
-    let end = c .before .before in
-    let n = end .before .before .args .count in
-    c .seventeen-rise2 .ensures ∙ rest _ _ 0 (end .loop .k) (n - 17) 16 (n - 1) (end .loop .inv .1) (omega arith) (omega arith) (omega arith)
+    let seen = c .before .before in
+    let turn = seen .before in
+    let v = turn .loop .inv in
+    ends v (turn .before .before .pre .1) (seen .seventeen-rise .ensures _ (v .k) refl (v .place)) (c .before .if1 .left) (c .if2 .taken)
+
+loop-less : tie.Need-loop-less Inv-loop μ-loop
+loop-less c = omega (arith, c .lesser .ensures)
+
+loop-again : tie.Need-loop-again Inv-loop μ-loop
+loop-again c =
+    let seen = c .before .before .before in
+    let turn = seen .before in
+    let v = turn .loop .inv in
+    goes-on v (turn .before .before .pre .1) (seen .seventeen-rise .ensures _ (v .k) refl (v .place)) (c .before .before .if1 .left) (c .lesser .ensures)
 
 pub many-rise-spec : {M : Type 1} → statement M
 many-rise-spec =
@@ -52,11 +55,14 @@ many-rise-spec =
     Inv-loop
     μ-loop
     (λ c. search needs)
+    (λ c. search needs)
+    sub-last
     loop-holds
     seventeen-rise-requires
     returns
+    returns-2
     (λ c. search needs)
     (λ c. search needs)
-    loop-again
-    seventeen-rise-requires-2
-    returns-2)
+    (λ c κs. search needs)
+    loop-less
+    loop-again)
