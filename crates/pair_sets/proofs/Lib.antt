@@ -3,3 +3,4 @@ pub mod Ascending
 pub mod Windows
 pub mod Halved
 pub mod Slots
+pub mod Marks

@@ -21,7 +21,7 @@ use Rattle.store_rules.specs.Store.{Store, bytesOf, childAt, parentOf, position
 use Rattle.store_rules.proofs.Sound.{Fits, sound-fits, size-bytes}
 use Rattle.store_rules.proofs.Lookups.{child-row}
 use Rattle.store_rules.proofs.RowChild.{row-child}
-use Rattle.store_reader.specs.Rows.{ParentRows}
+use Rattle.store_reader.specs.Rows.{Inside, ParentRows}
 use Rattle.store_reader.specs.declared.LinkRows.{LinkRows}
 use Rattle.store_reader.proofs.Rows.{parent-rows, position-most}
 use Rattle.store_reader.proofs.Checks.{Passed}
@@ -30,6 +30,7 @@ use Rattle.pair_rules.specs.Table.{shape, setsSorted}
 use Rattle.pair_rules.specs.Reads.{Reads}
 use Rattle.pair_rules.proofs.SortedSets.{no-sets, set-sorted, sets-sorted}
 use Rattle.pair_sets.specs.Sets.{isSetSlot, leadsSorted, LeadsThere, RowInside}
+use Rattle.pair_sets.specs.Marked.{RowLeads}
 
 slot-is : (q : ℕ) → isSetSlot q ≡ true → (10 ≤ q) × (q % 2 ≡ 0)
 unfolding isSetSlot
@@ -41,11 +42,11 @@ is-slot q a b = rw (le-leb 10 q a, eq-eqb (q % 2) 0 b)
 
 -- ---- one row
 
-at-slot : (s : Store) (size k : ℕ) → isSetSlot (positionOf s k) ≡ true → leadsSorted s size k ≡ setSorted (bytesOf s (childOf s k)) size
+pub at-slot : (s : Store) (size k : ℕ) → isSetSlot (positionOf s k) ≡ true → leadsSorted s size k ≡ setSorted (bytesOf s (childOf s k)) size
 unfolding leadsSorted
 at-slot s size k h = rw h
 
-at-no-slot : (s : Store) (size k : ℕ) → isSetSlot (positionOf s k) ≡ false → leadsSorted s size k ≡ true
+pub at-no-slot : (s : Store) (size k : ℕ) → isSetSlot (positionOf s k) ≡ false → leadsSorted s size k ≡ true
 unfolding leadsSorted
 at-no-slot s size k h = rw h
 
@@ -144,6 +145,14 @@ module _ (s : Store) (t : ℕ) (reads : Reads s t) where
   row-inside k l =
       let f = sound-fits s (reads .sounds) in
       record { room = omega (arith, f .linksIn); small = omega (arith, f .linksMost); child = inside s f (childOf s k) (f .link k l .childUsed) }
+
+  pub row-leads : (k : ℕ) → k < s .linkCount → RowLeads (s .links) (s .objectCount) k
+  row-leads k l =
+      let f = sound-fits s (reads .sounds) in
+      record { room = omega (arith, f .linksIn); small = omega (arith, f .linksMost); child = f .link k l .childUsed }
+
+  pub objects-inside : (i : ℕ) → i < s .objectCount → Inside (length (s .bytes)) (s .objects) i
+  objects-inside = inside s (sound-fits s (reads .sounds))
 
   -- by what the code holds of the table
   module _ {l : Layout} (layout : l ≡ layoutOf (bytesOf s t)) where

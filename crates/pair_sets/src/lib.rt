@@ -1,5 +1,6 @@
 // Pair sets: whether one is sorted, and the record of a second glyph in one that is. The Rust text looks at no pair set's records.
 pub mod linked;
+pub mod marked;
 
 use buffers::lesser;
 use ot_wire::u16_at;

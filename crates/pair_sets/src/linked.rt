@@ -1,5 +1,6 @@
 // Check 11: whether every pair set that a table leads to is sorted.
 use crate::is_sorted;
+use crate::marked::sorted_in_order;
 use ot_pairpos::Layout;
 use ot_pairpos::record_size;
 use store_reader::CHILD;
@@ -23,7 +24,7 @@ ghost use Rattle.pair_rules.specs.Reads.{Reads};
 ghost use Rattle.pair_sets.specs.Sets.{isSetSlot, leadsSorted, LeadsThere, RowInside};
 
 // Whether a link of a table of format 1 leads from here to a pair set.
-fn is_set_slot(position: u32) -> bool
+pub fn is_set_slot(position: u32) -> bool
     ensures { λ r. ⌜ r ≡ isSetSlot position ⌝ }
 {
     if position < 10 {
@@ -114,7 +115,8 @@ fn rows_sorted(
     true
 }
 
-// Whether each pair set that the table leads to is sorted. Of `seen` it is asked that there is a place; what it holds says nothing.
+// Whether each pair set that the table leads to is sorted. Of `seen` it is asked that there is a place; what it holds says nothing. Where there is one
+// for each object, the sets are looked at in the order of the objects, and else in that of the rows.
 pub fn sets_sorted(
     data: &[u8],
     objects: &[u32],
@@ -133,5 +135,9 @@ pub fn sets_sorted(
     }
     let rows = rows_of(links, counts[2] as usize, table);
     let size = record_size(layout.value1, layout.value2);
-    rows_sorted(data, objects, links, rows, size, seen)
+    let count = counts[1] as usize;
+    if seen.len() < count {
+        return rows_sorted(data, objects, links, rows, size, seen);
+    }
+    sorted_in_order(data, objects, links, rows, size, &mut seen[0..count])
 }
