@@ -1,4 +1,5 @@
 -- `mark_plan::cut_plan_markbasepos` meets its contract: what was decided is handed out, and the scratch is cleared. Assumes nothing.
+use mathlib.Core.Path.{_∙_}
 use native.Mathlib.Omega.{arith}
 use Rattle.store_rules.specs.Store.{lent}
 use Rattle.call_rules.specs.Scratch.{scratchOf}
@@ -12,6 +13,36 @@ hand-out-requires c κs =
     let decided = c .before .before .before .before .before .before .before .before .before .before .before .before .before in
     let known = decided .before .before .before .before .before .before .before .before .before .before .before .before .before .before in
     can-hand-out (λ i. omega (arith, known .shared-slice-known .given i)) (decided .decide .ensures)
+
+same-walk : tie.Need-same-length
+same-walk c =
+    let new = c .before .before .before .before .before .before .before .before .before in
+    let old = new .before .before .before .before .before .before .before .before .before .before .before .before .before .before .before .before .before .before .before .before .before .before in
+    new .walk2 .given ∙ old .walk .given
+
+same-set : tie.Need-same-length-2
+same-set c =
+    let new = c .before .before .before .before .before .before .before in
+    let old = new .before .before .before .before .before .before .before .before .before .before .before .before .before .before .before .before .before .before .before .before .before .before in
+    new .glyph-set2 .given ∙ old .glyph-set .given
+
+same-glyphs : tie.Need-same-length-3
+same-glyphs c =
+    let new = c .before .before .before .before .before in
+    let old = new .before .before .before .before .before .before .before .before .before .before .before .before .before .before .before .before .before .before .before .before .before .before in
+    new .glyphs2 .given ∙ old .glyphs .given
+
+same-classes : tie.Need-same-length-4
+same-classes c =
+    let new = c .before .before .before in
+    let old = new .before .before .before .before .before .before .before .before .before .before .before .before .before .before .before .before .before .before .before .before .before .before in
+    new .classes2 .given ∙ old .classes .given
+
+same-cuts : tie.Need-same-length-5
+same-cuts c =
+    let new = c .before in
+    let old = new .before .before .before .before .before .before .before .before .before .before .before .before .before .before .before .before .before .before .before .before .before .before in
+    new .cuts2 .given ∙ old .cuts .given
 
 returns : tie.Need-returns
 returns c =
@@ -33,10 +64,10 @@ cut-plan-markbasepos-spec =
     (λ c κs. search needs)
     hand-out-requires
     (λ c κs. search needs)
-    (λ c. search needs)
-    (λ c. search needs)
-    (λ c. search needs)
-    (λ c. search needs)
-    (λ c. search needs)
-    (λ c. search needs)
+    same-walk
+    same-set
+    same-glyphs
+    same-classes
+    same-cuts
+    (λ c. search)
     returns)

@@ -35,9 +35,9 @@ decide-spec =
     (λ c. search needs)
     decide-cuts-requires
     returns-2
-    (λ c. search needs)
-    (λ c. search needs)
-    (λ c. search needs)
-    (λ c. search needs)
-    (λ c. search needs)
+    (λ c. search)
+    (λ c. search)
+    (λ c. search)
+    (λ c. search)
+    (λ c. search)
     (λ c. search needs))

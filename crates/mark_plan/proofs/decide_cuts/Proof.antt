@@ -48,12 +48,12 @@ decide-cuts-spec =
     begin-walk-requires
     (λ c. search needs)
     slice-read-if1
-    (λ c. search needs)
+    (λ c. search)
     returns
     cut-table-requires
     (λ c. search needs)
-    (λ c. search needs)
-    (λ c. search needs)
-    (λ c. search needs)
-    (λ c. search needs)
+    (λ c. search)
+    (λ c. search)
+    (λ c. search)
+    (λ c. search)
     returns-2)

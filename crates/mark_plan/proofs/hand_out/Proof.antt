@@ -41,5 +41,5 @@ hand-out-spec =
     part-list-places-end
     list-places-requires
     returns
-    (λ c. search needs)
+    (λ c. search)
     returns-2)

@@ -92,9 +92,9 @@ cut-table-spec =
     (λ c. search needs)
     classes-end
     compute-split-points-requires
+    (λ c. search)
+    (λ c. search)
     (λ c. search needs)
     (λ c. search needs)
-    (λ c. search needs)
-    (λ c. search needs)
-    (λ c. search needs)
+    (λ c. search)
     returns)
