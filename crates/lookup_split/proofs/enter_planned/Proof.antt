@@ -5,6 +5,50 @@ use Rattle.lookup_split.proofs.Planned.{nothing, both-small, marks-long
 use Rattle.lookup_split.proofs.enter_planned.Statement.{statement}
 use Rattle.lookup_split.proofs.enter_planned.Tie as tie
 
+-- from where parts of the walk are lent, back: the lookups in order, something to cut, and the start
+module _ (c : tie.After-enter-at-arg5) where
+  abbrev walk-back : tie.After-walk
+  walk-back = c .before .before .before .before .before .before .before
+
+  abbrev ordered : tie.After-order-lookups
+  ordered = walk-back .before
+
+  abbrev some : tie.Else1
+  some =
+      let marks = ordered .before .before .before .before .before .before in
+      marks .before .before
+
+  abbrev start : tie.Start
+  start =
+      let known = some .before .before in
+      known .before .before .before .before .before .before .before
+
+-- from the end back: each slice as it comes back, with the length that it had; the entering; and where parts of the walk were lent
+module _ (back : tie.After-slice-known14) where
+  abbrev new-tables-back : tie.After-new-tables
+  new-tables-back = back .before
+
+  abbrev classes-back : tie.After-classes
+  classes-back = new-tables-back .before .before
+
+  abbrev glyphs-back : tie.After-glyphs
+  glyphs-back = classes-back .before .before
+
+  abbrev links-back : tie.After-links
+  links-back = glyphs-back .before .before
+
+  abbrev objects-back : tie.After-objects
+  objects-back = links-back .before .before
+
+  abbrev data-back : tie.After-data
+  data-back = objects-back .before .before
+
+  abbrev at : tie.After-enter-at
+  at = data-back .before
+
+  abbrev lending : tie.After-enter-at-arg5
+  lending = at .before .before .before .before .before .before
+
 returns : tie.Need-returns
 returns c =
     let start = c .before .before .before .before .before .before .before .before .before in
@@ -18,92 +62,37 @@ order-lookups-requires c κs =
 
 slice-aggregate-enter-at : tie.Need-slice-aggregate-enter-at
 slice-aggregate-enter-at c =
-    let ordered = c .before .before .before .before .before .before .before .before in
-    let some = ordered .before .before .before .before .before .before .before .before in
-    let start = some .before .before .before .before .before .before .before .before .before in
-    marks-long (start .pre) (some .if1 .left) (ordered .order-lookups .ensures) (ordered .order-lookups .kept .1 .1 .1 .1 .1 .1 .0)
+    marks-long (start c .pre) (some c .if1 .left) (ordered c .order-lookups .ensures) (ordered c .order-lookups .kept .1 .1 .1 .1 .1 .1 .0)
 
 add-enter-at : tie.Need-add-enter-at
-add-enter-at c =
-    let ordered = c .before .before .before .before .before .before .before .before in
-    let some = ordered .before .before .before .before .before .before .before .before in
-    let start = some .before .before .before .before .before .before .before .before .before in
-    omega (arith, both-small (start .pre) (some .if1 .left) (ordered .order-lookups .ensures))
+add-enter-at c = omega (arith, both-small (start c .pre) (some c .if1 .left) (ordered c .order-lookups .ensures))
 
 mul-enter-at : tie.Need-mul-enter-at
-mul-enter-at c =
-    let ordered = c .before .before .before .before .before .before .before .before in
-    let some = ordered .before .before .before .before .before .before .before .before in
-    let start = some .before .before .before .before .before .before .before .before .before in
-    omega (arith, both-small (start .pre) (some .if1 .left) (ordered .order-lookups .ensures))
+mul-enter-at c = omega (arith, both-small (start c .pre) (some c .if1 .left) (ordered c .order-lookups .ensures))
 
 part-enter-at-end : tie.Need-part-enter-at-end
 part-enter-at-end c =
-    let ordered = c .before .before .before .before .before .before .before .before in
-    let some = ordered .before .before .before .before .before .before .before .before in
-    let start = some .before .before .before .before .before .before .before .before .before in
-    lookups-end (start .pre) (some .if1 .left) (ordered .order-lookups .ensures) (ordered .order-lookups .kept .1 .1 .1 .1 .1 .1 .0)
+    lookups-end (start c .pre) (some c .if1 .left) (ordered c .order-lookups .ensures) (ordered c .order-lookups .kept .1 .1 .1 .1 .1 .1 .0)
 
 enter-at-requires : tie.Need-enter-at-requires
 enter-at-requires c κs =
-    let ordered = c .before .before .before .before .before .before .before .before .before .before .before .before .before in
-    let some = ordered .before .before .before .before .before .before .before .before in
-    let start = some .before .before .before .before .before .before .before .before .before in
-    placing (start .pre) (some .if1 .left) (ordered .order-lookups .ensures)
+    let l = c .before .before .before .before .before in
+    placing (start l .pre) (some l .if1 .left) (ordered l .order-lookups .ensures)
 
 returns-2 : tie.Need-returns-2
 returns-2 c =
-    let at = c .before .before .before .before .before .before .before .before .before .before .before .before .before in
-    let ordered = at .before .before .before .before .before .before .before .before .before .before .before .before .before .before in
-    let some = ordered .before .before .before .before .before .before .before .before in
-    let start = some .before .before .before .before .before .before .before .before .before in
-    refused (start .pre) (some .if1 .left) (ordered .order-lookups .ensures) (start .args .new-tables .now) (at .enter-at .ensures) (c .if2 .taken)
+    let back = c .before in
+    let l = lending back in
+    refused (start l .pre) (some l .if1 .left) (ordered l .order-lookups .ensures) (start l .args .new-tables .now) (at back .enter-at .ensures) (c .if2 .taken)
 
 cast-new-count : tie.Need-cast-new-count
-cast-new-count c =
-    let some = c .before .before .before .before .before .before .before .before .before .before .before .before .before .before .before .before .before .before .before .before .before .before .before .before .before .before .before .before .before .before .before .before .before .before .before in
-    let start = some .before .before .before .before .before .before .before .before .before in
-    omega (arith, start .pre .plan .few)
+cast-new-count c = omega (arith, start (lending (c .before)) .pre .plan .few)
 
 returns-3 : tie.Need-returns-3
 returns-3 c =
-    let at = c .before .before .before .before .before .before .before .before .before .before .before .before .before in
-    let ordered = at .before .before .before .before .before .before .before .before .before .before .before .before .before .before in
-    let some = ordered .before .before .before .before .before .before .before .before in
-    let start = some .before .before .before .before .before .before .before .before .before in
-    entered (start .pre) (some .if1 .left) (ordered .order-lookups .ensures) (start .args .new-tables .now) (at .enter-at .ensures) (c .if2 .left)
-
--- what the search finds, each by itself: in one declaration they take more steps than it may
-
-same-length : tie.Need-same-length
-same-length c = c .before .before .before .before .before .before .before .before .before .before .before .before .«data» .given
-
-same-length-2 : tie.Need-same-length-2
-same-length-2 c = c .before .before .before .before .before .before .before .before .before .before .objects .given
-
-same-length-3 : tie.Need-same-length-3
-same-length-3 c = c .before .before .before .before .before .before .before .before .links .given
-
-same-length-4 : tie.Need-same-length-4
-same-length-4 c = c .before .before .before .before .before .before .before .before .before .before .before .before .before .before .before .before .before .before .before .before .before .before .before .before .before .before .walk .given
-
-same-length-7 : tie.Need-same-length-7
-same-length-7 c = c .before .before .new-tables .given
-
-same-length-8 : tie.Need-same-length-8
-same-length-8 c = c .before .before .before .before .before .before .before .before .before .before .before .before .«data» .given
-
-same-length-9 : tie.Need-same-length-9
-same-length-9 c = c .before .before .before .before .before .before .before .before .before .before .objects .given
-
-same-length-10 : tie.Need-same-length-10
-same-length-10 c = c .before .before .before .before .before .before .before .before .links .given
-
-same-length-11 : tie.Need-same-length-11
-same-length-11 c = c .before .before .before .before .before .before .before .before .before .before .before .before .before .before .before .before .before .before .before .before .before .before .before .before .before .before .walk .given
-
-same-length-14 : tie.Need-same-length-14
-same-length-14 c = c .before .before .new-tables .given
+    let back = c .before in
+    let l = lending back in
+    entered (start l .pre) (some l .if1 .left) (ordered l .order-lookups .ensures) (start l .args .new-tables .now) (at back .enter-at .ensures) (c .if2 .left)
 
 pub enter-planned-spec : {M : Type 1} → statement M
 enter-planned-spec =
@@ -129,20 +118,20 @@ enter-planned-spec =
     (λ c. search needs)
     (λ c. search needs)
     enter-at-requires
-    same-length
-    same-length-2
-    same-length-3
-    same-length-4
+    (λ c. data-back (c .before) .«data» .given)
+    (λ c. objects-back (c .before) .objects .given)
+    (λ c. links-back (c .before) .links .given)
+    (λ c. walk-back (lending (c .before)) .walk .given)
     (λ c. search)
     (λ c. search)
-    same-length-7
+    (λ c. new-tables-back (c .before) .new-tables .given)
     returns-2
     cast-new-count
-    same-length-8
-    same-length-9
-    same-length-10
-    same-length-11
+    (λ c. data-back (c .before) .«data» .given)
+    (λ c. objects-back (c .before) .objects .given)
+    (λ c. links-back (c .before) .links .given)
+    (λ c. walk-back (lending (c .before)) .walk .given)
     (λ c. search)
     (λ c. search)
-    same-length-14
+    (λ c. new-tables-back (c .before) .new-tables .given)
     returns-3)

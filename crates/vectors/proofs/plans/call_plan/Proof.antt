@@ -2,47 +2,40 @@
 use Rattle.vectors.proofs.plans.call_plan.Statement.{statement}
 use Rattle.vectors.proofs.plans.call_plan.Tie as tie
 
-either-plan-requires : tie.Need-either-plan-requires
-either-plan-requires c κs = tt
+-- from the end back: each slice as it comes back, with the length that it had
+module _ (c : tie.After-mix-u16) where
+  abbrev mixed : tie.After-of-scratch
+  mixed = c .before .before
 
-of-scratch-requires : tie.Need-of-scratch-requires
-of-scratch-requires c κs = tt
+  abbrev places-back : tie.After-places
+  places-back = mixed .before .before .before .before .before .before .before
 
-mix-u16-requires : tie.Need-mix-u16-requires
-mix-u16-requires c κs = tt
+  abbrev cuts-back : tie.After-cuts
+  cuts-back = places-back .before .before
 
-same-length : tie.Need-same-length
-same-length c = c .before .before .before .before .before .before .before .before .before .before .before .before .before .before .before .before .before .before .before .walk .given
+  abbrev classes-back : tie.After-classes
+  classes-back = cuts-back .before .before
 
-same-length-2 : tie.Need-same-length-2
-same-length-2 c = c .before .before .before .before .before .before .before .before .before .before .before .before .before .before .before .before .before .glyph-set .given
+  abbrev glyphs-back : tie.After-glyphs
+  glyphs-back = classes-back .before .before
 
-same-length-3 : tie.Need-same-length-3
-same-length-3 c = c .before .before .before .before .before .before .before .before .before .before .before .before .before .before .before .glyphs .given
+  abbrev glyph-set-back : tie.After-glyph-set
+  glyph-set-back = glyphs-back .before .before
 
-same-length-4 : tie.Need-same-length-4
-same-length-4 c = c .before .before .before .before .before .before .before .before .before .before .before .before .before .classes .given
-
-same-length-5 : tie.Need-same-length-5
-same-length-5 c = c .before .before .before .before .before .before .before .before .before .before .before .cuts .given
-
-same-length-6 : tie.Need-same-length-6
-same-length-6 c = c .before .before .before .before .before .before .before .before .before .places .given
-
-returns : tie.Need-returns
-returns c = tt
+  abbrev walk-back : tie.After-walk
+  walk-back = glyph-set-back .before .before
 
 pub call-plan-spec : {M : Type 1} → statement M
 call-plan-spec =
     tie.close
     (tie.spec
-    either-plan-requires
-    of-scratch-requires
-    mix-u16-requires
-    same-length
-    same-length-2
-    same-length-3
-    same-length-4
-    same-length-5
-    same-length-6
-    returns)
+    (λ c κs. tt)
+    (λ c κs. tt)
+    (λ c κs. tt)
+    (λ c. walk-back c .walk .given)
+    (λ c. glyph-set-back c .glyph-set .given)
+    (λ c. glyphs-back c .glyphs .given)
+    (λ c. classes-back c .classes .given)
+    (λ c. cuts-back c .cuts .given)
+    (λ c. places-back c .places .given)
+    (λ c. tt))

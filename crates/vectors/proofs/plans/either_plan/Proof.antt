@@ -2,75 +2,62 @@
 use Rattle.vectors.proofs.plans.either_plan.Statement.{statement}
 use Rattle.vectors.proofs.plans.either_plan.Tie as tie
 
-cut-plan-markbasepos-requires : tie.Need-cut-plan-markbasepos-requires
-cut-plan-markbasepos-requires c κs = tt
+-- from the end back: each slice as it comes back, with the length that it had; marks first
+module _ (c : tie.After-slice-known12) where
+  abbrev places-back : tie.After-places
+  places-back = c .before
 
-same-length : tie.Need-same-length
-same-length c =
-    let walk-back = c .before .before .before .before .before .before .before .before .before .before .before in
-    walk-back .walk .given
+  abbrev cuts-back : tie.After-cuts
+  cuts-back = places-back .before .before
 
-same-length-2 : tie.Need-same-length-2
-same-length-2 c = c .before .before .before .before .before .before .before .before .before .glyph-set .given
+  abbrev classes-back : tie.After-classes
+  classes-back = cuts-back .before .before
 
-same-length-3 : tie.Need-same-length-3
-same-length-3 c = c .before .before .before .before .before .before .before .glyphs .given
+  abbrev glyphs-back : tie.After-glyphs
+  glyphs-back = classes-back .before .before
 
-same-length-4 : tie.Need-same-length-4
-same-length-4 c = c .before .before .before .before .before .classes .given
+  abbrev glyph-set-back : tie.After-glyph-set
+  glyph-set-back = glyphs-back .before .before
 
-same-length-5 : tie.Need-same-length-5
-same-length-5 c = c .before .before .before .cuts .given
+  abbrev walk-back : tie.After-walk
+  walk-back = glyph-set-back .before .before
 
-same-length-6 : tie.Need-same-length-6
-same-length-6 c = c .before .places .given
+module _ (c : tie.After-slice-known18) where
+  abbrev places2-back : tie.After-places2
+  places2-back = c .before
 
-returns : tie.Need-returns
-returns c = tt
+  abbrev cuts2-back : tie.After-cuts2
+  cuts2-back = places2-back .before .before
 
-cut-plan-requires : tie.Need-cut-plan-requires
-cut-plan-requires c κs = tt
+  abbrev classes2-back : tie.After-classes2
+  classes2-back = cuts2-back .before .before
 
-same-length-7 : tie.Need-same-length-7
-same-length-7 c =
-    let walk-back = c .before .before .before .before .before .before .before .before .before .before .before in
-    walk-back .walk2 .given
+  abbrev glyphs2-back : tie.After-glyphs2
+  glyphs2-back = classes2-back .before .before
 
-same-length-8 : tie.Need-same-length-8
-same-length-8 c = c .before .before .before .before .before .before .before .before .before .glyph-set2 .given
+  abbrev glyph-set2-back : tie.After-glyph-set2
+  glyph-set2-back = glyphs2-back .before .before
 
-same-length-9 : tie.Need-same-length-9
-same-length-9 c = c .before .before .before .before .before .before .before .glyphs2 .given
-
-same-length-10 : tie.Need-same-length-10
-same-length-10 c = c .before .before .before .before .before .classes2 .given
-
-same-length-11 : tie.Need-same-length-11
-same-length-11 c = c .before .before .before .cuts2 .given
-
-same-length-12 : tie.Need-same-length-12
-same-length-12 c = c .before .places2 .given
-
-returns-2 : tie.Need-returns-2
-returns-2 c = tt
+  abbrev walk2-back : tie.After-walk2
+  walk2-back = glyph-set2-back .before .before
 
 pub either-plan-spec : {M : Type 1} → statement M
 either-plan-spec =
     tie.close
     (tie.spec
-    cut-plan-markbasepos-requires
-    same-length
-    same-length-2
-    same-length-3
-    same-length-4
-    same-length-5
-    same-length-6
-    returns
-    cut-plan-requires
-    same-length-7
-    same-length-8
-    same-length-9
-    same-length-10
-    same-length-11
-    same-length-12
-    returns-2)
+    (λ c κs. tt)
+    (λ c. walk-back c .walk .given)
+    (λ c. glyph-set-back c .glyph-set .given)
+    (λ c. glyphs-back c .glyphs .given)
+    (λ c. classes-back c .classes .given)
+    (λ c. cuts-back c .cuts .given)
+    (λ c. places-back c .places .given)
+    (λ c. tt)
+    (λ c κs. tt)
+    (λ c. walk2-back c .walk2 .given)
+    (λ c. glyph-set2-back c .glyph-set2 .given)
+    (λ c. glyphs2-back c .glyphs2 .given)
+    (λ c. classes2-back c .classes2 .given)
+    (λ c. cuts2-back c .cuts2 .given)
+    (λ c. places2-back c .places2 .given)
+    (λ c. tt))

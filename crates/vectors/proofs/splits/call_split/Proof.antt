@@ -2,73 +2,56 @@
 use Rattle.vectors.proofs.splits.call_split.Statement.{statement}
 use Rattle.vectors.proofs.splits.call_split.Tie as tie
 
-either-split-requires : tie.Need-either-split-requires
-either-split-requires c κs = tt
+-- from the end back: each slice as it comes back, with the length that it had
+module _ (c : tie.After-mix-u32) where
+  abbrev store-mixed : tie.After-mix-store
+  store-mixed = c .before .before
 
-of-scratch-requires : tie.Need-of-scratch-requires
-of-scratch-requires c κs = tt
+  abbrev scratch-mixed : tie.After-of-scratch
+  scratch-mixed = store-mixed .before .before .before .before .before
 
-mix-store-requires : tie.Need-mix-store-requires
-mix-store-requires c κs = tt
+  abbrev new-tables-back : tie.After-new-tables
+  new-tables-back = scratch-mixed .before .before .before .before .before .before .before
 
-mix-u32-requires : tie.Need-mix-u32-requires
-mix-u32-requires c κs = tt
+  abbrev cuts-back : tie.After-cuts
+  cuts-back = new-tables-back .before .before
 
-same-length : tie.Need-same-length
-same-length c =
-    let after-data = c .before .before .before .before .before .before .before .before .before .before .before .before .before .before .before .before .before .before .before .before .before .before .before .before .before .before .before .before .before .before in
-    after-data .«data» .given
+  abbrev classes-back : tie.After-classes
+  classes-back = cuts-back .before .before
 
-same-length-2 : tie.Need-same-length-2
-same-length-2 c =
-    let after-objects = c .before .before .before .before .before .before .before .before .before .before .before .before .before .before .before .before .before .before .before .before .before .before .before .before .before .before .before .before in
-    after-objects .objects .given
+  abbrev glyphs-back : tie.After-glyphs
+  glyphs-back = classes-back .before .before
 
-same-length-3 : tie.Need-same-length-3
-same-length-3 c =
-    let after-links = c .before .before .before .before .before .before .before .before .before .before .before .before .before .before .before .before .before .before .before .before .before .before .before .before .before .before in
-    after-links .links .given
+  abbrev glyph-set-back : tie.After-glyph-set
+  glyph-set-back = glyphs-back .before .before
 
-same-length-4 : tie.Need-same-length-4
-same-length-4 c =
-    let after-walk = c .before .before .before .before .before .before .before .before .before .before .before .before .before .before .before .before .before .before .before .before .before .before .before .before in
-    after-walk .walk .given
+  abbrev walk-back : tie.After-walk
+  walk-back = glyph-set-back .before .before
 
-same-length-5 : tie.Need-same-length-5
-same-length-5 c =
-    let after-glyph-set = c .before .before .before .before .before .before .before .before .before .before .before .before .before .before .before .before .before .before .before .before .before .before in
-    after-glyph-set .glyph-set .given
+  abbrev links-back : tie.After-links
+  links-back = walk-back .before .before
 
-same-length-6 : tie.Need-same-length-6
-same-length-6 c = c .before .before .before .before .before .before .before .before .before .before .before .before .before .before .before .before .before .before .before .before .glyphs .given
+  abbrev objects-back : tie.After-objects
+  objects-back = links-back .before .before
 
-same-length-7 : tie.Need-same-length-7
-same-length-7 c = c .before .before .before .before .before .before .before .before .before .before .before .before .before .before .before .before .before .before .classes .given
-
-same-length-8 : tie.Need-same-length-8
-same-length-8 c = c .before .before .before .before .before .before .before .before .before .before .before .before .before .before .before .before .cuts .given
-
-same-length-9 : tie.Need-same-length-9
-same-length-9 c = c .before .before .before .before .before .before .before .before .before .before .before .before .before .before .new-tables .given
-
-returns : tie.Need-returns
-returns c = tt
+  abbrev data-back : tie.After-data
+  data-back = objects-back .before .before
 
 pub call-split-spec : {M : Type 1} → statement M
 call-split-spec =
     tie.close
     (tie.spec
-    either-split-requires
-    of-scratch-requires
-    mix-store-requires
-    mix-u32-requires
-    same-length
-    same-length-2
-    same-length-3
-    same-length-4
-    same-length-5
-    same-length-6
-    same-length-7
-    same-length-8
-    same-length-9
-    returns)
+    (λ c κs. tt)
+    (λ c κs. tt)
+    (λ c κs. tt)
+    (λ c κs. tt)
+    (λ c. data-back c .«data» .given)
+    (λ c. objects-back c .objects .given)
+    (λ c. links-back c .links .given)
+    (λ c. walk-back c .walk .given)
+    (λ c. glyph-set-back c .glyph-set .given)
+    (λ c. glyphs-back c .glyphs .given)
+    (λ c. classes-back c .classes .given)
+    (λ c. cuts-back c .cuts .given)
+    (λ c. new-tables-back c .new-tables .given)
+    (λ c. tt))

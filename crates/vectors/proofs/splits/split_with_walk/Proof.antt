@@ -5,63 +5,43 @@ use lib.ListN.{length-replicate}
 use Rattle.vectors.proofs.splits.split_with_walk.Statement.{statement}
 use Rattle.vectors.proofs.splits.split_with_walk.Tie as tie
 
-slice-aggregate-lay-u32 : tie.Need-slice-aggregate-lay-u32
-slice-aggregate-lay-u32 c = refl
+-- from where the parts are lent, back: each array as it is laid; what is laid fits (.0), and the length stays (.1)
+module _ (c : tie.After-split-with-glyphs-arg4) where
+  abbrev glyph-set-laid : tie.After-lay-u8
+  glyph-set-laid = c .before .before .before .before .before
 
-lay-u32-requires : tie.Need-lay-u32-requires
-lay-u32-requires c κs = tt
+  abbrev walk-laid : tie.After-lay-u32
+  walk-laid = glyph-set-laid .before .before .before
 
-slice-aggregate-lay-u8 : tie.Need-slice-aggregate-lay-u8
-slice-aggregate-lay-u8 c = sym (length-replicate {A = ℕ} 16384 0)
+-- from the end back: each slice as it comes back, with the length that it had
+module _ (c : tie.After-slice-known8) where
+  abbrev new-tables-back : tie.After-new-tables
+  new-tables-back = c .before
 
-lay-u8-requires : tie.Need-lay-u8-requires
-lay-u8-requires c κs = tt
+  abbrev links-back : tie.After-links
+  links-back = new-tables-back .before .before .before .before
 
-array-borrow-prefix-walk : tie.Need-array-borrow-prefix-walk
-array-borrow-prefix-walk c = c .before .before .before .before .before .before .before .before .lay-u32 .ensures .0
+  abbrev objects-back : tie.After-objects
+  objects-back = links-back .before .before
 
-slice-aggregate-split-with-glyphs : tie.Need-slice-aggregate-split-with-glyphs
-slice-aggregate-split-with-glyphs c = c .before .before .before .before .before .before .before .before .before .lay-u32 .ensures .1
-
-array-borrow-prefix-glyph-set : tie.Need-array-borrow-prefix-glyph-set
-array-borrow-prefix-glyph-set c = c .before .before .before .before .before .before .lay-u8 .ensures .0
-
-slice-aggregate-split-with-glyphs-2 : tie.Need-slice-aggregate-split-with-glyphs-2
-slice-aggregate-split-with-glyphs-2 c = c .before .before .before .before .before .before .before .lay-u8 .ensures .1
-
-split-with-glyphs-requires : tie.Need-split-with-glyphs-requires
-split-with-glyphs-requires c κs = tt
-
-same-length : tie.Need-same-length
-same-length c = c .before .before .before .before .before .before .before .before .before .«data» .given
-
-same-length-2 : tie.Need-same-length-2
-same-length-2 c = c .before .before .before .before .before .before .before .objects .given
-
-same-length-3 : tie.Need-same-length-3
-same-length-3 c = c .before .before .before .before .before .links .given
-
-same-length-4 : tie.Need-same-length-4
-same-length-4 c = c .before .new-tables .given
-
-returns : tie.Need-returns
-returns c = tt
+  abbrev data-back : tie.After-data
+  data-back = objects-back .before .before
 
 pub split-with-walk-spec : {M : Type 1} → statement M
 split-with-walk-spec =
     tie.close
     (tie.spec
-    slice-aggregate-lay-u32
-    lay-u32-requires
-    slice-aggregate-lay-u8
-    lay-u8-requires
-    array-borrow-prefix-walk
-    slice-aggregate-split-with-glyphs
-    array-borrow-prefix-glyph-set
-    slice-aggregate-split-with-glyphs-2
-    split-with-glyphs-requires
-    same-length
-    same-length-2
-    same-length-3
-    same-length-4
-    returns)
+    (λ c. refl)
+    (λ c κs. tt)
+    (λ c. sym (length-replicate {A = ℕ} 16384 0))
+    (λ c κs. tt)
+    (λ c. walk-laid c .lay-u32 .ensures .0)
+    (λ c. walk-laid (c .before) .lay-u32 .ensures .1)
+    (λ c. glyph-set-laid (c .before) .lay-u8 .ensures .0)
+    (λ c. glyph-set-laid (c .before .before) .lay-u8 .ensures .1)
+    (λ c κs. tt)
+    (λ c. data-back c .«data» .given)
+    (λ c. objects-back c .objects .given)
+    (λ c. links-back c .links .given)
+    (λ c. new-tables-back c .new-tables .given)
+    (λ c. tt))
