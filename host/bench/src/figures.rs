@@ -31,6 +31,8 @@ pub struct Figures {
     pub split: Compared,
     /// The cut plans.
     pub plan: Compared,
+    /// Quartiles of our cut plan's time by that of the oracle's whole split, turn by turn.
+    pub plan_by_split: [f64; 3],
     /// The splits by the second edition.
     pub second_split: Second,
     /// The cut plans by the second edition.
@@ -79,6 +81,10 @@ impl Figures {
             repetitions: runs[0].split.ours.len(),
             split: Compared::new(runs.iter().map(|run| &run.split)),
             plan: Compared::new(runs.iter().map(|run| &run.plan)),
+            plan_by_split: ratios(
+                runs.iter()
+                    .flat_map(|run| run.plan.ours.iter().zip(&run.split.oracle)),
+            ),
             second_split: Second::new(runs.iter().map(|run| &run.split_by)),
             second_plan: Second::new(runs.iter().map(|run| &run.plan_by)),
         }

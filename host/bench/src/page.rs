@@ -46,26 +46,38 @@ stand one beside the other, sparse ones as far apart as there is room (half of a
 count glyphs.
 ";
 
+const HEADS: [&str; 11] = [
+    "table",
+    "numbered",
+    "objects",
+    "links",
+    "data bytes",
+    "glyphs",
+    "cuts",
+    "stores × turns",
+    "ours",
+    "oracle",
+    "ours / oracle",
+];
+
+const WHOLE_SPLIT: &str = "\
+The last column is our cut plan by the oracle's whole split, which is what the crate has for one who asks for cut places.
+";
+
 /// All tables.
 pub fn text(figures: &[Figures]) -> String {
     let mut text = String::new();
-    for (name, compared) in [("Split", split as Of), ("Cut plan", plan)] {
-        let rows = figures.iter().map(|input| row(input, compared(input)));
-        let heads = [
-            "table",
-            "numbered",
-            "objects",
-            "links",
-            "data bytes",
-            "glyphs",
-            "cuts",
-            "stores × turns",
-            "ours",
-            "oracle",
-            "ours / oracle",
-        ];
-        write_table(&mut text, name, &heads, rows);
-    }
+    let rows = figures.iter().map(|input| row(input, &input.split));
+    write_table(&mut text, "Split", &HEADS, rows);
+    let rows = figures.iter().map(|input| {
+        let mut cells = row(input, &input.plan);
+        cells.push(ratio(input.plan_by_split));
+        cells
+    });
+    let heads = [&HEADS[..], &["ours / its split"]].concat();
+    write_table(&mut text, "Cut plan", &heads, rows);
+    text += "\n";
+    text += WHOLE_SPLIT;
     let heads = [
         "table",
         "numbered",
