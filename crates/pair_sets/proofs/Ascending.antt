@@ -10,11 +10,11 @@ use native.Mathlib.Omega.{arith}
 use lib.ListN.{length, drop, getD}
 use lib.Seq.{drop-nil, getD-drop}
 use lib.Dec.{leb, ltb, eqb}
-use borrow.Author.Tests.{leb-true, eqb-true, eq-eqb, ne-eqb, le-leb, lt-leb}
+use borrow.Author.Tests.{leb-true, eqb-true, eq-eqb, ne-eqb, le-leb}
 use Rattle.folds.specs.Folds.{before}
 use Rattle.folds.proofs.Agree.{both-ways}
-use Rattle.folds.proofs.Tests.{and-both, and-intro, and-first, by-index, by-test, either, true-false}
-use Rattle.folds.proofs.Folds.{all-at, all-intro, all-fails, before-none, before-more}
+use Rattle.folds.proofs.Tests.{and-both, and-intro, and-first, by-test, either, true-false}
+use Rattle.folds.proofs.Folds.{all-at, all-intro}
 use Rattle.folds.proofs.Halving.{Rising}
 use Rattle.ot_layouts.specs.Numbers.{u16At}
 use Rattle.ot_layouts.specs.PairPos.{ascending, setSorted}

@@ -16,7 +16,7 @@ use Rattle.folds.proofs.Folds.{all-at, all-intro}
 use Rattle.ot_layouts.specs.PairPos.{setSorted}
 use Rattle.store_rules.specs.Store.{Store, perLink, rowPosition, rowChild, bytesOf, positionOf, childOf}
 use Rattle.pair_sets.specs.Sets.{isSetSlot, leadsSorted}
-use Rattle.pair_sets.specs.Marked.{RowLeads, LeadsTo, MarksSets, markSorted}
+use Rattle.pair_sets.specs.Marked.{LeadsTo, MarksSets, markSorted}
 use Rattle.pair_sets.proofs.Slots.{at-slot, at-no-slot}
 
 -- ---- row by row

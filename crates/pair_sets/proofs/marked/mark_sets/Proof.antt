@@ -1,7 +1,7 @@
 -- `pair_sets::marked::mark_sets` meets its contract: what the rows before `k` lead to has a mark. Assumes nothing.
 use borrow.Author.Needs.{needs}
-use Prim.Native.Nat.{ℕ, _-_, _≤_}
-use mathlib.Core.Path.{_≡_, refl, sym, ap, _∙_}
+use Prim.Native.Nat.{_-_, _≤_}
+use mathlib.Core.Path.{_≡_, refl}
 use native.Mathlib.Omega.{arith}
 use lib.ListN.{length}
 use Rattle.pair_sets.specs.Marked.{MarksSets}
