@@ -18,7 +18,7 @@ use Rattle.folds.proofs.Folds.{all-at, all-intro}
 use Rattle.folds.proofs.Halving.{Rising}
 use Rattle.ot_layouts.specs.Numbers.{u16At}
 use Rattle.ot_layouts.specs.PairPos.{ascending, setSorted}
-use Rattle.pair_sets.specs.Rising.{secondAt, RecordsThere, rises}
+use Rattle.pair_sets.specs.Rising.{secondAt, rises}
 use Rattle.pair_sets.proofs.Widths.{record-within}
 
 drop-drop : (m n : ℕ) (xs : List ℕ) → drop m (drop n xs) ≡ drop (n + m) xs
@@ -32,9 +32,9 @@ u16-drop b k =
     let e : k + 0 ≡ k = omega arith in
     ap₂ (λ (x y : ℕ). 256 * x + y) (getD-drop k b 0 0 ∙ ap (λ (i : ℕ). getD b i 0) e) (getD-drop k b 1 0)
 
--- record i is one of those that are there
-pub glyph-within : {b : List ℕ} {size k n : ℕ} → RecordsThere b size k n → (i : ℕ) → i < k + n → 2 + (2 + size) * i + (2 + size) ≤ length b
-glyph-within {b} {size} {k} {n} t i l = omega (arith, record-within (2 + size) i (k + n) l, t .long)
+-- record i of n stands in the set
+pub glyph-within : {b : List ℕ} {size n : ℕ} → length b ≡ 2 + (2 + size) * n → (i : ℕ) → i < n → 2 + (2 + size) * i + (2 + size) ≤ length b
+glyph-within {b} {size} {n} long i l = omega (arith, record-within (2 + size) i n l)
 
 module _ (b : List ℕ) (size : ℕ) where
   abbrev second : ℕ → ℕ
@@ -98,19 +98,19 @@ module _ (b : List ℕ) (size : ℕ) where
   -- ---- records in parts
 
   -- where some do not, those that they are among do not
-  pub part : (a n c m : ℕ) → rises b size c m ≡ false → a ≤ c → c + m ≤ a + n → false ≡ rises b size a n
-  part a n c m f l e =
+  pub part-fails : (a n c m : ℕ) → rises b size c m ≡ false → a ≤ c → c + m ≤ a + n → false ≡ rises b size a n
+  part-fails a n c m f l e =
       by-test (rises b size a n)
       (λ t. true-false (sym (rises-each c m (λ j lo hi. rises-at a n t j (omega arith) (omega arith))) ∙ f))
       (λ h. sym h)
 
   -- where all do, the first of them do
-  pub front : (a n m : ℕ) → rises b size a n ≡ true → m ≤ n → rises b size a m ≡ true
-  front a n m t l = rises-each a m (λ j lo hi. rises-at a n t j lo (omega arith))
+  pub front-rises : (a n m : ℕ) → rises b size a n ≡ true → m ≤ n → rises b size a m ≡ true
+  front-rises a n m t l = rises-each a m (λ j lo hi. rises-at a n t j lo (omega arith))
 
   -- where the first p of them do, the rest decides
-  pub rest : (a p c m n : ℕ) → rises b size a p ≡ true → a ≤ c → c ≤ a + p → c + m ≡ a + n → rises b size c m ≡ rises b size a n
-  rest a p c m n h l k e =
+  pub rest-decides : (a p c m n : ℕ) → rises b size a p ≡ true → a ≤ c → c ≤ a + p → c + m ≡ a + n → rises b size c m ≡ rises b size a n
+  rest-decides a p c m n h l k e =
       both-ways (rises b size c m) (rises b size a n)
       (λ t.
       rises-each a n

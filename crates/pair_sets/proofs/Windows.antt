@@ -10,7 +10,7 @@ use lib.ListN.{length}
 use borrow.Author.Tests.{not-true, not-false}
 use Rattle.folds.proofs.Tests.{either}
 use Rattle.pair_sets.specs.Rising.{rises}
-use Rattle.pair_sets.proofs.Ascending.{rises-none, front, part, rest}
+use Rattle.pair_sets.proofs.Ascending.{rises-none, front-rises, part-fails, rest-decides}
 
 -- of n records: from record k on, whose place is p, stand seventeen, and behind the first of all k rise
 pub record Passed (b : List ℕ) (size n p : ℕ) : Type 0 where
@@ -26,8 +26,7 @@ none-passed b size n l = record { k = 0; place = omega arith; there = omega arit
 last-place : (w n : ℕ) → 17 ≤ n → 2 + w * n - 17 * w ≡ 2 + w * (n - 17)
 last-place w n l =
     let e : n - 17 + 17 ≡ n = omega arith in
-    let d = n - 17 in
-    ap (λ (m : ℕ). 2 + w * m - 17 * w) (sym e) ∙ the-rest d
+    ap (λ (m : ℕ). 2 + w * m - 17 * w) (sym e) ∙ the-rest (n - 17)
   where
     the-rest : (d : ℕ) → 2 + w * (d + 17) - 17 * w ≡ 2 + w * d
     the-rest d = omega arith
@@ -37,14 +36,14 @@ module _ {b : List ℕ} {size n p : ℕ} (v : Passed b size n p) (long : length 
   within = omega (arith, mul-le-mul-left (2 + size) (v .there), v .place)
 
   pub fails : {t : Bool} → t ≡ rises b size (v .k) 16 → not t ≡ true → false ≡ rises b size 0 (n - 1)
-  fails {t} e h = part b size 0 (n - 1) (v .k) 16 (sym e ∙ not-true t h) (omega arith) (omega (arith, v .there))
+  fails {t} e h = part-fails b size 0 (n - 1) (v .k) 16 (sym e ∙ not-true t h) (omega arith) (omega (arith, v .there))
 
   last-there : length b - 17 * (2 + size) ≡ 2 + (2 + size) * (n - 17)
   last-there = ap (λ (m : ℕ). m - 17 * (2 + size)) long ∙ last-place (2 + size) n (omega (arith, v .there))
 
   module _ {t : Bool} (e : t ≡ rises b size (v .k) 16) (h : not t ≡ false) where
     all-up : rises b size 0 (v .k + 16) ≡ true
-    all-up = sym (rest b size 0 (v .k) (v .k) 16 (v .k + 16) (v .up) (omega arith) (omega arith) (omega arith)) ∙ sym e ∙ not-false t h
+    all-up = sym (rest-decides b size 0 (v .k) (v .k) 16 (v .k + 16) (v .up) (omega arith) (omega arith) (omega arith)) ∙ sym e ∙ not-false t h
 
     -- they were the last
     pub ends : length b - 17 * (2 + size) ≤ p → true ≡ rises b size 0 (n - 1)
@@ -69,6 +68,6 @@ module _ {b : List ℕ} {size n p : ℕ} (v : Passed b size n p) (long : length 
           k = n - 17;
           place = omega (arith, mul-le-mul-left (2 + size) l, last-there, v .place);
           there = omega (arith, v .there);
-          up = front b size 0 (v .k + 16) (n - 17) all-up l;
+          up = front-rises b size 0 (v .k + 16) (n - 17) all-up l;
         })
         (either (v .k + 16) (n - 17))

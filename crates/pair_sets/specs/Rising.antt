@@ -1,9 +1,8 @@
 -- Records of a pair set whose second glyphs rise. Assumes nothing.
-use Prim.Native.Nat.{ℕ, _+_, _*_, _≤_, _<_}
+use Prim.Native.Nat.{ℕ, _+_, _*_}
 use mathlib.Core.Path.{_≡_}
 use mathlib.Core.Bool.{Bool}
 use mathlib.Core.List.{List}
-use lib.ListN.{length}
 use lib.Dec.{ltb}
 use Rattle.folds.specs.Folds.{all}
 use Rattle.ot_layouts.specs.Numbers.{u16At}
@@ -11,11 +10,6 @@ use Rattle.ot_layouts.specs.Numbers.{u16At}
 -- the second glyph of record r
 abbrev pub secondAt : List ℕ → ℕ → ℕ → ℕ
 secondAt b size r = u16At b (2 + (2 + size) * r)
-
--- the n records from k on stand in the set
-pub record RecordsThere (b : List ℕ) (size k n : ℕ) : Type 0 where
-  pub long : 2 + (2 + size) * (k + n) ≤ length b
-  pub few : k + n < 65536
 
 -- behind record k stand n whose glyphs are each above the one before
 unfoldable pub rises : List ℕ → ℕ → ℕ → ℕ → Bool

@@ -11,7 +11,7 @@ ghost use lib.ListN.{length};
 ghost use Rattle.ot_layouts.specs.PairPos.{setSorted, firstRecord};
 ghost use Rattle.folds.specs.Moments.{came};
 ghost use Rattle.pair_sets.specs.Sets.{recordFound};
-ghost use Rattle.pair_sets.specs.Rising.{secondAt, RecordsThere, rises, RisesFrom};
+ghost use Rattle.pair_sets.specs.Rising.{secondAt, rises, RisesFrom};
 
 // The record of a pair set that a search finds.
 pub enum Found {
@@ -87,7 +87,7 @@ fn many_rise(set: &[u8], size: usize, count: usize) -> bool
 
 // Whether the glyphs of a set rise, one by one.
 fn few_rise(set: &[u8], size: usize, count: usize) -> bool
-    requires { ⌜ RecordsThere (now set) size 0 count ⌝ }
+    requires { ⌜ (length (now set) ≡ 2 + (2 + size) * count) × (count < 65536) ⌝ }
     ensures { λ r. ⌜ r ≡ rises (came set) size 0 (count - 1) ⌝ }
 {
     if count == 0 {

@@ -20,16 +20,16 @@ returns : tie.Need-returns Inv-loop μ-loop
 returns c = sym (rises-none _ _ 0 (c .before .before .args .count - 1) (omega arith))
 
 glyph-of-requires : tie.Need-glyph-of-requires Inv-loop μ-loop
-glyph-of-requires c κs = glyph-within (c .before .before .pre) 0 (omega arith)
+glyph-of-requires c κs = glyph-within (c .before .before .pre .0) 0 (omega arith)
 
 loop-holds : tie.Need-loop-holds Inv-loop μ-loop
 loop-holds c = (omega arith, c .glyph-of .ensures, rises-none _ _ 0 0 refl)
 
 add-loop : tie.Need-add-loop Inv-loop μ-loop
-add-loop c = omega (arith, c .before .before .before .before .pre .few)
+add-loop c = omega (arith, c .before .before .before .before .pre .1)
 
 glyph-of-requires-2 : tie.Need-glyph-of-requires-2 Inv-loop μ-loop
-glyph-of-requires-2 c κs = glyph-within (c .before .before .before .before .before .pre) (c .before .loop .k + 1) (omega arith)
+glyph-of-requires-2 c κs = glyph-within (c .before .before .before .before .before .pre .0) (c .before .loop .k + 1) (omega arith)
 
 returns-2 : tie.Need-returns-2 Inv-loop μ-loop
 returns-2 c =
