@@ -19,7 +19,6 @@ use Rattle.folds.proofs.Halving.{Rising}
 use Rattle.ot_layouts.specs.Numbers.{u16At}
 use Rattle.ot_layouts.specs.PairPos.{ascending, setSorted}
 use Rattle.pair_sets.specs.Rising.{secondAt, rises}
-use Rattle.pair_sets.proofs.Widths.{record-within}
 
 drop-drop : (m n : ℕ) (xs : List ℕ) → drop m (drop n xs) ≡ drop (n + m) xs
 drop-drop m zero xs = let e : 0 + m ≡ m = omega arith in ap (λ (k : ℕ). drop k xs) (sym e)
@@ -31,10 +30,6 @@ unfolding u16At
 u16-drop b k =
     let e : k + 0 ≡ k = omega arith in
     ap₂ (λ (x y : ℕ). 256 * x + y) (getD-drop k b 0 0 ∙ ap (λ (i : ℕ). getD b i 0) e) (getD-drop k b 1 0)
-
--- record i of n stands in the set
-pub glyph-within : {b : List ℕ} {size n : ℕ} → length b ≡ 2 + (2 + size) * n → (i : ℕ) → i < n → 2 + (2 + size) * i + (2 + size) ≤ length b
-glyph-within {b} {size} {n} long i l = omega (arith, record-within (2 + size) i n l)
 
 module _ (b : List ℕ) (size : ℕ) where
   abbrev second : ℕ → ℕ

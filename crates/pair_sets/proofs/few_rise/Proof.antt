@@ -6,7 +6,8 @@ use mathlib.Core.Bool.{true}
 use native.Mathlib.Omega.{arith}
 use denote.Ref.{now}
 use Rattle.pair_sets.specs.Rising.{secondAt, rises}
-use Rattle.pair_sets.proofs.Ascending.{glyph-within, rises-none, rises-not, rises-more}
+use Rattle.pair_sets.proofs.Widths.{record-within}
+use Rattle.pair_sets.proofs.Ascending.{rises-none, rises-not, rises-more}
 use Rattle.pair_sets.proofs.few_rise.Statement.{statement}
 use Rattle.pair_sets.proofs.few_rise.Tie as tie
 
@@ -20,7 +21,7 @@ returns : tie.Need-returns Inv-loop μ-loop
 returns c = sym (rises-none _ _ 0 (c .before .before .args .count - 1) (omega arith))
 
 glyph-of-requires : tie.Need-glyph-of-requires Inv-loop μ-loop
-glyph-of-requires c κs = glyph-within (c .before .before .pre .0) 0 (omega arith)
+glyph-of-requires c κs = let a = c .before .before .args in omega (arith, record-within (2 + a .size) 0 (a .count) (omega arith))
 
 loop-holds : tie.Need-loop-holds Inv-loop μ-loop
 loop-holds c = (omega arith, c .glyph-of .ensures, rises-none _ _ 0 0 refl)
@@ -29,7 +30,7 @@ add-loop : tie.Need-add-loop Inv-loop μ-loop
 add-loop c = omega (arith, c .before .before .before .before .pre .1)
 
 glyph-of-requires-2 : tie.Need-glyph-of-requires-2 Inv-loop μ-loop
-glyph-of-requires-2 c κs = glyph-within (c .before .before .before .before .before .pre .0) (c .before .loop .k + 1) (omega arith)
+glyph-of-requires-2 c κs = let a = c .before .before .before .before .before .args in omega (arith, record-within (2 + a .size) (c .before .loop .k + 1) (a .count) (omega arith))
 
 returns-2 : tie.Need-returns-2 Inv-loop μ-loop
 returns-2 c =
