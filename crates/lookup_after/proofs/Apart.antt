@@ -15,7 +15,7 @@ use Rattle.folds.proofs.Each.{each-among}
 use Rattle.ot_layouts.specs.PairPos.{formatOf, coverAt}
 use Rattle.ot_layouts.specs.Lookup.{isOneOf, lookupCount, listHeader, listExact, lookupExact, isSubtableSlot}
 use Rattle.ot_layouts.proofs.Shapes.{header-long}
-use Rattle.store_rules.specs.Store.{Store, linkAt, bytesOf, childAt, allAt, ofParent}
+use Rattle.store_rules.specs.Store.{Store, linkAt, bytesOf, childAt, allAt, offsetOf}
 use Rattle.store_rules.specs.Reach.{onCycle}
 use Rattle.store_rules.proofs.Sound.{Fits}
 use Rattle.store_rules.proofs.Reached.{reached-all}
@@ -30,7 +30,7 @@ use Rattle.lookup_rules.proofs.Listed.{stands-at, good-exact, naming-slot, list
 -- what reaches t is said to
 pub way-reaches : (s : Store) → Fits s → (u t : ℕ) → Way s u t → reaches s u t ≡ true
 unfolding reaches
-way-reaches s f u t w = reached-all s (λ k. ofParent u (linkAt s k)) f w
+way-reaches s f u t w = reached-all s (λ k. offsetOf u (linkAt s k)) f w
 
 -- ---- 9 does not apply
 

@@ -6,7 +6,7 @@ use lib.ListN.{length, getD}
 use lib.Dec.{eqb}
 use Rattle.folds.specs.Folds.{upto}
 use Rattle.folds.specs.Lists.{sift}
-use Rattle.store_rules.specs.Store.{Link, perLink, rowChild, ofParent}
+use Rattle.store_rules.specs.Store.{Link, perLink, rowChild, offsetOf}
 use Rattle.store_rules.specs.Appended.{link}
 use Rattle.store_reader.specs.Rows.{InOrder}
 use Rattle.store_link_rows.specs.Rows.{linkIn, positionIn}
@@ -29,7 +29,7 @@ linksEntered t us u up (l ∷ ls) = linkEntered t us u up l ++ linksEntered t us
 
 -- those of the old lookup p
 unfoldable pub lookupCopies : ℕ → List ℕ → List Link → ℕ → ℕ → List Link
-lookupCopies t us old p u = linksEntered t us u 0 (sift (ofParent p) old)
+lookupCopies t us old p u = linksEntered t us u 0 (sift (offsetOf p) old)
 
 -- ---- how it is written
 

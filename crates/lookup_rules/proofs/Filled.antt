@@ -16,7 +16,7 @@ use Rattle.folds.proofs.Folds.{flat-none, upto-cons, upto-same}
 use Rattle.folds.proofs.Each.{Each, each-upto}
 use Rattle.ot_layouts.specs.Lookup.{isOneOf, lookupHeader, subtableCount, lookupExact, isSubtableSlot}
 use Rattle.ot_layouts.proofs.LookupSlots.{which-slot}
-use Rattle.store_rules.specs.Store.{Store, Link, lookup, linksOf, linkAt, childAt, bytesOf, positionOf, ofParent, allAt}
+use Rattle.store_rules.specs.Store.{Store, Link, lookup, linksOf, linkAt, childAt, bytesOf, positionOf, offsetOf, allAt}
 use Rattle.store_rules.proofs.Sound.{Fits}
 use Rattle.store_rules.proofs.Slots.{one-stands}
 use Rattle.store_rules.proofs.Lookups.{hit}
@@ -102,7 +102,7 @@ module _ (p : ℕ) where
 
   -- ---- those of a sound store
 
-  lookup-own : (ls : List Link) (q : ℕ) → lookup (sift (ofParent p) ls) p q ≡ lookup ls p q
+  lookup-own : (ls : List Link) (q : ℕ) → lookup (sift (offsetOf p) ls) p q ≡ lookup ls p q
   unfolding lookup sift
   lookup-own [] q = refl
   lookup-own (l ∷ ls) q =
@@ -132,7 +132,7 @@ module _ (p : ℕ) where
     not-before j x y v w (inr (inr (l, k))) (inl m) e i s = absurd (omega arith)
     not-before j x y v w (inr (inr (l, k))) (inr (m, h)) e i s = omega arith
 
-    own-stand : (ls : List Link) (x y z j : ℕ) → Climb x y z ls → Each AtSlot ls → Before j x y → Stands (a + 2 * j) (a + 2 * n) (sift (ofParent p) ls)
+    own-stand : (ls : List Link) (x y z j : ℕ) → Climb x y z ls → Each AtSlot ls → Before j x y → Stands (a + 2 * j) (a + 2 * n) (sift (offsetOf p) ls)
     unfolding sift
     own-stand [] x y z j c at b = tt
     own-stand (l ∷ ls) x y z j c at b =
@@ -143,13 +143,13 @@ module _ (p : ℕ) where
         let k = not-before j x y (l .parent) (l .position) b (c .0) parent i s in
         let next : a + 2 * (i + 1) ≡ l .position + 2 = omega arith in
         let rest = own-stand ls (l .parent) (l .position + 1) z (i + 1) (c .1) (at .1) (inr (inr (sym parent, omega arith))) in
-        rw e (parent, omega arith, (i - j, omega arith), subst (λ (q : ℕ). Stands q (a + 2 * n) (sift (ofParent p) ls)) next rest))
+        rw e (parent, omega arith, (i - j, omega arith), subst (λ (q : ℕ). Stands q (a + 2 * n) (sift (offsetOf p) ls)) next rest))
         (λ e. rw e (own-stand ls (l .parent) (l .position + 1) z j (c .1) (at .1) (still-before j x y (l .parent) (l .position) b (c .0))))
 
-  pub slots-filled : (s : Store) → Fits s → (a n : ℕ) → allAt s p (isOneOf a n) ≡ true → Filled a (sift (ofParent p) (linksOf s)) (slotsAt s p a n)
+  pub slots-filled : (s : Store) → Fits s → (a n : ℕ) → allAt s p (isOneOf a n) ≡ true → Filled a (sift (offsetOf p) (linksOf s)) (slotsAt s p a n)
   unfolding slotsAt childAt linksOf
   slots-filled s f a n stand =
-      let own = sift (ofParent p) (linksOf s) in
+      let own = sift (offsetOf p) (linksOf s) in
       let at : Each (AtSlot a n) (linksOf s)
       = each-upto (AtSlot a n) (linkAt s) (s .linkCount) (λ k l e. which-slot a n (positionOf s k) (one-stands s p (isOneOf a n) stand k l e)) in
       let first : a + 2 * 0 ≡ a = omega arith in
@@ -159,7 +159,7 @@ module _ (p : ℕ) where
       (stand-filled n a (a + 2 * n) own refl stands)
 
 -- the links of a lookup that 9 does not refuse fill its subtable slots
-pub lookup-filled : (s : Store) → Fits s → (p : ℕ) → goodLookup s p ≡ true → Filled lookupHeader (sift (ofParent p) (linksOf s)) (subtableSlots s p)
+pub lookup-filled : (s : Store) → Fits s → (p : ℕ) → goodLookup s p ≡ true → Filled lookupHeader (sift (offsetOf p) (linksOf s)) (subtableSlots s p)
 unfolding goodLookup subtableSlots isSubtableSlot
 lookup-filled s f p good =
     let b = bytesOf s p in

@@ -6,7 +6,7 @@ use mathlib.Core.List.{List, map}
 use Rattle.folds.specs.Lists.{among, sift}
 use Rattle.folds.proofs.Tests.{and-both}
 use Rattle.ot_layouts.specs.Lookup.{lookupCount, listHeader, listExact, isListSlot}
-use Rattle.store_rules.specs.Store.{Store, linksOf, bytesOf, ofParent, allAt}
+use Rattle.store_rules.specs.Store.{Store, linksOf, bytesOf, offsetOf, allAt}
 use Rattle.store_rules.proofs.Sound.{Fits}
 use Rattle.lookup_rules.specs.Listed.{linkedIn, listSlots, subtableSlots, names, goodList, goodLookup}
 use Rattle.lookup_rules.proofs.Slots.{leads-among}
@@ -14,7 +14,7 @@ use Rattle.lookup_rules.proofs.Filled.{filled-linked, slots-filled, loo
 
 -- the children of object p, in that order
 abbrev pub childrenOf : Store → ℕ → List ℕ
-childrenOf s p = map (λ l. l .child) (sift (ofParent p) (linksOf s))
+childrenOf s p = map (λ l. l .child) (sift (offsetOf p) (linksOf s))
 
 module _ (s : Store) (fit : Fits s) (p : ℕ) where
   pub list-linked : goodList s p ≡ true → linkedIn (listSlots s p) ≡ childrenOf s p

@@ -2,7 +2,7 @@
 use Prim.Native.Nat.{ℕ}
 use mathlib.Core.Bool.{Bool}
 use mathlib.Core.List.{List}
-use Rattle.store_rules.specs.Store.{Store, linkAt, ofParent}
+use Rattle.store_rules.specs.Store.{Store, linkAt, offsetOf}
 use Rattle.store_rules.specs.Reach.{marked, reached}
 use Rattle.pair_rules.specs.Calls.{PairOutcome, readInOrder}
 use Rattle.lookup_rules.specs.Listed.{linkedIn, subtableSlots}
@@ -17,7 +17,7 @@ applied s p a b = readInOrder s (subtables s p) a b
 
 -- object u "reaches" object t, along any links; `onCycle` of t is that t reaches itself
 unfoldable pub reaches : Store → ℕ → ℕ → Bool
-reaches s u t = marked (reached s (λ k. ofParent u (linkAt s k))) t
+reaches s u t = marked (reached s (λ k. offsetOf u (linkAt s k))) t
 
 -- all of this file's definitions, for checks that compute
 unfoldable pub computes : Unit {0}

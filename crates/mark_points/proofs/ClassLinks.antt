@@ -35,7 +35,7 @@ use Rattle.ot_layouts.specs.MarkBasePos.{
   columnAt,
   basesReadable,
 }
-use Rattle.store_rules.specs.Store.{Store, Link, linkAt, parentOf, positionOf, sizeOf, ofParent, allAt, childAt, linkedBytes}
+use Rattle.store_rules.specs.Store.{Store, Link, linkAt, parentOf, positionOf, sizeOf, offsetOf, allAt, childAt, linkedBytes}
 use Rattle.store_rules.specs.Reach.{rowsOf}
 use Rattle.store_rules.proofs.Sound.{Fits, sound-fits, size-bytes, size-most}
 use Rattle.store_rules.proofs.Lookups.{linked-used}
@@ -249,8 +249,8 @@ module _ {s : Store} {t : ℕ} {x : TableInfo} {ps cs : List ℕ} (u : Described
         let l : Link = linkAt s k in
         let c : ℕ = classBefore (markBytes s t) (positionOf s k) in
         let d : ℕ = columnAt (classesOf s t) (positionOf s k) in
-        let marks : Bool = ofParent (markArray s t) l in
-        let bases : Bool = ofParent (baseArray s t) l in
+        let marks : Bool = offsetOf (markArray s t) l in
+        let bases : Bool = offsetOf (baseArray s t) l in
         let in-marks : marks && among (positionOf s k) (map markSlot (its i)) ≡ marks && inClasses i (i + 1) c =
         where-true marks _ _ (λ e. mark-row i k h (eqb-true (parentOf s k) (markArray s t) e)) in
         let in-bases : bases && among (positionOf s k) (columnSlots (basesIn s t) (classesOf s t) i) ≡ bases && inClasses i (i + 1) d =
@@ -264,7 +264,7 @@ module _ {s : Store} {t : ℕ} {x : TableInfo} {ps cs : List ℕ} (u : Described
   unfolding ofClasses
   class-none i k =
       rw (range-none i (classBefore (markBytes s t) (positionOf s k)), range-none i (columnAt (classesOf s t) (positionOf s k)))
-      (neither (ofParent (markArray s t) (linkAt s k)) (ofParent (baseArray s t) (linkAt s k)))
+      (neither (offsetOf (markArray s t) (linkAt s k)) (offsetOf (baseArray s t) (linkAt s k)))
     where
       neither : (b c : Bool) → b && false || c && false ≡ false
       neither true true = refl

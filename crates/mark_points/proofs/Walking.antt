@@ -16,7 +16,7 @@ use Rattle.folds.proofs.Folds.{length-upto}
 use Rattle.folds.proofs.FromTheFront.{upto-at}
 use Rattle.folds.proofs.Moved.{map-upto}
 use Rattle.folds.proofs.Tests.{either}
-use Rattle.store_rules.specs.Store.{Store, lent, linkAt, parentOf, positionOf, ofParent, sound}
+use Rattle.store_rules.specs.Store.{Store, lent, linkAt, parentOf, positionOf, offsetOf, sound}
 use Rattle.store_rules.proofs.Sound.{Fits, sound-fits}
 use Rattle.store_reader.specs.Rows.{keyOf, FirstRow}
 use Rattle.store_reader.proofs.Rows.{position-most, rows-between}
@@ -88,7 +88,7 @@ module _ {o l c : List ℕ} {p e : ℕ} where
   walks-none = record {
     grown = λ b from u v.
         let s : Store = lent b o l c in
-        grown-same (sound-fits s u) (λ k h. or-nothing (from k) (ofParent p (linkAt s k))) (grown-none v);
+        grown-same (sound-fits s u) (λ k h. or-nothing (from k) (offsetOf p (linkAt s k))) (grown-none v);
   }
 
   -- one slot more
@@ -101,8 +101,8 @@ module _ {o l c : List ℕ} {p e : ℕ} where
       also b from k =
           let s : Store = lent b o l c in
           let at : ℕ = positionOf s k in
-          gathered (from k) (ofParent p (linkAt s k)) (among at (upto f j)) (among at (f j ∷ []))
-          ∙ ap (λ (z : Bool). from k || ofParent p (linkAt s k) && z)
+          gathered (from k) (offsetOf p (linkAt s k)) (among at (upto f j)) (among at (f j ∷ []))
+          ∙ ap (λ (z : Bool). from k || offsetOf p (linkAt s k) && z)
           (ap (λ (z : Bool). among at (upto f j) || z) (among-one at (f j)) ∙ sym (among-more f at j))
 
       go : (b : List ℕ) (from : ℕ → Bool) → sound (lent b o l c) ≡ true → Marks (lent b o l c) from e w

@@ -13,7 +13,7 @@ use Rattle.folds.proofs.Joined.{or-either, or-first, or-second}
 use Rattle.folds.proofs.InRange.{between-is, is-between}
 use Rattle.ot_layouts.specs.MarkBasePos.{markArrayAt, baseArrayAt, markSlot, baseSlot, markClass, classBefore, columnAt}
 use Rattle.ot_layouts.proofs.MarkSlots.{mark-slot, base-slot, class-before, column-slot, column-of}
-use Rattle.store_rules.specs.Store.{Store, Link, linkAt, parentOf, positionOf, childOf, childAt, sizeOf, linkedAt, linkedBytes, ofParent}
+use Rattle.store_rules.specs.Store.{Store, Link, linkAt, parentOf, positionOf, childOf, childAt, sizeOf, linkedAt, linkedBytes, offsetOf}
 use Rattle.store_rules.proofs.Sound.{Fits, size-bytes}
 use Rattle.store_rules.proofs.Lookups.{child-row, child-used, linked-is}
 use Rattle.store_rules.proofs.RowChild.{row-child}
@@ -34,11 +34,11 @@ module _ (s : Store) (t : ℕ) where
 
   -- a link of the mark array whose class is one of them
   abbrev ofMarks : ℕ → ℕ → Link → Bool
-  ofMarks lo hi l = ofParent (markArray s t) l && inClasses lo hi (classBefore (markBytes s t) (l .position))
+  ofMarks lo hi l = offsetOf (markArray s t) l && inClasses lo hi (classBefore (markBytes s t) (l .position))
 
   -- one of the base array
   abbrev ofBases : ℕ → ℕ → Link → Bool
-  ofBases lo hi l = ofParent (baseArray s t) l && inClasses lo hi (columnAt (classesOf s t) (l .position))
+  ofBases lo hi l = offsetOf (baseArray s t) l && inClasses lo hi (columnAt (classesOf s t) (l .position))
 
   -- ---- each anchor has a row
 
@@ -117,6 +117,6 @@ module _ (s : Store) (t : ℕ) where
     unfolding ofClasses
     row-anchor lo hi k l h =
         ⊎-elim
-        (λ a. let (p, q) = and-both (ofParent (markArray s t) (linkAt s k)) _ a in inl (mark-row lo hi k l (eqb-true (parentOf s k) (markArray s t) p) q))
-        (λ a. let (p, q) = and-both (ofParent (baseArray s t) (linkAt s k)) _ a in inr (base-row lo hi k l (eqb-true (parentOf s k) (baseArray s t) p) q))
+        (λ a. let (p, q) = and-both (offsetOf (markArray s t) (linkAt s k)) _ a in inl (mark-row lo hi k l (eqb-true (parentOf s k) (markArray s t) p) q))
+        (λ a. let (p, q) = and-both (offsetOf (baseArray s t) (linkAt s k)) _ a in inr (base-row lo hi k l (eqb-true (parentOf s k) (baseArray s t) p) q))
         (or-either (ofMarks lo hi (linkAt s k)) (ofBases lo hi (linkAt s k)) h)

@@ -4,7 +4,7 @@ use mathlib.Core.Path.{_≡_, refl, ap₂, _∙_}
 use mathlib.Core.Bool.{Bool, true, false, _&&_, _||_}
 use Rattle.folds.proofs.InRange.{between-meet}
 use Rattle.ot_layouts.specs.MarkBasePos.{classBefore, columnAt}
-use Rattle.store_rules.specs.Store.{Store, Link, ofParent}
+use Rattle.store_rules.specs.Store.{Store, Link, offsetOf}
 use Rattle.mark_rules.specs.Table.{classesOf, markArray, baseArray, markBytes, ofClasses}
 
 -- of the marks, and of the bases, each in one part or the other
@@ -29,6 +29,6 @@ unfolding ofClasses
 classes-grow s t lo mid hi x y l =
     let class = classBefore (markBytes s t) (l .position) in
     let column = columnAt (classesOf s t) (l .position) in
-    let marks = ofParent (markArray s t) l in
-    let bases = ofParent (baseArray s t) l in
+    let marks = offsetOf (markArray s t) l in
+    let bases = offsetOf (baseArray s t) l in
     ap₂ (λ (a b : Bool). marks && a || bases && b) (between-meet lo mid hi class x y) (between-meet lo mid hi column x y) ∙ parted marks bases _ _ _ _

@@ -16,7 +16,7 @@ use Rattle.folds.proofs.Joined.{or-first, or-second}
 use Rattle.folds.proofs.Each.{Each}
 use Rattle.folds.proofs.InRange.{total, ranged-meet, between, between-is}
 use Rattle.ot_layouts.specs.MarkBasePos.{classBefore, columnAt}
-use Rattle.store_rules.specs.Store.{Store, Link, linkAt, ofParent}
+use Rattle.store_rules.specs.Store.{Store, Link, linkAt, offsetOf}
 use Rattle.store_rules.specs.Reach.{reachOf, itemSize}
 use Rattle.store_rules.proofs.Sound.{Fits}
 use Rattle.store_rules.proofs.ReachTogether.{size-more, size-none, size-adds}
@@ -86,8 +86,8 @@ module _ (s : Store) (t : ℕ) (f : Fits s) where
   none-in : (a : ℕ) (l : Link) → ofClasses s t a a l ≡ false
   unfolding ofClasses
   none-in a l =
-      rw (and-second (ofParent (markArray s t) l) (inClasses a a (classBefore (markBytes s t) (l .position))) (empty (classBefore (markBytes s t) (l .position))))
-      (and-second (ofParent (baseArray s t) l) (inClasses a a (columnAt (classesOf s t) (l .position))) (empty (columnAt (classesOf s t) (l .position))))
+      rw (and-second (offsetOf (markArray s t) l) (inClasses a a (classBefore (markBytes s t) (l .position))) (empty (classBefore (markBytes s t) (l .position))))
+      (and-second (offsetOf (baseArray s t) l) (inClasses a a (columnAt (classesOf s t) (l .position))) (empty (columnAt (classesOf s t) (l .position))))
     where
       empty : (c : ℕ) → between a a c ≡ false
       empty c = by-test (between a a c) (λ e. let (x, y) = between-is a a c e in absurd (omega arith)) (λ e. e)

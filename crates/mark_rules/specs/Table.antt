@@ -27,7 +27,7 @@ use Rattle.ot_layouts.specs.MarkBasePos.{
   columnAt,
   basesReadable,
 }
-use Rattle.store_rules.specs.Store.{Store, Link, bytesOf, sizeOf, childAt, linkedAt, linkedBytes, ofParent, allAt}
+use Rattle.store_rules.specs.Store.{Store, Link, bytesOf, sizeOf, childAt, linkedAt, linkedBytes, offsetOf, allAt}
 use Rattle.store_rules.specs.Reach.{itemSize}
 use Rattle.cut_rules.specs.Cuts.{Rule, cutsOf}
 use Rattle.call_rules.specs.declared.Settings.{Settings}
@@ -118,8 +118,8 @@ allAtSlots s t = allAt s t isTableSlot && allAt s (markArray s t) isMarkSlot && 
 -- a link of the classes lo up to hi of table t, hi left out: of their marks, or of their columns of the base array
 unfoldable pub ofClasses : Store → ℕ → ℕ → ℕ → Link → Bool
 ofClasses s t lo hi l =
-    ofParent (markArray s t) l && inClasses lo hi (classBefore (markBytes s t) (l .position))
-    || ofParent (baseArray s t) l && inClasses lo hi (columnAt (classesOf s t) (l .position))
+    offsetOf (markArray s t) l && inClasses lo hi (classBefore (markBytes s t) (l .position))
+    || offsetOf (baseArray s t) l && inClasses lo hi (columnAt (classesOf s t) (l .position))
 
 -- ---- its cuts
 

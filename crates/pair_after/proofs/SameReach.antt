@@ -13,7 +13,7 @@ use Rattle.folds.specs.Lists.{sift}
 use Rattle.folds.proofs.Tests.{by-test, true-false}
 use Rattle.folds.proofs.Each.{Each, each-upto, each-append, each-moved, each-flat, each-at}
 use Rattle.ot_layouts.specs.PairPos.{Shape, heads, isSlot}
-use Rattle.store_rules.specs.Store.{Store, Link, linkAt, linksOf, parentOf, childOf, positionOf, bytesOf, linkedAt, ofParent}
+use Rattle.store_rules.specs.Store.{Store, Link, linkAt, linksOf, parentOf, childOf, positionOf, bytesOf, linkedAt, offsetOf}
 use Rattle.pair_rules.specs.Table.{ofItems, shape, allAtSlots}
 use Rattle.store_rules.specs.Reach.{itemSize, onCycle, marked, reached, Reach}
 use Rattle.pair_rules.specs.Written.{splitStore, tableLinks, moved, headLinks, perTable}
@@ -114,7 +114,7 @@ module _ (s : Store) (t : ℕ) (cs : List ℕ) (g : Ready s t cs) where
 
   -- rows of the table
   abbrev ofT : Store → ℕ → Bool
-  ofT x k = ofParent t (linkAt x k)
+  ofT x k = offsetOf t (linkAt x k)
 
   not-back : Reach s (ofT s) t → ⊥
   unfolding onCycle

@@ -8,7 +8,7 @@ use lib.ListN.{length}
 use borrow.Author.Tests.{eqb-true}
 use Rattle.ot_layouts.specs.PairPos.{itemAt}
 use Rattle.ot_layouts.proofs.Shapes.{items-rise}
-use Rattle.store_rules.specs.Store.{Store, linkAt, parentOf, bytesOf, sizeOf, ofParent}
+use Rattle.store_rules.specs.Store.{Store, linkAt, parentOf, bytesOf, sizeOf, offsetOf}
 use Rattle.cut_rules.specs.Cuts.{Rule, Cutting, costAtCut, seenFrom, cutDue, cutHere, goOn, after}
 use Rattle.cut_rules.proofs.Turns.{looksAt, costNow}
 use Rattle.call_rules.specs.declared.Settings.{Settings}
@@ -130,7 +130,7 @@ module _ {s : Store} {x : TableInfo} {i : ℕ} (u : Described s x) (e : i ≡ x 
   pub filled-back : (how : Settings) {row : ℕ} {w : List ℕ} → AtItem how s x i f row w → TellsCycle s (x .table) w
   filled-back how {row} {w} v = record { tells = back-all w (fits u) (u .used) all (v .back) }
     where
-      all : (k : ℕ) → k < s .linkCount → ofParent (x .table) (linkAt s k) ≡ true → k < row
+      all : (k : ℕ) → k < s .linkCount → offsetOf (x .table) (linkAt s k) ≡ true → k < row
       all k h own =
           let parent : parentOf s k ≡ x .table = eqb-true (parentOf s k) (x .table) own in
           let whole : itemAt (shape s (x .table)) i ≡ length (bytesOf s (x .table)) = ap (itemAt (shape s (x .table))) (e ∙ u .count) ∙ sym (u .exactly) in

@@ -14,7 +14,7 @@ use Rattle.folds.proofs.Tests.{by-test, true-false}
 use Rattle.folds.proofs.Each.{Each, each-append, each-upto, each-then, each-at, each-sift, each-among}
 use Rattle.ot_layouts.specs.MarkBasePos.{baseCoverAt, markArrayAt, baseArrayAt, own, heads, isTableSlot, isMarkSlot, isBaseSlot, markSlot, baseSlot}
 use Rattle.ot_layouts.proofs.MarkSlots.{is-mark-slot, is-base-slot}
-use Rattle.store_rules.specs.Store.{Store, Link, linkAt, parentOf, childOf, childAt, ofParent, linkedAt}
+use Rattle.store_rules.specs.Store.{Store, Link, linkAt, parentOf, childOf, childAt, offsetOf, linkedAt}
 use Rattle.store_rules.specs.Reach.{marked, reached, onCycle, Reach}
 use Rattle.store_rules.specs.Appended.{newNumber, link}
 use Rattle.store_rules.specs.Header.{ownChild, headerLinks}
@@ -90,7 +90,7 @@ module _ (s : Store) (t : ℕ) (cs : List ℕ) (g : Ready s t cs) where
 
   -- rows of the table
   abbrev ofT : Store → ℕ → Bool
-  ofT x k = ofParent t (linkAt x k)
+  ofT x k = offsetOf t (linkAt x k)
 
   pub not-back : Reach s (ofT s) t → ⊥
   unfolding onCycle

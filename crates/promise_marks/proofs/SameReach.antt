@@ -6,7 +6,7 @@ use mathlib.Core.List.{List}
 use mathlib.Core.Logic.{inl, inr}
 use native.Mathlib.Omega.{arith}
 use Rattle.ot_layouts.specs.MarkBasePos.{markSlot}
-use Rattle.store_rules.specs.Store.{Store, linkAt, childOf, ofParent}
+use Rattle.store_rules.specs.Store.{Store, linkAt, childOf, offsetOf}
 use Rattle.store_rules.specs.Reach.{Reach, reachOf, itemSize}
 use Rattle.store_rules.proofs.SameReach.{Seed, SameWays, RowsBehind, behind-goes, behind-went, reach-size-same}
 use Rattle.cut_rules.specs.Ranges.{from}
@@ -31,7 +31,7 @@ module _ (s : Store) (t : ℕ) (cs : List ℕ) (g : Ready s t cs) where
 
   -- rows of the table
   abbrev ofT : ℕ → Bool
-  ofT k = ofParent t (linkAt s k)
+  ofT k = offsetOf t (linkAt s k)
 
   -- what the first j classes of the table u of a range reach
   module _ {u lo hi : ℕ} (v : View s t (splitStore s t cs) u lo hi) (reads : Reads (splitStore s t cs) u) (slots : AtSlots (splitStore s t cs) u) where

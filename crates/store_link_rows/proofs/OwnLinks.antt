@@ -13,7 +13,7 @@ use Rattle.folds.proofs.Folds.{flat-none, length-upto, upto-cons, upto-same}
 use Rattle.folds.proofs.Picked.{picked-none, picked-same, sift-append, sift-upto}
 use Rattle.folds.proofs.InRange.{is-between, below-range, above-range}
 use Rattle.folds.proofs.TwoParts.{upto-split}
-use Rattle.store_rules.specs.Store.{Store, Link, linkAt, linksOf, ofParent, parentOf, positionOf}
+use Rattle.store_rules.specs.Store.{Store, Link, linkAt, linksOf, offsetOf, parentOf, positionOf}
 use Rattle.store_rules.specs.SlotLinks.{linksFrom}
 use Rattle.store_reader.specs.declared.LinkRows.{LinkRows}
 use Rattle.store_reader.specs.Rows.{ParentRows}
@@ -51,10 +51,10 @@ module _ (s : Store) (p : ℕ) {r : LinkRows} (rows : ParentRows (s .links) (s .
       sym (parent-rows p (rows .first) (rows .after) k m (small k))
       ∙ ⊎-elim (below-range (r .first) (r .after) k) (above-range (r .first) (r .after) k) out
 
-  pub own-links : sift (ofParent p) (linksOf s) ≡ linksBetween s (r .first) (r .after)
+  pub own-links : sift (offsetOf p) (linksOf s) ≡ linksBetween s (r .first) (r .after)
   unfolding linksOf
   own-links =
-      let test : Link → Bool = ofParent p in
+      let test : Link → Bool = offsetOf p in
       let lo = r .first in
       let hi = r .after in
       let n = s .linkCount in

@@ -13,7 +13,7 @@ use Rattle.folds.specs.Folds.{orElse, flat, upto}
 use Rattle.folds.specs.Lists.{sift, isSome}
 use Rattle.folds.proofs.Tests.{and-both, true-false}
 use Rattle.folds.proofs.Each.{Each, each-moved}
-use Rattle.store_rules.specs.Store.{Link, lookup, Store, linkAt, parentOf, positionOf, childOf, childAt, linksOf, bytesOf, linkedAt, linkedBytes, ofParent}
+use Rattle.store_rules.specs.Store.{Link, lookup, Store, linkAt, parentOf, positionOf, childOf, childAt, linksOf, bytesOf, linkedAt, linkedBytes, offsetOf}
 use Rattle.store_rules.specs.Reach.{onCycle, Reach}
 use Rattle.store_rules.proofs.Sound.{Fits}
 use Rattle.store_rules.proofs.Reached.{reached-all}
@@ -163,7 +163,7 @@ module _ (s : Store) (t : ℕ) where
   unfolding onCycle
   child-other f acyclic q c e z =
       let (k, l, a, b, x) = child-row q c e in
-      true-false (sym (reached-all s (λ k. ofParent t (linkAt s k)) f (Reach.seed k l (eq-eqb (parentOf s k) t a) (x ∙ z))) ∙ acyclic)
+      true-false (sym (reached-all s (λ k. offsetOf t (linkAt s k)) f (Reach.seed k l (eq-eqb (parentOf s k) t a) (x ∙ z))) ∙ acyclic)
 
   pub linked-some : (q c : ℕ) → childAt s t q ≡ some c → linkedBytes s t q ≡ bytesOf s c
   linked-some q c e = ap (λ (o : Option ℕ). bytesOf s (Option·getD o 0)) e

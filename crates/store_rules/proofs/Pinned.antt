@@ -12,7 +12,7 @@ use Rattle.folds.specs.Lists.{among, isEmpty, isSome}
 use Rattle.folds.proofs.Compared as compared
 use Rattle.folds.proofs.Compared.{same, every}
 use Rattle.store_rules.specs.Store as Store
-use Rattle.store_rules.specs.Store.{lent, perLink, headOf, tailOf, parentOf, childOf, sound, byteRoom, objectRoom, linkRoom, bytesOf, handedOut, childAt, linkedAt, linkedBytes, ofParent, ofSpan, allAt}
+use Rattle.store_rules.specs.Store.{lent, perLink, headOf, tailOf, parentOf, childOf, sound, byteRoom, objectRoom, linkRoom, bytesOf, handedOut, childAt, linkedAt, linkedBytes, offsetOf, ofSpan, allAt}
 use Rattle.store_rules.specs.Reach as Reach
 use Rattle.store_rules.specs.Reach.{onCycle, reachOf, itemSize}
 use Rattle.store_rules.specs.Appended as Appended
@@ -138,9 +138,9 @@ apart = linked (linkRow 0 2 1 ++ linkRow 0 4 3)
 -- `reachOf`: each once, and on from child to child; `itemSize`: what has been seen since item a is left out; `onCycle`: by a way of any length
 unfoldable pub reaches : List Bool
 reaches =
-    eqb (reachOf twice (ofParent 0)) 10 ∷ eqb (reachOf twice (ofParent 1)) 6 ∷ eqb (reachOf twice (ofParent 3)) 0
+    eqb (reachOf twice (offsetOf 0)) 10 ∷ eqb (reachOf twice (offsetOf 1)) 6 ∷ eqb (reachOf twice (offsetOf 3)) 0
     ∷ eqb (itemSize twice items 0 0) 10 ∷ eqb (itemSize twice items 0 1) 0 ∷ eqb (itemSize twice items 1 1) 10
-    ∷ eqb (reachOf apart (ofParent 0)) 10 ∷ eqb (itemSize apart items 0 0) 4 ∷ eqb (itemSize apart items 0 1) 6
+    ∷ eqb (reachOf apart (offsetOf 0)) 10 ∷ eqb (itemSize apart items 0 0) 4 ∷ eqb (itemSize apart items 0 1) 6
     -- `ofSpan`: of this parent alone
     ∷ eqb (itemSize (linked (linkRow 0 2 2 ++ linkRow 3 2 1)) items 0 0) 0
     ∷ onCycle (linked (linkRow 0 2 1 ++ linkRow 3 0 3)) 3

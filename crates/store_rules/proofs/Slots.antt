@@ -6,12 +6,12 @@ use lib.Dec.{eqb}
 use borrow.Author.Tests.{eqb-true, eq-eqb}
 use Rattle.folds.proofs.Tests.{by-test}
 use Rattle.folds.proofs.Folds.{all-intro, all-at}
-use Rattle.store_rules.specs.Store.{Store, linkAt, parentOf, positionOf, ofParent, allAt}
+use Rattle.store_rules.specs.Store.{Store, linkAt, parentOf, positionOf, offsetOf, allAt}
 
 module _ (s : Store) (p : ℕ) (slot : ℕ → Bool) where
   -- row k is another object's, or stands at a slot
   abbrev stands : ℕ → Bool
-  stands k = cond (ofParent p (linkAt s k)) (slot (positionOf s k)) true
+  stands k = cond (offsetOf p (linkAt s k)) (slot (positionOf s k)) true
 
   pub all-stand : ((k : ℕ) → k < s .linkCount → parentOf s k ≡ p → slot (positionOf s k) ≡ true) → allAt s p slot ≡ true
   unfolding allAt

@@ -15,7 +15,7 @@ use Rattle.folds.proofs.Tests.{by-test, and-first, and-second}
 use Rattle.folds.proofs.Each.{Each, each-upto}
 use Rattle.folds.proofs.FromTheFront.{sum-same}
 use Rattle.folds.proofs.Sums.{sum-zero, sum-but-one}
-use Rattle.store_rules.specs.Store.{Store, Link, lookup, linksOf, linkAt, childAt, parentOf, positionOf, ofParent}
+use Rattle.store_rules.specs.Store.{Store, Link, lookup, linksOf, linkAt, childAt, parentOf, positionOf, offsetOf}
 use Rattle.store_rules.proofs.Sound.{Fits}
 use Rattle.store_rules.proofs.Lookups.{hit}
 use Rattle.store_rules.proofs.LinksAscend.{From, Climb, from-trans, from-next}
@@ -54,7 +54,7 @@ module _ (p : ℕ) (place : ℕ → ℕ) (n : ℕ) (own : (i k : ℕ) → place 
   unfolding lookup
   found-here l ls k e f = rw (eq-eqb (l .parent) p e, eq-eqb (l .position) (place k) f)
 
-  counted : (ls : List Link) (x y e : ℕ) → Climb x y e ls → Each AtSlot ls → sum (there ls) n ≡ length (sift (ofParent p) ls)
+  counted : (ls : List Link) (x y e : ℕ) → Climb x y e ls → Each AtSlot ls → sum (there ls) n ≡ length (sift (offsetOf p) ls)
   unfolding sift lookup
   counted [] x y e c at = sum-zero (there []) n (λ k l. refl)
   counted (l ∷ ls) x y e c at =
@@ -75,6 +75,6 @@ module _ (p : ℕ) (place : ℕ → ℕ) (n : ℕ) (own : (i k : ℕ) → place 
       rw z (omega arith))
 
   pub slots-counted : (s : Store) → Fits s → ((k : ℕ) → k < s .linkCount → parentOf s k ≡ p → (i : ℕ) × (i < n) × (positionOf s k ≡ place i))
-      → sum (λ k. cond (isSome (childAt s p (place k))) 1 0) n ≡ length (sift (ofParent p) (linksOf s))
+      → sum (λ k. cond (isSome (childAt s p (place k))) 1 0) n ≡ length (sift (offsetOf p) (linksOf s))
   unfolding childAt linksOf
   slots-counted s f at = counted (linksOf s) 0 0 (s .objectCount) (rows-climb s f) (each-upto AtSlot (linkAt s) (s .linkCount) at)

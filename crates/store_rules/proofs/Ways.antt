@@ -5,7 +5,7 @@ use mathlib.Core.Bool.{false}
 use mathlib.Core.Option.{some}
 use borrow.Author.Tests.{eq-eqb}
 use Rattle.folds.proofs.Tests.{by-test, true-false}
-use Rattle.store_rules.specs.Store.{Store, linkAt, childAt, parentOf, childOf, ofParent}
+use Rattle.store_rules.specs.Store.{Store, linkAt, childAt, parentOf, childOf, offsetOf}
 use Rattle.store_rules.specs.Reach.{Reach, marked, reached, onCycle}
 use Rattle.store_rules.proofs.Sound.{Fits}
 use Rattle.store_rules.proofs.Reached.{reached-only, reached-all}
@@ -13,7 +13,7 @@ use Rattle.store_rules.proofs.Lookups.{child-row}
 
 -- object u reaches object i
 abbrev pub Way : Store → ℕ → ℕ → Type 0
-Way s u i = Reach s (λ k. ofParent u (linkAt s k)) i
+Way s u i = Reach s (λ k. offsetOf u (linkAt s k)) i
 
 module _ (s : Store) where
   pub way-child : (u q c : ℕ) → childAt s u q ≡ some c → Way s u c
@@ -25,7 +25,7 @@ module _ (s : Store) where
   -- an object on no cycle does not reach itself
   pub no-way-back : Fits s → (t : ℕ) → onCycle s t ≡ false → Way s t t → ⊥
   unfolding onCycle
-  no-way-back f t acyclic w = true-false (sym (reached-all s (λ k. ofParent t (linkAt s k)) f w) ∙ acyclic)
+  no-way-back f t acyclic w = true-false (sym (reached-all s (λ k. offsetOf t (linkAt s k)) f w) ∙ acyclic)
 
   -- an object to which no link leads is on none
   module _ (u : ℕ) (unled : (k : ℕ) → k < s .linkCount → childOf s k ≡ u → ⊥) where
@@ -36,4 +36,4 @@ module _ (s : Store) where
     pub unled-acyclic : Fits s → u < s .objectCount → onCycle s u ≡ false
     unfolding onCycle
     unled-acyclic f used =
-        by-test (marked (reached s (λ k. ofParent u (linkAt s k))) u) (λ e. absurd (no-way (reached-only s (λ k. ofParent u (linkAt s k)) f u used e))) (λ e. e)
+        by-test (marked (reached s (λ k. offsetOf u (linkAt s k))) u) (λ e. absurd (no-way (reached-only s (λ k. offsetOf u (linkAt s k)) f u used e))) (λ e. e)

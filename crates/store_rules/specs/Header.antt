@@ -3,7 +3,7 @@ use Prim.Native.Nat.{ℕ, _+_}
 use mathlib.Core.Bool.{cond}
 use mathlib.Core.List.{List, [], _∷_, map}
 use lib.Dec.{eqb}
-use Rattle.store_rules.specs.Store.{Link, leadingTo, ofParent}
+use Rattle.store_rules.specs.Store.{Link, leadingTo, offsetOf}
 use Rattle.store_rules.specs.Appended.{link}
 
 -- where a table's link at q leads: the parts at the positions `own` are the objects from v on, in this order; any other leads to c, as in the old table
@@ -17,7 +17,7 @@ headerLinks own heads u old = map (λ q. link u q (ownChild own (u + 1) q (old q
 
 -- a link that stays where table t is split: the kept table's own parts are "always as new objects", of which v is the first
 unfoldable pub kept : List ℕ → ℕ → ℕ → Link → Link
-kept own t v l = leadingTo (cond (ofParent t l) (ownChild own v (l .position) (l .child)) (l .child)) l
+kept own t v l = leadingTo (cond (offsetOf t l) (ownChild own v (l .position) (l .child)) (l .child)) l
 
 -- all of this file's definitions, for checks that compute
 unfoldable pub computes : Unit {0}

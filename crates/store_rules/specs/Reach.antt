@@ -6,7 +6,7 @@ use mathlib.Core.Path.{_≡_}
 use lib.ListN.{getD, set, replicate}
 use lib.Dec.{eqb}
 use Rattle.folds.specs.Folds.{sum}
-use Rattle.store_rules.specs.Store.{Store, Link, linkAt, parentOf, childOf, sizeOf, ofParent}
+use Rattle.store_rules.specs.Store.{Store, Link, linkAt, parentOf, childOf, sizeOf, offsetOf}
 
 -- i can be reached along the link rows, from the rows of `from`
 pub data Reach (s : Store) (from : ℕ → Bool) : ℕ → Type 0 where
@@ -47,7 +47,7 @@ reachOf s p = reachSize s (λ k. p (linkAt s k))
 
 -- "the table can be reached from itself"
 unfoldable pub onCycle : Store → ℕ → Bool
-onCycle s t = marked (reached s (λ k. ofParent t (linkAt s k))) t
+onCycle s t = marked (reached s (λ k. offsetOf t (linkAt s k))) t
 
 -- "S(i) is the summed length of all objects reachable from item i's links, each counted once, leaving out those counted since the last cut":
 -- what the items from a to i reach, without what those before i reach; `rows lo hi` says which links are those of the items lo up to hi, hi left out

@@ -5,12 +5,12 @@ use mathlib.Core.Option.{Option, some, none}
 use lib.ListN.{length}
 use Rattle.folds.specs.Folds.{flat}
 use Rattle.folds.specs.Lists.{sift}
-use Rattle.store_rules.specs.Store.{Store, Link, linksOf, ofParent}
+use Rattle.store_rules.specs.Store.{Store, Link, linksOf, offsetOf}
 use Rattle.store_rules.specs.Appended.{link}
 
 -- how many links object p has
 unfoldable pub linksFrom : Store → ℕ → ℕ
-linksFrom s p = length (sift (ofParent p) (linksOf s))
+linksFrom s p = length (sift (offsetOf p) (linksOf s))
 
 -- a link of object p at q, where there is a child
 unfoldable pub slotLink : ℕ → ℕ → Option ℕ → List Link

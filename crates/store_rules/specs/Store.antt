@@ -157,16 +157,16 @@ linkedBytes s t q = bytesOf s (linkedAt s t q)
 -- ---- some of the links
 
 -- a link of object p
-abbrev pub ofParent : ℕ → Link → Bool
-ofParent p l = eqb (l .parent) p
+abbrev pub offsetOf : ℕ → Link → Bool
+offsetOf p l = eqb (l .parent) p
 
 -- one that stands from position lo up to hi, hi left out
 abbrev pub ofSpan : ℕ → ℕ → ℕ → Link → Bool
-ofSpan p lo hi l = ofParent p l && leb lo (l .position) && ltb (l .position) hi
+ofSpan p lo hi l = offsetOf p l && leb lo (l .position) && ltb (l .position) hi
 
 -- each link of object p stands at one of these slots
 unfoldable pub allAt : Store → ℕ → (ℕ → Bool) → Bool
-allAt s p slot = all (λ k. cond (ofParent p (linkAt s k)) (slot (positionOf s k)) true) (s .linkCount)
+allAt s p slot = all (λ k. cond (offsetOf p (linkAt s k)) (slot (positionOf s k)) true) (s .linkCount)
 
 -- all of this file's definitions, for checks that compute
 unfoldable pub computes : Unit {0}

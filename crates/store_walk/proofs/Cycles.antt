@@ -11,7 +11,7 @@ use borrow.Author.Tests.{leb-true, ltb-true, eqb-true, eqb-false, le-leb, lt-ltb
 use Rattle.folds.proofs.Agree.{both-ways}
 use Rattle.folds.proofs.Joined.{or-either, or-second}
 use Rattle.folds.proofs.Tests.{and-both, and-intro, and-first, and-second, by-test, either, true-false}
-use Rattle.store_rules.specs.Store.{Store, lent, linkAt, parentOf, positionOf, sizeOf, ofParent}
+use Rattle.store_rules.specs.Store.{Store, lent, linkAt, parentOf, positionOf, sizeOf, offsetOf}
 use Rattle.store_rules.specs.Reach.{marked, reached, onCycle, Reach}
 use Rattle.store_rules.proofs.Reached.{reached-only, reached-all}
 use Rattle.store_rules.proofs.Reaching.{reached-bytes, reached-more, reached-same, reached-none}
@@ -30,7 +30,7 @@ reach-either f (Reach.step r k h p e) = ⊎-elim (λ x. inl (Reach.step x k h p 
 -- rows from `row` up to `next` of table t are walked after some of those before them
 module _ {s : Store} {t row next e : ℕ} {from : ℕ → Bool} {w w′ : List ℕ} {total : ℕ} (f : Fits s) (used : t < s .objectCount) (begun : 0 < e)
     (room : s .objectCount ≤ length w) (earlier : (k : ℕ) → k < s .linkCount → from k ≡ true → ownBefore s t row k ≡ true)
-    (own : (k : ℕ) → k < s .linkCount → between row next k ≡ true → ofParent t (linkAt s k) ≡ true) (rise : row ≤ next) (d : Walked s from row next e w w′ total) where
+    (own : (k : ℕ) → k < s .linkCount → between row next k ≡ true → offsetOf t (linkAt s k) ≡ true) (rise : row ≤ next) (d : Walked s from row next e w w′ total) where
   abbrev now : List ℕ
   now = reached s (alsoBetween from row next)
 
@@ -40,18 +40,18 @@ module _ {s : Store} {t row next e : ℕ} {from : ℕ → Bool} {w w′ : List �
   -- the rows before `next` are those before `row` and those that are walked
   parts : (k : ℕ) → k < s .linkCount → ownBefore s t next k ≡ true → (ownBefore s t row k ≡ true) ⊎ (between row next k ≡ true)
   parts k h a =
-      let (p, q) = and-both (ofParent t (linkAt s k)) (ltb k next) a in
-      ⊎-elim (λ l. inl (and-intro (ofParent t (linkAt s k)) (ltb k row) p (lt-ltb k row l))) (λ l. inr (and-intro (leb row k) (ltb k next) (le-leb row k l) q)) (either k row)
+      let (p, q) = and-both (offsetOf t (linkAt s k)) (ltb k next) a in
+      ⊎-elim (λ l. inl (and-intro (offsetOf t (linkAt s k)) (ltb k row) p (lt-ltb k row l))) (λ l. inr (and-intro (leb row k) (ltb k next) (le-leb row k l) q)) (either k row)
 
   before-more : (k : ℕ) → k < s .linkCount → ownBefore s t row k ≡ true → ownBefore s t next k ≡ true
   before-more k h a =
-      let (p, q) = and-both (ofParent t (linkAt s k)) (ltb k row) a in
-      and-intro (ofParent t (linkAt s k)) (ltb k next) p (lt-ltb k next (omega (arith, ltb-true k row q)))
+      let (p, q) = and-both (offsetOf t (linkAt s k)) (ltb k row) a in
+      and-intro (offsetOf t (linkAt s k)) (ltb k next) p (lt-ltb k next (omega (arith, ltb-true k row q)))
 
   walked-more : (k : ℕ) → k < s .linkCount → alsoBetween from row next k ≡ true → ownBefore s t next k ≡ true
   walked-more k h a =
       ⊎-elim (λ x. before-more k h (earlier k h x))
-      (λ x. and-intro (ofParent t (linkAt s k)) (ltb k next) (own k h x) (and-both (leb row k) (ltb k next) x .1))
+      (λ x. and-intro (offsetOf t (linkAt s k)) (ltb k next) (own k h x) (and-both (leb row k) (ltb k next) x .1))
       (or-either (from k) (between row next k) a)
 
   found : marked now t ≡ true → Back s t next w′
@@ -85,15 +85,15 @@ module _ {s : Store} {t row next e : ℕ} {from : ℕ → Bool} {w w′ : List �
 module _ {s : Store} {t : ℕ} {at : ℕ → ℕ} {i lo hi : ℕ} (f : Fits s) (r : ItemRows s t at i lo hi) where
   item-earlier : (a k : ℕ) → k < s .linkCount → items s t at a i k ≡ true → ownBefore s t lo k ≡ true
   item-earlier a k h x =
-      let (p, q) = and-both (ofParent t (linkAt s k) && leb (at a) (positionOf s k)) (ltb (positionOf s k) (at i)) x in
-      let own = and-both (ofParent t (linkAt s k)) (leb (at a) (positionOf s k)) p .0 in
+      let (p, q) = and-both (offsetOf t (linkAt s k) && leb (at a) (positionOf s k)) (ltb (positionOf s k) (at i)) x in
+      let own = and-both (offsetOf t (linkAt s k)) (leb (at a) (positionOf s k)) p .0 in
       let below : lo ≤ k → ⊥ = λ l. omega (arith, r .first .above k l h, eqb-true (parentOf s k) t own, ltb-true (positionOf s k) (at i) q) in
-      and-intro (ofParent t (linkAt s k)) (ltb k lo) own (lt-ltb k lo (omega arith))
+      and-intro (offsetOf t (linkAt s k)) (ltb k lo) own (lt-ltb k lo (omega arith))
 
-  item-own : (k : ℕ) → k < s .linkCount → between lo hi k ≡ true → ofParent t (linkAt s k) ≡ true
+  item-own : (k : ℕ) → k < s .linkCount → between lo hi k ≡ true → offsetOf t (linkAt s k) ≡ true
   item-own k h x =
       let item = sym (item-rows f r k h) ∙ x in
-      and-both (ofParent t (linkAt s k)) (leb (at i) (positionOf s k)) (and-both (ofParent t (linkAt s k) && leb (at i) (positionOf s k)) (ltb (positionOf s k) (at (i + 1))) item .0) .0
+      and-both (offsetOf t (linkAt s k)) (leb (at i) (positionOf s k)) (and-both (offsetOf t (linkAt s k) && leb (at i) (positionOf s k)) (ltb (positionOf s k) (at (i + 1))) item .0) .0
 
   module _ {e : ℕ} {w w′ : List ℕ} {total : ℕ} (used : t < s .objectCount) (begun : 0 < e) (a : ℕ) (room : s .objectCount ≤ length w) (rise : lo ≤ hi)
       (d : Walked s (items s t at a i) lo hi e w w′ total) where
@@ -115,14 +115,14 @@ module _ {s : Store} {t lo : ℕ} {w : List ℕ} (f : Fits s) (v : Marks s noRow
     where
       none : (k : ℕ) → k < s .linkCount → ownBefore s t lo k ≡ false
       none k h =
-          ⊎-elim (λ (l : k < lo). and-first (ofParent t (linkAt s k)) (ltb k lo) (ne-eqb (parentOf s k) t (omega (arith, first .below k l))))
-          (λ (l : lo ≤ k). and-second (ofParent t (linkAt s k)) (ltb k lo) (le-ltb k lo l)) (either k lo)
+          ⊎-elim (λ (l : k < lo). and-first (offsetOf t (linkAt s k)) (ltb k lo) (ne-eqb (parentOf s k) t (omega (arith, first .below k l))))
+          (λ (l : lo ≤ k). and-second (offsetOf t (linkAt s k)) (ltb k lo) (le-ltb k lo l)) (either k lo)
 
   -- the rows before position q
   pub begun : {q hi : ℕ} {w′ : List ℕ} {total : ℕ} → q ≤ 4294967296 → FirstRow (s .links) (s .linkCount) (keyOf t q) hi → Walked s noRow lo hi 1 w w′ total → Begun s t q w′
   begun {q} {hi} {w′} short next d = record { marks = marks-next f (marks-after f v d) (λ k h. refl); back = λ row g. subst (λ (x : ℕ). Back s t x w′) (same row g) here }
     where
-      own : (k : ℕ) → k < s .linkCount → between lo hi k ≡ true → ofParent t (linkAt s k) ≡ true
+      own : (k : ℕ) → k < s .linkCount → between lo hi k ≡ true → offsetOf t (linkAt s k) ≡ true
       own k h x =
           let (a, b) = and-both (leb lo k) (ltb k hi) x in
           eq-eqb (parentOf s k) t (omega (arith, position-most s f k h, first .above k (leb-true lo k a) h, next .below k (ltb-true k hi b)))
@@ -134,12 +134,12 @@ module _ {s : Store} {t lo : ℕ} {w : List ℕ} (f : Fits s) (v : Marks s noRow
       same row g = omega (arith, rows-rise next g (omega arith), rows-rise g next (omega arith))
 
 -- all rows of the table have been walked
-pub back-all : {s : Store} {t row : ℕ} (w : List ℕ) → Fits s → t < s .objectCount → ((k : ℕ) → k < s .linkCount → ofParent t (linkAt s k) ≡ true → k < row) → Back s t row w → ltb 0 (getD w t 0) ≡ onCycle s t
+pub back-all : {s : Store} {t row : ℕ} (w : List ℕ) → Fits s → t < s .objectCount → ((k : ℕ) → k < s .linkCount → offsetOf t (linkAt s k) ≡ true → k < row) → Back s t row w → ltb 0 (getD w t 0) ≡ onCycle s t
 unfolding onCycle
-back-all {s} {t} {row} w f used all b = b ∙ reached-same s f (ownBefore s t row) (λ k. ofParent t (linkAt s k)) same t used
+back-all {s} {t} {row} w f used all b = b ∙ reached-same s f (ownBefore s t row) (λ k. offsetOf t (linkAt s k)) same t used
   where
-    same : (k : ℕ) → k < s .linkCount → ownBefore s t row k ≡ ofParent t (linkAt s k)
-    same k h = by-test (ofParent t (linkAt s k)) (λ x. rw x (lt-ltb k row (all k h x))) (λ x. rw x)
+    same : (k : ℕ) → k < s .linkCount → ownBefore s t row k ≡ offsetOf t (linkAt s k)
+    same k h = by-test (offsetOf t (linkAt s k)) (λ x. rw x (lt-ltb k row (all k h x))) (λ x. rw x)
 
 -- a walk that begins with the table's links before position q is of all of them, where none stands behind
 module _ {s : Store} {t q : ℕ} {w : List ℕ} (f : Fits s) (used : t < s .objectCount) (most : q < 4294967296) (whole : sizeOf s t ≤ q) (d : Begun s t q w) where
@@ -153,7 +153,7 @@ module _ {s : Store} {t q : ℕ} {w : List ℕ} (f : Fits s) (used : t < s .obje
   inside : (k : ℕ) → k < s .linkCount → (positionOf s k + 2 ≤ sizeOf s (parentOf s k)) × (sizeOf s (parentOf s k) ≤ 16777216)
   inside k h = (f .link k h .inside, size-most s f (parentOf s k) (f .link k h .parentUsed))
 
-  all : (k : ℕ) → k < s .linkCount → ofParent t (linkAt s k) ≡ true → k < end
+  all : (k : ℕ) → k < s .linkCount → offsetOf t (linkAt s k) ≡ true → k < end
   all k h own =
       let parent : parentOf s k ≡ t = eqb-true (parentOf s k) t own in
       let past : end ≤ k → ⊥ = λ z. omega (arith, ends .above k z h, inside k h .0, inside k h .1) in

@@ -8,7 +8,7 @@ use mathlib.Core.Path.{_≡_}
 use lib.Dec.{leb, ltb, eqb}
 use lib.ListN.{length, getD, set}
 use Rattle.folds.specs.Lists.{among}
-use Rattle.store_rules.specs.Store.{Store, lent, perLink, rowParent, linkAt, positionOf, sound, ofParent}
+use Rattle.store_rules.specs.Store.{Store, lent, perLink, rowParent, linkAt, positionOf, sound, offsetOf}
 use Rattle.store_rules.specs.Reach.{marked, reached, reachSize}
 use Rattle.store_reader.specs.Rows.{keyOf, FirstRow}
 
@@ -26,7 +26,7 @@ alsoBetween from lo hi k = from k || between lo hi k
 
 -- row k is one of `from`, or object p's at one of these positions
 abbrev pub alsoAt : Store → (ℕ → Bool) → ℕ → List ℕ → ℕ → Bool
-alsoAt s from p qs k = from k || ofParent p (linkAt s k) && among (positionOf s k) qs
+alsoAt s from p qs k = from k || offsetOf p (linkAt s k) && among (positionOf s k) qs
 
 -- the scratch in epoch e, in which the rows of `from` have been walked
 pub record Marks (s : Store) (from : ℕ → Bool) (e : ℕ) (w : List ℕ) : Type 0 where
@@ -88,7 +88,7 @@ pub record Grown (s : Store) (from more : ℕ → Bool) (e : ℕ) (w : List ℕ)
 
 -- row k is table t's own, and stands before row `row`
 abbrev pub ownBefore : Store → ℕ → ℕ → ℕ → Bool
-ownBefore s t row k = ofParent t (linkAt s k) && ltb k row
+ownBefore s t row k = offsetOf t (linkAt s k) && ltb k row
 
 -- table t has a mark, of whatever epoch, exactly if its own rows before `row` lead back to it
 abbrev pub Back : Store → ℕ → ℕ → List ℕ → Type 0
