@@ -1,5 +1,5 @@
 -- A store with objects and links added is sound where each link fits and they ascend, and a store of bytes where the new ones are. Assumes nothing.
-use Prim.Native.Nat.{ℕ, _*_, _≤_}
+use Prim.Native.Nat.{ℕ, _*_, _<_, _≤_}
 use mathlib.Core.List.{List}
 use native.Mathlib.Omega.{arith}
 use lib.ListN.{length}
@@ -7,7 +7,7 @@ use Rattle.folds.specs.Lists.{Bytes, join}
 use Rattle.folds.proofs.Each.{Each}
 use Rattle.folds.proofs.Put.{length-put}
 use Rattle.folds.proofs.Bytes.{bytes-put, bytes-join}
-use Rattle.store_rules.specs.Store.{perLink, Store, Link}
+use Rattle.store_rules.specs.Store.{perLink, Store, Link, sizeOf}
 use Rattle.store_rules.specs.Appended.{appended, rowNumbers}
 use Rattle.store_rules.proofs.Sound.{Fits}
 use Rattle.store_rules.proofs.LinkRows.{rows-numbers}
@@ -23,6 +23,9 @@ module _ (s : Store) (new : List (List ℕ)) (ls : List Link) (room : Room s new
   unfolding appended
   links-room h = omega (arith, length-put (s .links) 0 (rowNumbers ls) (omega (arith, rows-numbers ls)))
 
+  sizes : (i : ℕ) → i < s′ .objectCount → sizeOf s′ i ≤ 16777216
+  sizes i h = omega (arith, object-fits s new ls room i h .inside, bytes-then s new ls, room .bytesMost)
+
   pub appended-fits : Each (Fitting s′) ls → (e : ℕ) → Climb 0 0 e ls → perLink * length ls ≤ length (s .links) → length ls ≤ 262144 → Fits s′
   appended-fits fit e climbs within most =
       let objects = objects-then s new ls in
@@ -35,7 +38,7 @@ module _ (s : Store) (new : List (List ℕ)) (ls : List Link) (room : Room s new
         linksIn = links-room within;
         linksMost = omega (arith, links-count s new ls);
         object = object-fits s new ls room;
-        link = rows-fit s′ ls (links-then s new ls) fit e climbs;
+        link = rows-fit s′ ls (links-then s new ls) sizes fit e climbs;
       }
 
   pub appended-bytes : Bytes (s .bytes) → Each Bytes new → Bytes (s′ .bytes)

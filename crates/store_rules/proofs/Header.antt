@@ -8,16 +8,16 @@ use mathlib.Core.Option.{none}
 use native.Mathlib.Omega.{arith}
 use lib.ListN.{length}
 use lib.Dec.{eqb}
-use borrow.Author.Tests.{ne-eqb}
 use Rattle.folds.specs.Lists.{among}
-use Rattle.folds.proofs.Tests.{by-test, true-false, and-first, and-second}
+use Rattle.folds.proofs.Tests.{by-test, true-false}
 use Rattle.folds.proofs.Each.{Each, each-map, among-each}
 use Rattle.folds.proofs.Moved.{length-map}
-use Rattle.store_rules.specs.Store.{Link, lookup}
+use Rattle.store_rules.specs.Store.{Link, isOffset, offsetOf, lookup}
 use Rattle.store_rules.specs.Appended.{link}
 use Rattle.store_rules.specs.Header.{ownChild, headerLinks, kept}
-use Rattle.store_rules.proofs.Lookups.{hit, lookup-none}
-use Rattle.store_rules.proofs.LinksAscend.{Climb, climb-lower}
+use Rattle.store_rules.proofs.Lookups.{hit, hit-other, hit-apart, lookup-none}
+use Rattle.store_rules.proofs.Shaped.{of-other, order-of-none}
+use Rattle.store_rules.proofs.LinksAscend.{Climb, climb-lower, place, place-same}
 
 -- ---- where a link leads
 
@@ -67,17 +67,17 @@ module _ (own : List ℕ) (u : ℕ) (old : ℕ → ℕ) where
   pub header-other : (heads : List ℕ) (p q : ℕ) → (u ≡ p → ⊥) → lookup (headerLinks own heads u old) p q ≡ none
   header-other heads p q ne =
       lookup-none (headerLinks own heads u old) p q
-      (header-each (λ l. hit l p q ≡ false) heads (λ r a. and-first (eqb u p) (eqb r q) (ne-eqb u p ne)))
+      (header-each (λ l. hit l p q ≡ false) heads (λ r a. hit-other (headerLink r) p q ne))
 
   -- and at other positions there is none
   pub header-none : (heads : List ℕ) (p q : ℕ) → among q heads ≡ false → lookup (headerLinks own heads u old) p q ≡ none
   header-none heads p q h =
       lookup-none (headerLinks own heads u old) p q
-      (header-each (λ l. hit l p q ≡ false) heads (λ r a. and-second (eqb u p) (eqb r q) (ne-eqb r q (λ e. true-false (sym (rw e at a) ∙ h)))))
+      (header-each (λ l. hit l p q ≡ false) heads (λ r a. hit-apart (headerLink r) p q (λ e. true-false (sym (rw e at a) ∙ h))))
 
   -- they ascend where the positions do
   pub header-climb : (heads : List ℕ) (lo hi e : ℕ) (rest : List Link) → Rising lo heads hi → Climb u hi e rest → Climb u lo e (headerLinks own heads u old ++ rest)
-  unfolding headerLinks
+  unfolding headerLinks place
   header-climb [] lo hi e rest r c = climb-lower rest u lo u hi e (inr (refl, r)) c
   header-climb (q ∷ qs) lo hi e rest r c = (inr (refl, r .0), header-climb qs (q + 1) hi e rest (r .1) c)
 
@@ -109,16 +109,38 @@ module _ (own : List ℕ) (t v : ℕ) (l : Link) where
   unfolding kept
   kept-position = refl
 
+  pub kept-kind : kept own t v l .kind ≡ l .kind
+  unfolding kept
+  kept-kind = refl
+
+  pub kept-width : kept own t v l .width ≡ l .width
+  unfolding kept
+  kept-width = refl
+
+  -- order-only links stay as they are
+  pub kept-order : isOffset l ≡ false → kept own t v l .child ≡ l .child
+  unfolding kept
+  kept-order o = rw (order-of-none t l o)
+
+  -- so that each stands where it stood
+  pub kept-place : place (kept own t v l) ≡ place l
+  kept-place = place-same l (kept own t v l) kept-kind (λ o. kept-position) kept-order
+
+  -- one of the table's own offsets
+  pub kept-own : offsetOf t l ≡ true → kept own t v l .child ≡ ownChild own v (l .position) (l .child)
+  unfolding kept
+  kept-own h = rw h
+
   -- a link of another object leads where it led
   pub kept-other : (l .parent ≡ t → ⊥) → kept own t v l .child ≡ l .child
   unfolding kept
-  kept-other ne = rw (ne-eqb (l .parent) t ne)
+  kept-other ne = rw (of-other t l ne)
 
   -- and so does one to no part of the table's own
   pub kept-apart : among (l .position) own ≡ false → kept own t v l .child ≡ l .child
   unfolding kept
-  kept-apart h = by-test (eqb (l .parent) t) (λ e. rw (e, child-other own v (l .position) (l .child) h)) (λ e. rw e)
+  kept-apart h = by-test (offsetOf t l) (λ e. rw (e, child-other own v (l .position) (l .child) h)) (λ e. rw e)
 
   pub kept-any : (kept own t v l .child ≡ l .child) ⊎ ((v ≤ kept own t v l .child) × (kept own t v l .child < v + length own))
   unfolding kept
-  kept-any = by-test (eqb (l .parent) t) (λ e. rw e (child-any own v (l .position) (l .child))) (λ e. rw e (inl refl))
+  kept-any = by-test (offsetOf t l) (λ e. rw e (child-any own v (l .position) (l .child))) (λ e. rw e (inl refl))

@@ -4,7 +4,7 @@ use mathlib.Core.Path.{_≡_, refl, sym, ap, _∙_}
 use mathlib.Core.Bool.{Bool, true, false, cond, not, _&&_, _||_}
 use mathlib.Core.Logic.{_⊎_, inl, inr, ⊎-elim}
 use native.Mathlib.Omega.{arith}
-use lib.Dec.{leb, ltb, eqb}
+use lib.Dec.{leb, ltb}
 use borrow.Author.Tests.{le-leb, lt-leb, lt-ltb, le-ltb, not-true}
 use Rattle.folds.proofs.Agree.{both-ways}
 use Rattle.folds.proofs.FromTheFront.{sum-same}
@@ -12,7 +12,7 @@ use Rattle.folds.proofs.Joined.{or-either, or-first, or-second}
 use Rattle.folds.proofs.Sums.{sum-add}
 use Rattle.folds.proofs.Tally.{tally}
 use Rattle.folds.proofs.Tests.{and-both, and-intro, by-test, true-false, either}
-use Rattle.store_rules.specs.Store.{Store, Link, linkAt, sizeOf, ofSpan}
+use Rattle.store_rules.specs.Store.{Store, Link, linkAt, sizeOf, offsetOf, ofSpan}
 use Rattle.store_rules.specs.Reach.{Reach, marked, reached, reachSize, itemSize, rowsOf, SentenceOfS}
 use Rattle.store_rules.proofs.Sound.{Fits}
 use Rattle.store_rules.proofs.Reached.{reached-all, reached-only}
@@ -93,7 +93,7 @@ item-size-is s f rows a i grows =
 -- ---- the links of a span grow so
 
 pub spans-grow : (p lo mid hi : ℕ) → lo ≤ mid → mid ≤ hi → (l : Link) → ofSpan p lo hi l ≡ (ofSpan p lo mid l || ofSpan p mid hi l)
-spans-grow p lo mid hi x y l = go (eqb (l .parent) p) (either q mid) (either q lo) (either q hi)
+spans-grow p lo mid hi x y l = go (offsetOf p l) (either q mid) (either q lo) (either q hi)
   where
     q : ℕ
     q = l .position

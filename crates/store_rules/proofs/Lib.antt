@@ -1,3 +1,4 @@
+pub mod Shaped
 pub mod Sound
 pub mod Reached
 pub mod Reaching
@@ -5,6 +6,7 @@ pub mod Lookups
 pub mod Ways
 pub mod LinkRows
 pub mod LinksAscend
+pub mod RowOrder
 pub mod Header
 pub mod ObjectRows
 pub mod Slots

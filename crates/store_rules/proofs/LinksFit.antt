@@ -1,29 +1,39 @@
 -- The links of a sound store: each fits, and they ascend; and rows of which this holds are those of a sound store. Assumes nothing.
 use Prim.Native.Nat.{ℕ, zero, suc, _+_, _<_, _≤_}
 use mathlib.Core.Path.{_≡_, refl, sym, ap, subst, _∙_}
-use mathlib.Core.Bool.{true, _&&_}
+use mathlib.Core.Bool.{true}
 use mathlib.Core.List.{List}
 use mathlib.Core.Logic.{inl, inr, ⊎-elim}
 use native.Mathlib.Omega.{arith}
 use lib.ListN.{length, getD}
-use lib.Dec.{eqb, ltb}
-use borrow.Author.Tests.{lt-ltb, eq-eqb, ltb-true, eqb-true}
 use Rattle.folds.specs.Folds.{upto, flat}
-use Rattle.folds.proofs.Tests.{either, and-both, and-intro}
-use Rattle.folds.proofs.Joined.{or-either, or-second}
+use Rattle.folds.proofs.Tests.{either}
 use Rattle.folds.proofs.Each.{Each, each-at, each-upto}
 use Rattle.folds.proofs.Folds.{length-upto}
-use Rattle.store_rules.specs.Store.{Store, Link, linksOf, linkAt, parentOf, positionOf, ascends, sizeOf}
-use Rattle.store_rules.proofs.Sound.{Fits, LinkFits}
+use Rattle.store_rules.specs.Store.{Store, Link, linksOf, linkAt, isOffset, parentOf, shaped, ascends, sizeOf}
+use Rattle.store_rules.specs.Appended.{link}
+use Rattle.store_rules.proofs.Sound.{Fits, LinkFits, size-most}
+use Rattle.store_rules.proofs.Shaped.{offset-shaped, shaped-then, shaped-leading}
 use Rattle.store_rules.proofs.LinkRows.{noLink, row-is}
-use Rattle.store_rules.proofs.LinksAscend.{From, Climb, climb-upto, climb-next}
+use Rattle.store_rules.proofs.LinksAscend.{From, Climb, place, climb-upto, climb-next}
+use Rattle.store_rules.proofs.RowOrder.{rows-from, from-rows}
 
--- a link that a store may hold: "links name objects in use, width 2, position + 2 within the parent"
+-- a link that a store may hold: "links name objects in use", of its kind's shape
 pub record Fitting (s : Store) (l : Link) : Type 0 where
   pub parentUsed : l .parent < s .objectCount
   pub childUsed : l .child < s .objectCount
-  pub wide : l .width ≡ 2
-  pub inside : l .position + 2 ≤ sizeOf s (l .parent)
+  pub shape : shaped (sizeOf s (l .parent)) l ≡ true
+
+-- a new link
+pub link-fitting : (s : Store) (p q c : ℕ) → p < s .objectCount → c < s .objectCount → q + 2 ≤ sizeOf s p → Fitting s (link p q c)
+link-fitting s p q c a b i = record { parentUsed = a; childUsed = b; shape = offset-shaped (sizeOf s p) (link p q c) refl refl i }
+
+-- a link that led to another child, or stood in another parent of the same size
+pub fitting-then : (s : Store) (l m : Link) (size : ℕ) → m .kind ≡ l .kind → m .width ≡ l .width → m .position ≡ l .position
+    → m .parent < s .objectCount → m .child < s .objectCount → (isOffset l ≡ true → l .position + 2 ≤ size → l .position + 2 ≤ sizeOf s (m .parent))
+    → shaped size l ≡ true → Fitting s m
+fitting-then s l m size a b c p d i h =
+    record { parentUsed = p; childUsed = d; shape = shaped-leading (sizeOf s (m .parent)) l m a b c (shaped-then size l (sizeOf s (m .parent)) i h) }
 
 pub rows-many : (s : Store) → length (linksOf s) ≡ s .linkCount
 unfolding linksOf
@@ -33,25 +43,21 @@ rows-many s = length-upto (linkAt s) (s .linkCount)
 
 module _ (s : Store) (f : Fits s) where
   pub row-fitting : (k : ℕ) → k < s .linkCount → Fitting s (linkAt s k)
-  row-fitting k l = let r = f .link k l in record { parentUsed = r .parentUsed; childUsed = r .childUsed; wide = r .wide; inside = r .inside }
+  row-fitting k l = let r = f .link k l in record { parentUsed = r .parentUsed; childUsed = r .childUsed; shape = r .shape }
 
   pub links-fit : Each (Fitting s) (linksOf s)
   unfolding linksOf
   links-fit = each-upto (Fitting s) (linkAt s) (s .linkCount) row-fitting
 
-  row-from : (k : ℕ) → suc k < s .linkCount → From (parentOf s k) (positionOf s k + 1) (parentOf s (suc k)) (positionOf s (suc k))
+  row-from : (k : ℕ) → suc k < s .linkCount → From (parentOf s k) (place (linkAt s k) + 1) (parentOf s (suc k)) (place (linkAt s (suc k)))
   unfolding ascends
   row-from k h =
-      let p = parentOf s k in
-      let q = parentOf s (suc k) in
-      ⊎-elim (λ a. inl (ltb-true p q a))
-      (λ a.
-      let (b, c) = and-both (eqb p q) (ltb (positionOf s k) (positionOf s (suc k))) a in
-      let d = ltb-true (positionOf s k) (positionOf s (suc k)) c in
-      inr (eqb-true p q b, omega arith))
-      (or-either (ltb p q) (eqb p q && ltb (positionOf s k) (positionOf s (suc k))) (f .link (suc k) h .rising))
+      let r = f .link k (omega arith) in
+      let n = f .link (suc k) h in
+      rows-from (linkAt s k) (linkAt s (suc k)) (sizeOf s (parentOf s k)) (sizeOf s (parentOf s (suc k))) (r .shape) (n .shape)
+      (size-most s f (parentOf s k) (r .parentUsed)) (size-most s f (parentOf s (suc k)) (n .parentUsed)) (n .rising)
 
-  -- "rows strictly ascending by (parent, position)"
+  -- "Rows strictly ascend"
   pub rows-climb : Climb 0 0 (s .objectCount) (linksOf s)
   unfolding linksOf flat
   rows-climb = ⊎-elim used none (either 0 (s .objectCount))
@@ -69,7 +75,7 @@ module _ (s : Store) (f : Fits s) where
 
 -- ---- and the other way round
 
-module _ (s : Store) (ls : List Link) (is : linksOf s ≡ ls) (fit : Each (Fitting s) ls) (e : ℕ) (climbs : Climb 0 0 e ls) where
+module _ (s : Store) (ls : List Link) (is : linksOf s ≡ ls) (small : (i : ℕ) → i < s .objectCount → sizeOf s i ≤ 16777216) (fit : Each (Fitting s) ls) (e : ℕ) (climbs : Climb 0 0 e ls) where
   row : (k : ℕ) → k < s .linkCount → linkAt s k ≡ getD ls k noLink
   row k h = row-is s ls is k h noLink
 
@@ -83,18 +89,19 @@ module _ (s : Store) (ls : List Link) (is : linksOf s ≡ ls) (fit : Each (Fitti
   unfolding ascends
   row-rises zero h = refl
   row-rises (suc k) h =
-      let p = parentOf s k in
-      let q = parentOf s (suc k) in
+      let l = linkAt s k in
+      let m = linkAt s (suc k) in
       let next = getD ls (suc k) noLink in
       let listed = climb-next ls 0 0 e climbs k (omega (arith, many)) noLink in
-      let first : From p (positionOf s k + 1) (next .parent) (next .position)
-      = subst (λ (a : Link). From (a .parent) (a .position + 1) (next .parent) (next .position)) (sym (row k (omega arith))) listed in
-      let both : From p (positionOf s k + 1) q (positionOf s (suc k))
-      = subst (λ (b : Link). From p (positionOf s k + 1) (b .parent) (b .position)) (sym (row (suc k) h)) first in
-      ⊎-elim (λ a. rw (lt-ltb p q a))
-      (λ (a, b). or-second (ltb p q) _ (and-intro _ _ (eq-eqb p q a) (lt-ltb (positionOf s k) (positionOf s (suc k)) (omega arith)))) both
+      let first : From (l .parent) (place l + 1) (next .parent) (place next)
+      = subst (λ (a : Link). From (a .parent) (place a + 1) (next .parent) (place next)) (sym (row k (omega arith))) listed in
+      let both : From (l .parent) (place l + 1) (m .parent) (place m)
+      = subst (λ (b : Link). From (l .parent) (place l + 1) (b .parent) (place b)) (sym (row (suc k) h)) first in
+      let r = row-fits k (omega arith) in
+      let n = row-fits (suc k) h in
+      from-rows l m (sizeOf s (l .parent)) (sizeOf s (m .parent)) (r .shape) (n .shape) (small (l .parent) (r .parentUsed)) (small (m .parent) (n .parentUsed)) both
 
   pub rows-fit : (k : ℕ) → k < s .linkCount → LinkFits s k
   rows-fit k h =
       let r = row-fits k h in
-      record { parentUsed = r .parentUsed; childUsed = r .childUsed; wide = r .wide; inside = r .inside; rising = row-rises k h }
+      record { parentUsed = r .parentUsed; childUsed = r .childUsed; shape = r .shape; rising = row-rises k h }

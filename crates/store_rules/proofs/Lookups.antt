@@ -8,22 +8,34 @@ use mathlib.Core.Option.{Option, some, none, Option·getD}
 use native.Mathlib.Omega.{arith}
 use native.Mathlib.Nat.{not-suc-le-zero, eq-or-lt-of-le, le-of-suc-le-suc}
 use lib.Dec.{eqb}
-use borrow.Author.Tests.{eqb-true, ne-eqb, eq-eqb}
+use borrow.Author.Tests.{eqb-true, ne-eqb}
 use Rattle.folds.specs.Folds.{orElse, flat, upto}
 use Rattle.folds.specs.Lists.{sift, isSome}
-use Rattle.folds.proofs.Tests.{and-both, true-false}
+use Rattle.folds.proofs.Tests.{and-both, and-first, and-second, true-false}
 use Rattle.folds.proofs.Each.{Each, each-moved}
-use Rattle.store_rules.specs.Store.{Link, lookup, Store, linkAt, parentOf, positionOf, childOf, childAt, linksOf, bytesOf, linkedAt, linkedBytes, offsetOf}
+use Rattle.store_rules.specs.Store.{Link, lookup, Store, linkAt, positionOf, childOf, childAt, linksOf, bytesOf, linkedAt, linkedBytes, offsetOf}
 use Rattle.store_rules.specs.Reach.{onCycle, Reach}
 use Rattle.store_rules.proofs.Sound.{Fits}
+use Rattle.store_rules.proofs.Shaped.{of-parent, of-other}
 use Rattle.store_rules.proofs.Reached.{reached-all}
 
 -- the link is the one that is looked up
 abbrev pub hit : Link → ℕ → ℕ → Bool
-hit l p q = eqb (l .parent) p && eqb (l .position) q
+hit l p q = offsetOf p l && eqb (l .position) q
+
+-- it is an offset of p at q
+pub hit-is : (l : Link) (p q : ℕ) → hit l p q ≡ true → (offsetOf p l ≡ true) × (l .position ≡ q)
+hit-is l p q h = let (a, b) = and-both (offsetOf p l) (eqb (l .position) q) h in (a, eqb-true (l .position) q b)
 
 pub hit-both : (l : Link) (p q : ℕ) → hit l p q ≡ true → (l .parent ≡ p) × (l .position ≡ q)
-hit-both l p q h = let (a, b) = and-both (eqb (l .parent) p) (eqb (l .position) q) h in (eqb-true (l .parent) p a, eqb-true (l .position) q b)
+hit-both l p q h = let (a, b) = hit-is l p q h in (of-parent p l a, b)
+
+-- one of another parent, or at another position, is not
+pub hit-other : (l : Link) (p q : ℕ) → (l .parent ≡ p → ⊥) → hit l p q ≡ false
+hit-other l p q ne = and-first (offsetOf p l) (eqb (l .position) q) (of-other p l ne)
+
+pub hit-apart : (l : Link) (p q : ℕ) → (l .position ≡ q → ⊥) → hit l p q ≡ false
+hit-apart l p q ne = and-second (offsetOf p l) (eqb (l .position) q) (ne-eqb (l .position) q ne)
 
 -- ---- in one list after another
 
@@ -34,7 +46,7 @@ or-else-none none = refl
 pub lookup-append : (xs ys : List Link) (p q : ℕ) → lookup (xs ++ ys) p q ≡ orElse (lookup xs p q) (lookup ys p q)
 unfolding lookup
 lookup-append [] ys p q = refl
-lookup-append (x ∷ xs) ys p q = go (eqb (x .parent) p && eqb (x .position) q) (lookup-append xs ys p q)
+lookup-append (x ∷ xs) ys p q = go (hit x p q) (lookup-append xs ys p q)
   where
     go : (b : Bool) → lookup (xs ++ ys) p q ≡ orElse (lookup xs p q) (lookup ys p q)
         → cond b (some (x .child)) (lookup (xs ++ ys) p q) ≡ orElse (cond b (some (x .child)) (lookup xs p q)) (lookup ys p q)
@@ -103,7 +115,7 @@ module _ (f : Link → Link) (p : Link → Bool) (u q u′ q′ : ℕ) where
 pub lookup-elsewhere : (ls : List Link) (p q : ℕ) → Each (λ l. l .parent ≡ p → ⊥) ls → lookup ls p q ≡ none
 unfolding lookup
 lookup-elsewhere [] p q a = refl
-lookup-elsewhere (l ∷ ls) p q a = rw (ne-eqb (l .parent) p (a .0)) (lookup-elsewhere ls p q (a .1))
+lookup-elsewhere (l ∷ ls) p q a = rw (hit-other l p q (a .0)) (lookup-elsewhere ls p q (a .1))
 
 -- links of parents below n, where the parents stay
 pub lookup-above : (f : Link → Link) (p : Link → Bool) (n u q : ℕ) → n ≤ u → ((l : Link) → f l .parent ≡ l .parent)
@@ -113,11 +125,11 @@ lookup-above f p n u q h k ls a =
 
 -- links that stay where they are, with a child changed
 pub lookup-changed : (f : Link → Link) (h : ℕ → ℕ) (p q : ℕ) → ((l : Link) → f l .parent ≡ l .parent) → ((l : Link) → f l .position ≡ l .position)
-    → ((l : Link) → hit l p q ≡ true → f l .child ≡ h (l .child)) → (ls : List Link) → lookup (map f ls) p q ≡ mapped h (lookup ls p q)
+    → ((l : Link) → f l .kind ≡ l .kind) → ((l : Link) → hit l p q ≡ true → f l .child ≡ h (l .child)) → (ls : List Link) → lookup (map f ls) p q ≡ mapped h (lookup ls p q)
 unfolding sift
-lookup-changed f h p q a b c ls =
+lookup-changed f h p q a b k c ls =
     ap (λ (x : List Link). lookup (map f x) p q) (sym (all-pass ls))
-    ∙ lookup-moved f (λ l. true) p q p q h (λ l e. ap₂ (λ (x y : ℕ). eqb x p && eqb y q) (a l) (b l)) (λ l e. refl) c ls
+    ∙ lookup-moved f (λ l. true) p q p q h (λ l e. rw (a l, b l, k l)) (λ l e. refl) c ls
   where
     all-pass : (xs : List Link) → sift (λ l. true) xs ≡ xs
     all-pass [] = refl
@@ -125,23 +137,25 @@ lookup-changed f h p q a b c ls =
 
 -- ---- in a store
 
+-- one of the first n rows is an offset of p at q, and leads to c
+abbrev pub Row : Store → ℕ → ℕ → ℕ → ℕ → Type 0
+Row s n p q c = (k : ℕ) × (k < n) × (offsetOf p (linkAt s k) ≡ true) × (positionOf s k ≡ q) × (childOf s k ≡ c)
+
 -- a link that is found is one of the rows
-found-row : (s : Store) (n p q c : ℕ) → lookup (upto (linkAt s) n) p q ≡ some c → (k : ℕ) × (k < n) × (parentOf s k ≡ p) × (positionOf s k ≡ q) × (childOf s k ≡ c)
+found-row : (s : Store) (n p q c : ℕ) → lookup (upto (linkAt s) n) p q ≡ some c → Row s n p q c
 unfolding flat lookup
 found-row s zero p q c e = let z : _≡_ {A = ℕ} 0 1 = cc in absurd (omega arith)
 found-row s (suc n) p q c e = go (lookup (upto (linkAt s) n) p q) refl (found-row s n p q c)
   where
-    last : (b : Bool) → (eqb (parentOf s n) p && eqb (positionOf s n) q) ≡ b → cond b (some (childOf s n)) none ≡ some c → (k : ℕ) × (k < suc n) × (parentOf s k ≡ p) × (positionOf s k ≡ q) × (childOf s k ≡ c)
-    last true h f = let (x, y) = and-both (eqb (parentOf s n) p) (eqb (positionOf s n) q) h in (n, omega arith, eqb-true (parentOf s n) p x, eqb-true (positionOf s n) q y, cc)
+    last : (b : Bool) → hit (linkAt s n) p q ≡ b → cond b (some (childOf s n)) none ≡ some c → Row s (suc n) p q c
+    last true h f = let (x, y) = hit-is (linkAt s n) p q h in (n, omega arith, x, y, cc)
     last false h f = let z : _≡_ {A = ℕ} 0 1 = cc in absurd (omega arith)
 
-    go : (o : Option ℕ) → lookup (upto (linkAt s) n) p q ≡ o
-        → (lookup (upto (linkAt s) n) p q ≡ some c → (k : ℕ) × (k < n) × (parentOf s k ≡ p) × (positionOf s k ≡ q) × (childOf s k ≡ c))
-        → (k : ℕ) × (k < suc n) × (parentOf s k ≡ p) × (positionOf s k ≡ q) × (childOf s k ≡ c)
+    go : (o : Option ℕ) → lookup (upto (linkAt s) n) p q ≡ o → (lookup (upto (linkAt s) n) p q ≡ some c → Row s n p q c) → Row s (suc n) p q c
     go (some d) h ih =
         let f : some d ≡ some c = sym (lookup-append (upto (linkAt s) n) (linkAt s n ∷ []) p q ∙ rw h) ∙ e in
         let (k, l, a, b, x) = ih (h ∙ f) in (k, omega arith, a, b, x)
-    go none h ih = last (eqb (parentOf s n) p && eqb (positionOf s n) q) refl (sym (lookup-append (upto (linkAt s) n) (linkAt s n ∷ []) p q ∙ rw h) ∙ e)
+    go none h ih = last (hit (linkAt s n) p q) refl (sym (lookup-append (upto (linkAt s) n) (linkAt s n ∷ []) p q ∙ rw h) ∙ e)
 
 some-of : (o : Option ℕ) → isSome o ≡ true → (c : ℕ) × (o ≡ some c)
 some-of (some c) h = (c, refl)
@@ -151,7 +165,7 @@ module _ (s : Store) (t : ℕ) where
   pub child-there : (q : ℕ) → isSome (childAt s t q) ≡ true → (c : ℕ) × (childAt s t q ≡ some c)
   child-there q h = some-of (childAt s t q) h
 
-  pub child-row : (q c : ℕ) → childAt s t q ≡ some c → (k : ℕ) × (k < s .linkCount) × (parentOf s k ≡ t) × (positionOf s k ≡ q) × (childOf s k ≡ c)
+  pub child-row : (q c : ℕ) → childAt s t q ≡ some c → Row s (s .linkCount) t q c
   unfolding childAt linksOf
   child-row q c e = found-row s (s .linkCount) t q c e
 
@@ -163,7 +177,7 @@ module _ (s : Store) (t : ℕ) where
   unfolding onCycle
   child-other f acyclic q c e z =
       let (k, l, a, b, x) = child-row q c e in
-      true-false (sym (reached-all s (λ k. offsetOf t (linkAt s k)) f (Reach.seed k l (eq-eqb (parentOf s k) t a) (x ∙ z))) ∙ acyclic)
+      true-false (sym (reached-all s (λ k. offsetOf t (linkAt s k)) f (Reach.seed k l a (x ∙ z))) ∙ acyclic)
 
   pub linked-some : (q c : ℕ) → childAt s t q ≡ some c → linkedBytes s t q ≡ bytesOf s c
   linked-some q c e = ap (λ (o : Option ℕ). bytesOf s (Option·getD o 0)) e

@@ -12,7 +12,7 @@ use Rattle.folds.specs.Lists.{among, isEmpty, isSome}
 use Rattle.folds.proofs.Compared as compared
 use Rattle.folds.proofs.Compared.{same, every}
 use Rattle.store_rules.specs.Store as Store
-use Rattle.store_rules.specs.Store.{lent, perLink, headOf, tailOf, parentOf, childOf, sound, byteRoom, objectRoom, linkRoom, bytesOf, handedOut, childAt, linkedAt, linkedBytes, offsetOf, ofSpan, allAt}
+use Rattle.store_rules.specs.Store.{lent, perLink, headOf, tailOf, parentOf, childOf, sound, byteRoom, objectRoom, linkRoom, bytesOf, handedOut, childAt, linkedAt, linkedBytes, offsetOf, ofSpan, allAt, ordersOf}
 use Rattle.store_rules.specs.Reach as Reach
 use Rattle.store_rules.specs.Reach.{onCycle, reachOf, itemSize}
 use Rattle.store_rules.specs.Appended as Appended
@@ -94,22 +94,46 @@ soundness =
     sound (linked []) ∷ sound twice ∷ sound (rowed (0 ∷ 16 ∷ 16 ∷ 18 ∷ []) [])
     ∷ not (sound (rowed (0 ∷ 16 ∷ 15 ∷ 18 ∷ []) [])) ∷ not (sound (rowed (16 ∷ 0 ∷ 16 ∷ 18 ∷ []) [])) ∷ not (sound (rowed (0 ∷ 16 ∷ 16 ∷ 19 ∷ []) []))
     ∷ sound (linked (linkRow 0 6 1)) ∷ not (sound (linked (linkRow 0 7 1))) ∷ not (sound (linked (linkRow 0 2 4))) ∷ not (sound (linked (linkRow 4 2 1)))
-    ∷ not (sound (linked (0 ∷ 2 ∷ 3 ∷ 1 ∷ []))) ∷ not (sound (linked (linkRow 0 2 1 ++ linkRow 0 2 3))) ∷ not (sound (linked (linkRow 1 0 3 ++ linkRow 0 2 1)))
-    ∷ not (sound (linked (0 ∷ 2 ∷ 1 ∷ 1 ∷ [])))
-    -- a parent whose row is not in use, and a link that is lent but for its child
+    ∷ not (sound (linked (0 ∷ 2 ∷ 3 ∷ 1 ∷ 0 ∷ []))) ∷ not (sound (linked (linkRow 0 2 1 ++ linkRow 0 2 3))) ∷ not (sound (linked (linkRow 1 0 3 ++ linkRow 0 2 1)))
+    ∷ not (sound (linked (0 ∷ 2 ∷ 1 ∷ 1 ∷ 0 ∷ [])))
+    -- a parent whose row is not in use, and a link that is lent but for its kind
     ∷ sound (pair 3 (linkRow 0 2 1 ++ linkRow 0 4 1 ++ linkRow 1 0 0)) ∷ not (sound (pair 3 (linkRow 0 2 1 ++ linkRow 0 4 1 ++ linkRow 2 0 0)))
-    ∷ not (sound (pair 2 (linkRow 0 2 1 ++ (0 ∷ 4 ∷ 2 ∷ []))))
+    ∷ not (sound (pair 2 (linkRow 0 2 1 ++ (0 ∷ 4 ∷ 2 ∷ 1 ∷ []))))
     ∷ sound (linked (linkRow 0 2 1 ++ linkRow 0 3 3)) ∷ not (sound (linked (linkRow 0 4 1 ++ linkRow 0 2 3)))
+    ∷ []
+
+-- the row of an order-only link
+abbrev pub orderRow : ℕ → ℕ → List ℕ
+orderRow p c = p ∷ 0 ∷ 0 ∷ c ∷ 1 ∷ []
+
+-- `sound`, of order-only links: behind the parent's offsets and by child, each once; also of an object without bytes, and to itself; but no other kind, and no
+-- position or width, nor an offset without them
+unfoldable pub orders : List Bool
+orders =
+    sound (linked (linkRow 0 2 1 ++ orderRow 0 1)) ∷ not (sound (linked (orderRow 0 1 ++ linkRow 0 2 1)))
+    ∷ sound (linked (orderRow 0 1 ++ orderRow 0 3)) ∷ not (sound (linked (orderRow 0 3 ++ orderRow 0 1))) ∷ not (sound (linked (orderRow 0 1 ++ orderRow 0 1)))
+    ∷ sound (linked (orderRow 0 3 ++ linkRow 1 0 3)) ∷ sound (linked (orderRow 2 1)) ∷ sound (linked (orderRow 1 1))
+    ∷ sound (linked (linkRow 0 0 1 ++ orderRow 0 1)) ∷ not (sound (linked (linkRow 0 2 1 ++ linkRow 0 2 3)))
+    ∷ not (sound (linked (0 ∷ 0 ∷ 0 ∷ 1 ∷ 2 ∷ []))) ∷ not (sound (linked (0 ∷ 2 ∷ 0 ∷ 1 ∷ 1 ∷ []))) ∷ not (sound (linked (0 ∷ 0 ∷ 2 ∷ 1 ∷ 1 ∷ [])))
+    ∷ not (sound (linked (0 ∷ 0 ∷ 0 ∷ 1 ∷ 0 ∷ []))) ∷ not (sound (linked (orderRow 0 4))) ∷ not (sound (linked (orderRow 4 0)))
+    -- "not followed by sizes, loop checks or pair readings", and looked at by no check of slots
+    ∷ eqb (reachOf (linked (linkRow 0 2 1 ++ orderRow 0 3 ++ orderRow 1 3)) (offsetOf 0)) 4
+    ∷ not (onCycle (linked (linkRow 0 2 1 ++ orderRow 1 0)) 0) ∷ not (onCycle (linked (orderRow 0 0)) 0)
+    ∷ not (isSome (childAt (linked (orderRow 0 1)) 0 0)) ∷ eqb (linkedAt (linked (linkRow 0 0 3 ++ orderRow 0 1)) 0 0) 3
+    ∷ allAt (linked (linkRow 0 2 1 ++ orderRow 0 3)) 0 (λ q. eqb q 2) ∷ eqb (linksFrom (linked (linkRow 0 2 1 ++ orderRow 0 3)) 0) 1
+    -- `ordersOf`: in order, of this object alone; `kept`: an order-only link stays as it is
+    ∷ same (ordersOf (linked (linkRow 0 2 2 ++ orderRow 0 1 ++ orderRow 0 3 ++ orderRow 1 0)) 0) (1 ∷ 3 ∷ []) ∷ isEmpty (ordersOf twice 0)
+    ∷ same (rowNumbers (kept (0 ∷ []) 5 20 (record { parent = 5; position = 0; width = 0; child = 3; kind = 1 }) ∷ [])) (orderRow 5 3)
     ∷ []
 
 -- rows for so many objects and links, and bytes, all beyond what is lent or beyond the maxima
 unfoldable pub counted : ℕ → ℕ → ℕ → Store.Store
-counted b o l = record { bytes = replicate 3 0; objects = replicate 5 0; links = replicate 9 0; byteCount = b; objectCount = o; linkCount = l }
+counted b o l = record { bytes = replicate 3 0; objects = replicate 5 0; links = replicate 11 0; byteCount = b; objectCount = o; linkCount = l }
 
 -- `byteRoom`, `objectRoom`, `linkRoom`: what is lent, in whole rows; and the counts have to fit
 unfoldable pub rooms : List Bool
 rooms =
-    eqb (byteRoom 3) 3 ∷ eqb (byteRoom 16777217) 16777216 ∷ eqb (objectRoom 5) 2 ∷ eqb (objectRoom 131074) 65536 ∷ eqb (linkRoom 9) 2 ∷ eqb (linkRoom 1048580) 262144
+    eqb (byteRoom 3) 3 ∷ eqb (byteRoom 16777217) 16777216 ∷ eqb (objectRoom 5) 2 ∷ eqb (objectRoom 131074) 65536 ∷ eqb (linkRoom 11) 2 ∷ eqb (linkRoom 1310725) 262144
     ∷ sound (counted 3 2 0) ∷ not (sound (counted 4 0 0)) ∷ not (sound (counted 0 3 0)) ∷ not (sound (counted 0 0 3))
     ∷ []
 
@@ -176,11 +200,11 @@ unfoldable pub headers : List Bool
 headers =
     same (ownChild (2 ∷ 8 ∷ []) 20 2 9 ∷ ownChild (2 ∷ 8 ∷ []) 20 8 9 ∷ ownChild (2 ∷ 8 ∷ []) 20 10 9 ∷ ownChild (2 ∷ 8 ∷ []) 20 1 9 ∷ []) (20 ∷ 21 ∷ 9 ∷ 9 ∷ [])
     ∷ same (rowNumbers (headerLinks (2 ∷ 8 ∷ []) (2 ∷ 8 ∷ 10 ∷ []) 20 (λ q. q + 100))) (linkRow 20 2 21 ++ linkRow 20 8 22 ++ linkRow 20 10 110)
-    ∷ same (rowNumbers (kept (2 ∷ 8 ∷ []) 5 20 (record { parent = 5; position = 8; width = 7; child = 3 }) ∷ [])) (5 ∷ 8 ∷ 7 ∷ 21 ∷ [])
-    ∷ same (rowNumbers (kept (2 ∷ 8 ∷ []) 5 20 (record { parent = 5; position = 10; width = 7; child = 3 }) ∷ [])) (5 ∷ 10 ∷ 7 ∷ 3 ∷ [])
-    ∷ same (rowNumbers (kept (2 ∷ 8 ∷ []) 5 20 (record { parent = 6; position = 8; width = 7; child = 3 }) ∷ [])) (6 ∷ 8 ∷ 7 ∷ 3 ∷ [])
+    ∷ same (rowNumbers (kept (2 ∷ 8 ∷ []) 5 20 (record { parent = 5; position = 8; width = 7; child = 3; kind = 0 }) ∷ [])) (5 ∷ 8 ∷ 7 ∷ 21 ∷ 0 ∷ [])
+    ∷ same (rowNumbers (kept (2 ∷ 8 ∷ []) 5 20 (record { parent = 5; position = 10; width = 7; child = 3; kind = 0 }) ∷ [])) (5 ∷ 10 ∷ 7 ∷ 3 ∷ 0 ∷ [])
+    ∷ same (rowNumbers (kept (2 ∷ 8 ∷ []) 5 20 (record { parent = 6; position = 8; width = 7; child = 3; kind = 0 }) ∷ [])) (6 ∷ 8 ∷ 7 ∷ 3 ∷ 0 ∷ [])
     ∷ []
 
-pub pinned : every (soundness ++ rooms ++ lookups ++ reaches ++ added ++ headers ++ slotted) ≡ true
-unfolding Folds.computes Lists.computes compared.computes Store.computes Reach.computes Appended.computes Header.computes packed rowed linked twice spare pair more soundness counted rooms counts lookups apart reaches asTwice added headers SlotLinks.computes slotted
+pub pinned : every (soundness ++ orders ++ rooms ++ lookups ++ reaches ++ added ++ headers ++ slotted) ≡ true
+unfolding Folds.computes Lists.computes compared.computes Store.computes Reach.computes Appended.computes Header.computes packed rowed linked twice spare pair more soundness orders counted rooms counts lookups apart reaches asTwice added headers SlotLinks.computes slotted
 pinned = refl

@@ -3,12 +3,12 @@ use Prim.Native.Nat.{ℕ, _+_, _<_, _≤_}
 use mathlib.Core.Path.{_≡_, ap}
 use mathlib.Core.Bool.{Bool, true, false, cond}
 use native.Mathlib.Omega.{arith}
-use lib.Dec.{eqb, leb, ltb}
+use lib.Dec.{leb, ltb}
 use borrow.Author.Tests.{leb-true, ltb-true, le-leb, lt-ltb}
 use Rattle.folds.proofs.Joined.{and-three, three-hold}
 use Rattle.folds.proofs.Sums.{sum-zero, sum-less}
 use Rattle.folds.proofs.Tests.{by-test}
-use Rattle.store_rules.specs.Store.{Store, Link, linkAt, sizeOf, ofSpan}
+use Rattle.store_rules.specs.Store.{Store, Link, linkAt, sizeOf, offsetOf, ofSpan}
 use Rattle.store_rules.specs.Reach.{marked, reached, reachSize, reachOf, itemSize}
 use Rattle.store_rules.proofs.Sound.{Fits}
 use Rattle.store_rules.proofs.Reaching.{reached-more, reached-none}
@@ -43,8 +43,8 @@ module _ (s : Store) (f : Fits s) where
     where
       wider : (l : Link) → ofSpan p lo hi l ≡ true → ofSpan p lo′ hi′ l ≡ true
       wider l h =
-          let (x, y, z) = and-three (eqb (l .parent) p) (leb lo (l .position)) (ltb (l .position) hi) h in
-          three-hold (eqb (l .parent) p) (leb lo′ (l .position)) (ltb (l .position) hi′) x
+          let (x, y, z) = and-three (offsetOf p l) (leb lo (l .position)) (ltb (l .position) hi) h in
+          three-hold (offsetOf p l) (leb lo′ (l .position)) (ltb (l .position) hi′) x
           (le-leb lo′ (l .position) (omega (arith, leb-true lo (l .position) y))) (lt-ltb (l .position) hi′ (omega (arith, ltb-true (l .position) hi z)))
 
   pub span-none : (p at : ℕ) → spanReach p at at ≡ 0
@@ -53,7 +53,7 @@ module _ (s : Store) (f : Fits s) where
       none : (l : Link) → ofSpan p at at l ≡ false
       none l =
           by-test (ofSpan p at at l)
-          (λ h. let (x, y, z) = and-three (eqb (l .parent) p) (leb at (l .position)) (ltb (l .position) at) h in absurd (omega (arith, leb-true at (l .position) y, ltb-true (l .position) at z)))
+          (λ h. let (x, y, z) = and-three (offsetOf p l) (leb at (l .position)) (ltb (l .position) at) h in absurd (omega (arith, leb-true at (l .position) y, ltb-true (l .position) at z)))
           (λ h. h)
 
 -- S of item i is what it adds to what those from a on reach, where more items reach no less

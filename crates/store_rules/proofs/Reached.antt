@@ -1,7 +1,7 @@
 -- `reached` marks what can be reached along the link rows, and nothing else. Assumes nothing.
 use Prim.Native.Nat.{ℕ, zero, suc, _+_, _<_, _≤_}
 use mathlib.Core.Path.{_≡_, refl, sym, ap, _∙_}
-use mathlib.Core.Bool.{Bool, true, false, not, _||_}
+use mathlib.Core.Bool.{Bool, true, false, not, _&&_, _||_}
 use mathlib.Core.List.{List}
 use mathlib.Core.Logic.{_⊎_, inl, inr, ⊎-elim}
 use native.Mathlib.Omega.{arith}
@@ -14,9 +14,10 @@ use borrow.Author.Tests.{ne-eqb, eq-eqb, not-true}
 use Rattle.folds.proofs.Tests.{and-both, and-intro, by-test, true-false}
 use Rattle.folds.proofs.Joined.{or-either, or-first, or-second}
 use Rattle.folds.proofs.Tally.{count, tally-one, count-all}
-use Rattle.store_rules.specs.Store.{Store, parentOf, childOf}
+use Rattle.store_rules.specs.Store.{Store, linkAt, isOffset, parentOf, childOf}
 use Rattle.store_rules.specs.Reach.{marked, due, once, grow, reached, Reach}
 use Rattle.store_rules.proofs.Sound.{Fits}
+use Rattle.store_rules.proofs.Shaped.{is-of, of-offset, of-parent}
 
 -- ---- one mark more
 
@@ -29,21 +30,25 @@ marked-here w j h = eq-eqb (getD (set w j 1) j 0) 1 (getD-set-same w j 1 0 h)
 -- ---- one round
 
 module _ (s : Store) (from : ℕ → Bool) (w : List ℕ) where
-  -- row k leads on: it is one to start from, or its parent is marked
+  -- row k is an offset of a marked object
+  abbrev onward : ℕ → Bool
+  onward k = isOffset (linkAt s k) && marked w (parentOf s k)
+
+  -- row k leads on: it is one to start from, or an offset of a marked object
   abbrev From : ℕ → Type 0
-  From k = (from k ≡ true) ⊎ (marked w (parentOf s k) ≡ true)
+  From k = (from k ≡ true) ⊎ (onward k ≡ true)
 
   due-true : (k : ℕ) → due s from w k ≡ true → From k × (marked w (childOf s k) ≡ false)
   unfolding due
   due-true k e =
-      let (p, q) = and-both (from k || marked w (parentOf s k)) (not (marked w (childOf s k))) e in
-      (or-either (from k) (marked w (parentOf s k)) p, not-true (marked w (childOf s k)) q)
+      let (p, q) = and-both (from k || onward k) (not (marked w (childOf s k))) e in
+      (or-either (from k) (onward k) p, not-true (marked w (childOf s k)) q)
 
   due-not : (k : ℕ) → due s from w k ≡ false → From k → marked w (childOf s k) ≡ true
   unfolding due
   due-not k e f =
       by-test (marked w (childOf s k)) (λ y. y)
-      (λ n. true-false (sym (and-intro (from k || marked w (parentOf s k)) (not (marked w (childOf s k))) (⊎-elim (or-first (from k) (marked w (parentOf s k))) (or-second (from k) (marked w (parentOf s k))) f) (ap not n)) ∙ e))
+      (λ n. true-false (sym (and-intro (from k || onward k) (not (marked w (childOf s k))) (⊎-elim (or-first (from k) (onward k)) (or-second (from k) (onward k)) f) (ap not n)) ∙ e))
 
   -- none of the first k rows is due
   abbrev Still : ℕ → Type 0
@@ -97,7 +102,12 @@ module _ (s : Store) (from : ℕ → Bool) (f : Fits s) where
       more (j, j<, d, p) i l t = go (ℕ-discrete i (childOf s j))
         where
           go : Dec (i ≡ childOf s j) → Reach s from i
-          go (yes q) = ⊎-elim (λ a. Reach.seed j j< a (sym q)) (λ r. Reach.step (h (parentOf s j) (f .link j j< .parentUsed) r) j j< refl (sym q)) (due-true s from w j d .0)
+          go (yes q) =
+              ⊎-elim (λ a. Reach.seed j j< a (sym q))
+              (λ r.
+              let (o, m) = and-both (isOffset (linkAt s j)) (marked w (parentOf s j)) r in
+              Reach.step (h (parentOf s j) (f .link j j< .parentUsed) m) j j< (is-of (parentOf s j) (linkAt s j) o refl) (sym q))
+              (due-true s from w j d .0)
           go (no q) = h i l (sym (marked-set w (childOf s j) i q) ∙ (let z : marked (set w (childOf s j) 1) i ≡ true = rw p at t in z))
 
   -- what is marked can be reached
@@ -115,4 +125,4 @@ module _ (s : Store) (from : ℕ → Bool) (f : Fits s) where
   -- what can be reached is marked
   pub reached-all : {i : ℕ} → Reach s from i → marked (reached s from) i ≡ true
   reached-all (Reach.seed k l a e) = rw e at (done k l (inl a))
-  reached-all (Reach.step {i} r k l p e) = rw e at (done k l (inr (ap (marked (reached s from)) p ∙ reached-all r)))
+  reached-all (Reach.step {i} r k l p e) = rw e at (done k l (inr (and-intro (isOffset (linkAt s k)) (marked (reached s from) (parentOf s k)) (of-offset i (linkAt s k) p) (ap (marked (reached s from)) (of-parent i (linkAt s k) p) ∙ reached-all r))))

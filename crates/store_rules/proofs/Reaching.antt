@@ -7,9 +7,10 @@ use lib.ListN.{getD, set, replicate}
 use Rattle.folds.proofs.Agree.{both-ways}
 use Rattle.folds.proofs.Tally.{tally-same}
 use Rattle.folds.proofs.Tests.{by-test, true-false}
-use Rattle.store_rules.specs.Store.{Store, lent, parentOf, childOf, sizeOf}
+use Rattle.store_rules.specs.Store.{Store, lent, linkAt, isOffset, parentOf, childOf, sizeOf}
 use Rattle.store_rules.specs.Reach.{marked, due, once, grow, reached, reachSize, Reach}
 use Rattle.store_rules.proofs.Sound.{Fits}
+use Rattle.store_rules.proofs.Shaped.{of-offset, of-parent}
 use Rattle.store_rules.proofs.Reached.{reached-only, reached-all}
 
 module _ {s : Store} where
@@ -22,9 +23,9 @@ module _ {s : Store} where
   reach-none f (Reach.step r k h p e) = reach-none f r
 
   -- what holds for the children of the rows to start from, and goes from parent to child, holds for all that can be reached
-  pub reach-all : {from : ℕ → Bool} (P : ℕ → Type 0) → ((k : ℕ) → k < s .linkCount → from k ≡ true → P (childOf s k)) → ((k : ℕ) → k < s .linkCount → P (parentOf s k) → P (childOf s k)) → {i : ℕ} → Reach s from i → P i
+  pub reach-all : {from : ℕ → Bool} (P : ℕ → Type 0) → ((k : ℕ) → k < s .linkCount → from k ≡ true → P (childOf s k)) → ((k : ℕ) → k < s .linkCount → isOffset (linkAt s k) ≡ true → P (parentOf s k) → P (childOf s k)) → {i : ℕ} → Reach s from i → P i
   reach-all P f g (Reach.seed k h a e) = rw e at (f k h a)
-  reach-all P f g (Reach.step r k h p e) = rw e at (g k h (rw p (reach-all P f g r)))
+  reach-all P f g (Reach.step {i} r k h p e) = rw e at (g k h (of-offset i (linkAt s k) p) (rw (of-parent i (linkAt s k) p) (reach-all P f g r)))
 
 -- ---- as marks, and as a size
 

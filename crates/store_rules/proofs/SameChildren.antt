@@ -1,18 +1,20 @@
 -- Rows of one store and rows of another lead the same ways, where the children at their places are the same, and those of what they reach. Assumes nothing.
 use Prim.Native.Nat.{ℕ, _<_}
-use mathlib.Core.Path.{_≡_, sym, ap, ap₂, subst, _∙_}
-use mathlib.Core.Bool.{Bool, true}
+use mathlib.Core.Path.{_≡_, sym, ap, ap₂, _∙_}
+use mathlib.Core.Bool.{Bool, true, _&&_}
 use mathlib.Core.Option.{some}
-use Rattle.store_rules.specs.Store.{Store, childAt, parentOf, positionOf, childOf}
+use Rattle.folds.proofs.Tests.{and-both, and-intro}
+use Rattle.store_rules.specs.Store.{Store, linkAt, isOffset, childAt, parentOf, positionOf, childOf}
 use Rattle.store_rules.specs.Reach.{Reach}
 use Rattle.store_rules.proofs.Sound.{Fits}
 use Rattle.store_rules.proofs.Lookups.{child-row}
-use Rattle.store_rules.proofs.RowChild.{row-child}
+use Rattle.store_rules.proofs.RowChild.{row-child, offset-child}
+use Rattle.store_rules.proofs.Shaped.{of-offset, of-parent}
 use Rattle.store_rules.proofs.SameReach.{Seed, Leads, SameWays}
 
--- the rows of s that stand at such places: by parent and position
+-- the offsets of s that stand at such places: by parent and position
 abbrev pub rowsAt : Store → (ℕ → ℕ → Bool) → ℕ → Bool
-rowsAt s places k = places (parentOf s k) (positionOf s k)
+rowsAt s places k = isOffset (linkAt s k) && places (parentOf s k) (positionOf s k)
 
 -- at one of the places of s a link leads to c
 abbrev pub LeadsTo : Store → (ℕ → ℕ → Bool) → ℕ → Type 0
@@ -20,17 +22,20 @@ LeadsTo s places c = (p : ℕ) × (q : ℕ) × (places p q ≡ true) × (childAt
 
 module _ (s : Store) (f : Fits s) where
   -- the row is found at its place
-  row-found : (k c : ℕ) → k < s .linkCount → childOf s k ≡ c → childAt s (parentOf s k) (positionOf s k) ≡ some c
-  row-found k c l e = row-child s f k l ∙ ap some e
+  row-found : (k c : ℕ) → k < s .linkCount → isOffset (linkAt s k) ≡ true → childOf s k ≡ c → childAt s (parentOf s k) (positionOf s k) ≡ some c
+  row-found k c l o e = row-child s f k l o ∙ ap some e
 
   seed-leads : (places : ℕ → ℕ → Bool) (c : ℕ) → Seed s (rowsAt s places) c → LeadsTo s places c
-  seed-leads places c (k, l, a, e) = (parentOf s k, positionOf s k, a, row-found k c l e)
+  seed-leads places c (k, l, a, e) =
+      let (o, b) = and-both (isOffset (linkAt s k)) (places (parentOf s k) (positionOf s k)) a in
+      (parentOf s k, positionOf s k, b, row-found k c l o e)
 
   leads-seed : (places : ℕ → ℕ → Bool) (c : ℕ) → LeadsTo s places c → Seed s (rowsAt s places) c
-  leads-seed places c (p, q, a, e) = let (k, l, x, y, z) = child-row s p q c e in (k, l, ap₂ places x y ∙ a, z)
+  leads-seed places c (p, q, a, e) = let (k, l, x, y, z) = child-row s p q c e in
+      (k, l, and-intro (isOffset (linkAt s k)) (places (parentOf s k) (positionOf s k)) (of-offset p (linkAt s k) x) (ap₂ places (of-parent p (linkAt s k) x) y ∙ a), z)
 
   leads-child : (p c : ℕ) → Leads s p c → (q : ℕ) × (childAt s p q ≡ some c)
-  leads-child p c (k, l, a, e) = (positionOf s k, subst (λ (i : ℕ). childAt s i (positionOf s k) ≡ some c) a (row-found k c l e))
+  leads-child p c (k, l, a, e) = (positionOf s k, offset-child s f k p l a ∙ ap some e)
 
   child-leads : (p c : ℕ) → (q : ℕ) × (childAt s p q ≡ some c) → Leads s p c
   child-leads p c (q, e) = let (k, l, x, y, z) = child-row s p q c e in (k, l, x, z)

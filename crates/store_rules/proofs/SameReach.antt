@@ -1,6 +1,6 @@
 -- What some rows of a store reach is what other rows of another store reach, where they lead the same ways; and it has the same size. Assumes nothing.
 use Prim.Native.Nat.{ℕ, _+_, _-_, _<_, _≤_}
-use mathlib.Core.Path.{_≡_, sym, ap, subst, _∙_}
+use mathlib.Core.Path.{_≡_, sym, ap, _∙_}
 use mathlib.Core.Bool.{Bool, true, cond}
 use mathlib.Core.Logic.{⊎-elim}
 use native.Mathlib.Omega.{arith}
@@ -9,18 +9,19 @@ use Rattle.folds.proofs.Tests.{by-test, either}
 use Rattle.folds.proofs.Agree.{both-ways}
 use Rattle.folds.proofs.FromTheFront.{sum-same}
 use Rattle.folds.proofs.TwoParts.{sum-zeros}
-use Rattle.store_rules.specs.Store.{Store, parentOf, childOf, sizeOf}
+use Rattle.store_rules.specs.Store.{Store, linkAt, offsetOf, parentOf, childOf, sizeOf}
 use Rattle.store_rules.specs.Reach.{marked, reached, reachSize, Reach}
 use Rattle.store_rules.proofs.Sound.{Fits}
+use Rattle.store_rules.proofs.Shaped.{of-parent}
 use Rattle.store_rules.proofs.Reached.{reached-all, reached-only}
 
 -- a row of these leads to c
 abbrev pub Seed : Store → (ℕ → Bool) → ℕ → Type 0
 Seed s from c = (k : ℕ) × (k < s .linkCount) × (from k ≡ true) × (childOf s k ≡ c)
 
--- a row leads from p to c
+-- an offset of p leads to c
 abbrev pub Leads : Store → ℕ → ℕ → Type 0
-Leads s p c = (k : ℕ) × (k < s .linkCount) × (parentOf s k ≡ p) × (childOf s k ≡ c)
+Leads s p c = (k : ℕ) × (k < s .linkCount) × (offsetOf p (linkAt s k) ≡ true) × (childOf s k ≡ c)
 
 -- the rows `from` of x and the rows `then` of y lead the same ways: to the same objects first, and on from each that the former reach
 pub record SameWays (x y : Store) (from then : ℕ → Bool) : Type 0 where
@@ -49,22 +50,22 @@ reach-used s f from (Reach.step r k l p e) = rw e at (f .link k l .childUsed)
 
 pub record RowsBehind (x y : Store) (from : ℕ → Bool) : Type 0 where
   pub rows : x .linkCount ≤ y .linkCount
-  pub parents : (k : ℕ) → k < x .linkCount → parentOf y k ≡ parentOf x k
-  pub children : (k : ℕ) → k < x .linkCount → Reach x from (parentOf x k) → childOf y k ≡ childOf x k
+  pub parents : (k : ℕ) → k < x .linkCount → (p : ℕ) → offsetOf p (linkAt y k) ≡ offsetOf p (linkAt x k)
+  pub children : (k : ℕ) → k < x .linkCount → (p : ℕ) → offsetOf p (linkAt x k) ≡ true → Reach x from p → childOf y k ≡ childOf x k
   pub behind : (k : ℕ) → x .linkCount ≤ k → k < y .linkCount → x .objectCount ≤ parentOf y k
 
 module _ {x y : Store} {from : ℕ → Bool} (kept : RowsBehind x y from) where
   pub behind-goes : (p c : ℕ) → Reach x from p → Leads x p c → Leads y p c
   behind-goes p c r (k, l, a, e) =
-      (k, omega (arith, kept .rows), kept .parents k l ∙ a, kept .children k l (subst (Reach x from) (sym a) r) ∙ e)
+      (k, omega (arith, kept .rows), kept .parents k l p ∙ a, kept .children k l p a r ∙ e)
 
   pub behind-went : Fits x → (p c : ℕ) → Reach x from p → Leads y p c → Leads x p c
   behind-went f p c r (k, l, a, e) =
       ⊎-elim
       (λ old.
-      let parent : parentOf x k ≡ p = sym (kept .parents k old) ∙ a in
-      (k, old, parent, sym (kept .children k old (subst (Reach x from) (sym parent) r)) ∙ e))
-      (λ new. absurd (omega (arith, kept .behind k new l, reach-used x f from r)))
+      let offset : offsetOf p (linkAt x k) ≡ true = sym (kept .parents k old p) ∙ a in
+      (k, old, offset, sym (kept .children k old p offset r) ∙ e))
+      (λ new. absurd (omega (arith, kept .behind k new l, of-parent p (linkAt y k) a, reach-used x f from r)))
       (either k (x .linkCount))
 
 -- ---- as marks, and as a size

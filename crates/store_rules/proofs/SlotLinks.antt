@@ -1,7 +1,7 @@
 -- The links of an object at slots that stand in a row: where each leads, what holds of each, how many they are, and that they ascend. Assumes nothing.
 use Prim.Native.Nat.{ℕ, zero, suc, _+_, _*_, _<_, _≤_}
 use mathlib.Core.Path.{_≡_, refl, sym, ap, subst, _∙_}
-use mathlib.Core.Bool.{Bool, false, cond, _&&_}
+use mathlib.Core.Bool.{Bool, true, false, cond, _&&_}
 use mathlib.Core.List.{List, _++_}
 use mathlib.Core.Logic.{⊎-elim, inl, inr}
 use mathlib.Core.Option.{Option, some, none}
@@ -16,12 +16,12 @@ use Rattle.folds.proofs.Tests.{either, and-second, and-first}
 use Rattle.folds.proofs.Folds.{length-flat}
 use Rattle.folds.proofs.FromTheFront.{flat-cons, sum-same}
 use Rattle.folds.proofs.Each.{Each, each-flat}
-use Rattle.store_rules.specs.Store.{Store, Link, lookup, childAt, parentOf, positionOf}
+use Rattle.store_rules.specs.Store.{Store, Link, linkAt, offsetOf, lookup, childAt, positionOf}
 use Rattle.store_rules.specs.Appended.{link}
 use Rattle.store_rules.specs.SlotLinks.{linksFrom, slotLink, slotLinks}
 use Rattle.store_rules.proofs.Sound.{Fits}
 use Rattle.store_rules.proofs.Lookups.{lookup-piece, lookup-none-flat}
-use Rattle.store_rules.proofs.LinksAscend.{Climb}
+use Rattle.store_rules.proofs.LinksAscend.{Climb, place}
 use Rattle.store_rules.proofs.SlotsCounted.{slots-counted}
 
 -- 1 where there is a child
@@ -91,7 +91,7 @@ module _ (p a d : ℕ) (child : ℕ → Option ℕ) where
 
 places-climb : (p : ℕ) (place : ℕ → ℕ) (child : ℕ → Option ℕ) (n q : ℕ) → ((k : ℕ) → place k < place (suc k)) → q ≤ place 0
     → Climb p q (suc p) (flat (λ k. slotLink p (place k) (child k)) n)
-unfolding flat slotLink
+unfolding flat slotLink place
 places-climb p place child zero q up h = inl (omega arith)
 places-climb p place child (suc n) q up h =
     subst (Climb p q (suc p)) (sym (flat-cons (λ k. slotLink p (place k) (child k)) n))
@@ -110,7 +110,7 @@ slots-climb p a d child n h =
 -- ---- an object whose links all stand at n such slots has as many as are found there
 
 pub slots-all : (s : Store) → Fits s → (p a d n : ℕ) → 0 < d
-    → ((k : ℕ) → k < s .linkCount → parentOf s k ≡ p → (i : ℕ) × (i < n) × (positionOf s k ≡ a + d * i))
+    → ((k : ℕ) → k < s .linkCount → offsetOf p (linkAt s k) ≡ true → (i : ℕ) × (i < n) × (positionOf s k ≡ a + d * i))
     → sum (λ k. there (childAt s p (a + d * k))) n ≡ linksFrom s p
 unfolding linksFrom
 slots-all s f p a d n h at = slots-counted p (λ k. a + d * k) n own s f at

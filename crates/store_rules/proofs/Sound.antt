@@ -1,18 +1,19 @@
 -- What a sound store gives, as facts on its counts, objects and links, and that these make it sound. Assumes nothing.
 use Prim.Native.Nat.{ℕ, zero, suc, _+_, _*_, _<_, _≤_}
 use mathlib.Core.Path.{_≡_}
-use mathlib.Core.Bool.{true}
+use mathlib.Core.Bool.{true, _&&_}
 use mathlib.Core.Logic.{⊎-elim}
 use native.Mathlib.Omega.{arith}
 use native.Mathlib.Nat.{not-suc-le-zero, le-of-suc-le-suc, eq-or-lt-of-le}
 use lib.ListN.{length}
-use lib.Dec.{leb, ltb, eqb}
-use borrow.Author.Tests.{ltb-true, leb-true, eqb-true, lt-ltb, le-leb, eq-eqb}
+use lib.Dec.{leb, ltb}
+use borrow.Author.Tests.{ltb-true, leb-true, lt-ltb, le-leb}
 use Rattle.folds.specs.Folds.{all, sum, before}
+use Rattle.folds.proofs.Tests.{and-both, and-intro}
 use Rattle.folds.proofs.Folds.{all-at, all-intro}
 use Rattle.folds.proofs.Joined.{and-three, and-five, three-hold, five-hold}
 use Rattle.folds.proofs.Parts.{length-part}
-use Rattle.store_rules.specs.Store.{perLink, Store, sound, byteRoom, objectRoom, linkRoom, bytesOf, headOf, tailOf, sizeOf, parentOf, positionOf, childOf, widthOf, objectFits, linkFits, ascends}
+use Rattle.store_rules.specs.Store.{perLink, Store, sound, byteRoom, objectRoom, linkRoom, bytesOf, headOf, tailOf, sizeOf, linkAt, parentOf, childOf, objectFits, shaped, linkFits, ascends}
 
 -- "head ≤ tail ≤ data in use, each head at or after the tail before it"
 pub record ObjectFits (s : Store) (i : ℕ) : Type 0 where
@@ -20,12 +21,11 @@ pub record ObjectFits (s : Store) (i : ℕ) : Type 0 where
   pub ordered : headOf s i ≤ tailOf s i
   pub inside : tailOf s i ≤ s .byteCount
 
--- "links name objects in use, width 2, position + 2 within the parent; rows strictly ascending by (parent, position)"
+-- "links name objects in use", each is of its kind's shape, and rows ascend
 pub record LinkFits (s : Store) (k : ℕ) : Type 0 where
   pub parentUsed : parentOf s k < s .objectCount
   pub childUsed : childOf s k < s .objectCount
-  pub wide : widthOf s k ≡ 2
-  pub inside : positionOf s k + 2 ≤ sizeOf s (parentOf s k)
+  pub shape : shaped (sizeOf s (parentOf s k)) (linkAt s k) ≡ true
   pub rising : ascends s k ≡ true
 
 -- "counts fit the lent lengths and the maxima", and each object and each link in use fits
@@ -50,8 +50,12 @@ object-fits s i h =
 link-fits : (s : Store) (k : ℕ) → linkFits s k ≡ true → LinkFits s k
 unfolding linkFits
 link-fits s k h =
-    let (a, b, c, d, e) = and-five (ltb (parentOf s k) (s .objectCount)) (ltb (childOf s k) (s .objectCount)) (eqb (widthOf s k) 2) (leb (positionOf s k + 2) (sizeOf s (parentOf s k))) (ascends s k) h in
-    record { parentUsed = ltb-true _ _ a; childUsed = ltb-true _ _ b; wide = eqb-true _ _ c; inside = leb-true _ _ d; rising = e }
+    let parents = ltb (parentOf s k) (s .objectCount) in
+    let children = ltb (childOf s k) (s .objectCount) in
+    let shapes = shaped (sizeOf s (parentOf s k)) (linkAt s k) in
+    let (x, e) = and-both (parents && children && shapes) (ascends s k) h in
+    let (a, b, c) = and-three parents children shapes x in
+    record { parentUsed = ltb-true _ _ a; childUsed = ltb-true _ _ b; shape = c; rising = e }
 
 pub sound-fits : (s : Store) → sound s ≡ true → Fits s
 unfolding sound byteRoom objectRoom linkRoom
@@ -84,7 +88,7 @@ fits-object s i f = three-hold _ _ _ (le-leb _ _ (f .after)) (le-leb _ _ (f .ord
 
 fits-link : (s : Store) (k : ℕ) → LinkFits s k → linkFits s k ≡ true
 unfolding linkFits
-fits-link s k f = five-hold _ _ _ _ _ (lt-ltb _ _ (f .parentUsed)) (lt-ltb _ _ (f .childUsed)) (eq-eqb _ _ (f .wide)) (le-leb _ _ (f .inside)) (f .rising)
+fits-link s k f = and-intro _ _ (three-hold _ _ _ (lt-ltb _ _ (f .parentUsed)) (lt-ltb _ _ (f .childUsed)) (f .shape)) (f .rising)
 
 pub fits-sound : (s : Store) → Fits s → sound s ≡ true
 unfolding sound byteRoom objectRoom linkRoom

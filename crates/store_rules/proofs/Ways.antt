@@ -3,9 +3,8 @@ use Prim.Native.Nat.{ℕ, _<_}
 use mathlib.Core.Path.{_≡_, sym, _∙_}
 use mathlib.Core.Bool.{false}
 use mathlib.Core.Option.{some}
-use borrow.Author.Tests.{eq-eqb}
 use Rattle.folds.proofs.Tests.{by-test, true-false}
-use Rattle.store_rules.specs.Store.{Store, linkAt, childAt, parentOf, childOf, offsetOf}
+use Rattle.store_rules.specs.Store.{Store, linkAt, childAt, childOf, offsetOf}
 use Rattle.store_rules.specs.Reach.{Reach, marked, reached, onCycle}
 use Rattle.store_rules.proofs.Sound.{Fits}
 use Rattle.store_rules.proofs.Reached.{reached-only, reached-all}
@@ -17,7 +16,7 @@ Way s u i = Reach s (λ k. offsetOf u (linkAt s k)) i
 
 module _ (s : Store) where
   pub way-child : (u q c : ℕ) → childAt s u q ≡ some c → Way s u c
-  way-child u q c e = let (k, l, a, b, x) = child-row s u q c e in Reach.seed k l (eq-eqb (parentOf s k) u a) x
+  way-child u q c e = let (k, l, a, b, x) = child-row s u q c e in Reach.seed k l a x
 
   pub way-on : (u c q d : ℕ) → Way s u c → childAt s c q ≡ some d → Way s u d
   way-on u c q d w e = let (k, l, a, b, x) = child-row s c q d e in Reach.step w k l a x

@@ -10,13 +10,13 @@ unfoldable pub rowsFrom : ℕ → List (List ℕ) → List ℕ
 rowsFrom at [] = []
 rowsFrom at (x ∷ xs) = at ∷ (at + length x) ∷ rowsFrom (at + length x) xs
 
--- a new link
+-- a new link, which is an offset: order-only links "are not given to new" objects
 abbrev pub link : ℕ → ℕ → ℕ → Link
-link p q c = record { parent = p; position = q; width = 2; child = c }
+link p q c = record { parent = p; position = q; width = 2; child = c; kind = 0 }
 
 -- the numbers of a link's row
 abbrev pub numbersOf : Link → List ℕ
-numbersOf l = l .parent ∷ l .position ∷ l .width ∷ l .child ∷ []
+numbersOf l = l .parent ∷ l .position ∷ l .width ∷ l .child ∷ l .kind ∷ []
 
 -- links as the numbers of their rows
 unfoldable pub rowNumbers : List Link → List ℕ

@@ -15,7 +15,8 @@ ownChild (p ∷ ps) v q c = cond (eqb q p) v (ownChild ps (v + 1) q c)
 unfoldable pub headerLinks : List ℕ → List ℕ → ℕ → (ℕ → ℕ) → List Link
 headerLinks own heads u old = map (λ q. link u q (ownChild own (u + 1) q (old q))) heads
 
--- a link that stays where table t is split: the kept table's own parts are "always as new objects", of which v is the first
+-- a link that stays where table t is split: the kept table's own parts are "always as new objects", of which v is the first; order-only links "stay with the
+-- kept table" as they are
 unfoldable pub kept : List ℕ → ℕ → ℕ → Link → Link
 kept own t v l = leadingTo (cond (offsetOf t l) (ownChild own v (l .position) (l .child)) (l .child)) l
 

@@ -1,4 +1,4 @@
--- What can be reached along the link rows, as a relation and as a function that computes, and S, a difference of two such sums. Assumes nothing.
+-- What can be reached along offsets, as a relation and as a function that computes, and S, a difference of two such sums. Assumes nothing.
 use Prim.Native.Nat.{ℕ, zero, suc, _+_, _-_, _<_}
 use mathlib.Core.Bool.{Bool, true, not, cond, _&&_, _||_}
 use mathlib.Core.List.{List}
@@ -6,12 +6,12 @@ use mathlib.Core.Path.{_≡_}
 use lib.ListN.{getD, set, replicate}
 use lib.Dec.{eqb}
 use Rattle.folds.specs.Folds.{sum}
-use Rattle.store_rules.specs.Store.{Store, Link, linkAt, parentOf, childOf, sizeOf, offsetOf}
+use Rattle.store_rules.specs.Store.{Store, Link, linkAt, parentOf, childOf, sizeOf, isOffset, offsetOf}
 
--- i can be reached along the link rows, from the rows of `from`
+-- i can be reached from the rows of `from`, along offsets: "Order-only links are not followed"
 pub data Reach (s : Store) (from : ℕ → Bool) : ℕ → Type 0 where
   seed : {i : ℕ} (k : ℕ) → k < s .linkCount → from k ≡ true → childOf s k ≡ i → Reach s from i
-  step : {i j : ℕ} → Reach s from i → (k : ℕ) → k < s .linkCount → parentOf s k ≡ i → childOf s k ≡ j → Reach s from j
+  step : {i j : ℕ} → Reach s from i → (k : ℕ) → k < s .linkCount → offsetOf i (linkAt s k) ≡ true → childOf s k ≡ j → Reach s from j
 
 -- ---- as a function
 
@@ -19,9 +19,9 @@ pub data Reach (s : Store) (from : ℕ → Bool) : ℕ → Type 0 where
 abbrev pub marked : List ℕ → ℕ → Bool
 marked w i = eqb (getD w i 0) 1
 
--- row k leads to an object with no mark, and is one of the rows to start from or leads from a marked object
+-- row k leads to an object with no mark, and is one of the rows to start from or an offset of a marked object
 unfoldable pub due : Store → (ℕ → Bool) → List ℕ → ℕ → Bool
-due s from w k = (from k || marked w (parentOf s k)) && not (marked w (childOf s k))
+due s from w k = (from k || isOffset (linkAt s k) && marked w (parentOf s k)) && not (marked w (childOf s k))
 
 -- the marks, once the last of the first k rows that is due, if one is, has marked its child
 unfoldable pub once : Store → (ℕ → Bool) → List ℕ → ℕ → List ℕ

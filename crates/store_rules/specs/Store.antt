@@ -1,14 +1,15 @@
 -- "The object store": what the caller lends, when it is sound, an object's bytes, and the child at a parent's position. Assumes nothing.
 use Prim.Native.Nat.{ℕ, zero, suc, _+_, _-_, _*_, _/_, min}
-use mathlib.Core.Bool.{Bool, true, cond, _&&_, _||_}
-use mathlib.Core.List.{List, [], _∷_}
+use mathlib.Core.Bool.{Bool, true, cond, not, _&&_, _||_}
+use mathlib.Core.List.{List, [], _∷_, map}
 use mathlib.Core.Option.{Option, some, none, Option·getD}
 use lib.ListN.{length, getD}
 use lib.Dec.{leb, ltb, eqb}
 use Rattle.folds.specs.Folds.{all, before, upto}
-use Rattle.folds.specs.Lists.{part}
+use Rattle.folds.specs.Lists.{part, sift}
 
--- "Lent by the caller: data bytes; object rows (head, tail); link rows (parent, position, width, child); the count in use of each."
+-- "Lent by the caller: data bytes; object rows (head, tail); link rows (parent, position, width, child); the count in use of each."; "Link rows gain a fifth
+-- number, kind"
 pub record Store : Type 0 where
   pub bytes : List ℕ
   pub objects : List ℕ
@@ -23,9 +24,9 @@ lent b o l c = record { bytes = b; objects = o; links = l; byteCount = getD c 0 
 
 -- numbers in a link row
 abbrev pub perLink : ℕ
-perLink = 4
+perLink = 5
 
--- "link rows (parent, position, width, child)": which number of a row is which
+-- "link rows (parent, position, width, child)", and "a fifth number, kind": which number of a row is which
 abbrev pub rowParent : ℕ
 rowParent = 0
 
@@ -37,6 +38,9 @@ rowWidth = 2
 
 abbrev pub rowChild : ℕ
 rowChild = 3
+
+abbrev pub rowKind : ℕ
+rowKind = 4
 
 -- "Room is the smaller of lent length and maximum": "16,777,216 data bytes, 65,536 objects, 262,144 links"
 unfoldable pub byteRoom : ℕ → ℕ
@@ -86,22 +90,79 @@ widthOf s k = linkNumber s k rowWidth
 abbrev pub childOf : Store → ℕ → ℕ
 childOf s k = linkNumber s k rowChild
 
+-- its kind
+abbrev pub kindOf : Store → ℕ → ℕ
+kindOf s k = linkNumber s k rowKind
+
+-- ---- links
+
+-- the numbers of a link row
+pub record Link : Type 0 where
+  pub parent : ℕ
+  pub position : ℕ
+  pub width : ℕ
+  pub child : ℕ
+  pub kind : ℕ
+
+-- the same link, of parent p at position q
+abbrev pub placedAt : ℕ → ℕ → Link → Link
+placedAt p q l = record { parent = p; position = q; width = l .width; child = l .child; kind = l .kind }
+
+-- the same link, to child c
+abbrev pub leadingTo : ℕ → Link → Link
+leadingTo c l = record { parent = l .parent; position = l .position; width = l .width; child = c; kind = l .kind }
+
+-- row k as a link
+abbrev pub linkAt : Store → ℕ → Link
+linkAt s k = record { parent = parentOf s k; position = positionOf s k; width = widthOf s k; child = childOf s k; kind = kindOf s k }
+
+-- the links in use, in the order of their rows
+unfoldable pub linksOf : Store → List Link
+linksOf s = upto (linkAt s) (s .linkCount)
+
+-- "kind: 0 as now": the link is an offset; any other only says "place me after"
+abbrev pub isOffset : Link → Bool
+isOffset l = eqb (l .kind) 0
+
+-- an offset of object p
+abbrev pub offsetOf : ℕ → Link → Bool
+offsetOf p l = isOffset l && eqb (l .parent) p
+
+-- an order-only link of object p
+abbrev pub orderOf : ℕ → Link → Bool
+orderOf p l = not (isOffset l) && eqb (l .parent) p
+
+-- ---- sound
+
 -- "head ≤ tail ≤ data in use, each head at or after the tail before it"
 unfoldable pub objectFits : Store → ℕ → Bool
 objectFits s i = leb (before (tailOf s) i) (headOf s i) && leb (headOf s i) (tailOf s i) && leb (tailOf s i) (s .byteCount)
 
--- "rows strictly ascending by (parent, position)"
+-- "Rows strictly ascend by (parent, kind, position, child)"
+unfoldable pub rowBefore : Link → Link → Bool
+rowBefore l m =
+    ltb (l .parent) (m .parent)
+    || eqb (l .parent) (m .parent)
+    && (ltb (l .kind) (m .kind) || eqb (l .kind) (m .kind) && (ltb (l .position) (m .position) || eqb (l .position) (m .position) && ltb (l .child) (m .child)))
+
+-- two offsets of one parent at one position
+unfoldable pub onePosition : Link → Link → Bool
+onePosition l m = offsetOf (m .parent) l && isOffset m && eqb (l .position) (m .position)
+
+-- the row comes behind the one before, "and no parent has two kind 0 links at one position": they would be rows that follow each other
 unfoldable pub ascends : Store → ℕ → Bool
 ascends s zero = true
-ascends s (suc k) =
-    ltb (parentOf s k) (parentOf s (suc k))
-    || eqb (parentOf s k) (parentOf s (suc k)) && ltb (positionOf s k) (positionOf s (suc k))
+ascends s (suc k) = rowBefore (linkAt s k) (linkAt s (suc k)) && not (onePosition (linkAt s k) (linkAt s (suc k)))
 
--- "links name objects in use, width 2, position + 2 within the parent"
+-- of a link whose parent has so many bytes: "width 2, position + 2 within the parent"; "1 order-only with position 0 and width 0"
+unfoldable pub shaped : ℕ → Link → Bool
+shaped size l =
+    cond (isOffset l) (eqb (l .width) 2 && leb (l .position + 2) size) (eqb (l .kind) 1 && eqb (l .position) 0 && eqb (l .width) 0)
+
+-- "links name objects in use", and each is of its kind's shape and in order
 unfoldable pub linkFits : Store → ℕ → Bool
 linkFits s k =
-    ltb (parentOf s k) (s .objectCount) && ltb (childOf s k) (s .objectCount) && eqb (widthOf s k) 2
-    && leb (positionOf s k + 2) (sizeOf s (parentOf s k)) && ascends s k
+    ltb (parentOf s k) (s .objectCount) && ltb (childOf s k) (s .objectCount) && shaped (sizeOf s (parentOf s k)) (linkAt s k) && ascends s k
 
 -- "Sound means: counts fit the lent lengths and the maxima", and what `objectFits` and `linkFits` say of each row
 unfoldable pub sound : Store → Bool
@@ -114,35 +175,14 @@ sound s =
 unfoldable pub handedOut : Store → ℕ → List ℕ
 handedOut s i = cond (sound s && ltb i (s .objectCount)) (bytesOf s i) []
 
--- the numbers of a link row
-pub record Link : Type 0 where
-  pub parent : ℕ
-  pub position : ℕ
-  pub width : ℕ
-  pub child : ℕ
+-- ---- offsets
 
--- the same link, of parent p at position q
-abbrev pub placedAt : ℕ → ℕ → Link → Link
-placedAt p q l = record { parent = p; position = q; width = l .width; child = l .child }
-
--- the same link, to child c
-abbrev pub leadingTo : ℕ → Link → Link
-leadingTo c l = record { parent = l .parent; position = l .position; width = l .width; child = c }
-
--- row k as a link
-abbrev pub linkAt : Store → ℕ → Link
-linkAt s k = record { parent = parentOf s k; position = positionOf s k; width = widthOf s k; child = childOf s k }
-
--- the links in use, in the order of their rows
-unfoldable pub linksOf : Store → List Link
-linksOf s = upto (linkAt s) (s .linkCount)
-
--- the child of the first link of p at position q
+-- the child of the first offset of p at position q
 unfoldable pub lookup : List Link → ℕ → ℕ → Option ℕ
 lookup [] p q = none
-lookup (l ∷ ls) p q = cond (eqb (l .parent) p && eqb (l .position) q) (some (l .child)) (lookup ls p q)
+lookup (l ∷ ls) p q = cond (offsetOf p l && eqb (l .position) q) (some (l .child)) (lookup ls p q)
 
--- the child that the link of p at position q leads to
+-- the child that the offset of p at position q leads to
 unfoldable pub childAt : Store → ℕ → ℕ → Option ℕ
 childAt s p q = lookup (linksOf s) p q
 
@@ -154,21 +194,21 @@ linkedAt s t q = Option·getD (childAt s t q) 0
 abbrev pub linkedBytes : Store → ℕ → ℕ → List ℕ
 linkedBytes s t q = bytesOf s (linkedAt s t q)
 
--- ---- some of the links
-
--- a link of object p
-abbrev pub offsetOf : ℕ → Link → Bool
-offsetOf p l = eqb (l .parent) p
-
--- one that stands from position lo up to hi, hi left out
+-- an offset of object p that stands from position lo up to hi, hi left out
 abbrev pub ofSpan : ℕ → ℕ → ℕ → Link → Bool
 ofSpan p lo hi l = offsetOf p l && leb lo (l .position) && ltb (l .position) hi
 
--- each link of object p stands at one of these slots
+-- each offset of object p stands at one of these slots
 unfoldable pub allAt : Store → ℕ → (ℕ → Bool) → Bool
 allAt s p slot = all (λ k. cond (offsetOf p (linkAt s k)) (slot (positionOf s k)) true) (s .linkCount)
 
+-- ---- order-only links
+
+-- what object p is to be placed after: the children of its order-only links, in order
+unfoldable pub ordersOf : Store → ℕ → List ℕ
+ordersOf s p = map (λ l. l .child) (sift (orderOf p) (linksOf s))
+
 -- all of this file's definitions, for checks that compute
 unfoldable pub computes : Unit {0}
-unfolding byteRoom objectRoom linkRoom bytesOf objectFits ascends linkFits sound handedOut linksOf lookup childAt allAt
+unfolding byteRoom objectRoom linkRoom bytesOf objectFits rowBefore onePosition ascends shaped linkFits sound handedOut linksOf lookup childAt allAt ordersOf
 computes = tt
