@@ -1,5 +1,5 @@
 -- Answers, scratch and outcomes held against small cases, as one check; each line pins what its comment says. Assumes nothing.
-use Prim.Native.Nat.{ℕ}
+use Prim.Native.Nat.{ℕ, _-_, _*_}
 use mathlib.Core.Path.{_≡_, refl}
 use mathlib.Core.Bool.{Bool, true, false, not}
 use mathlib.Core.List.{List, [], _∷_, map}
@@ -12,7 +12,7 @@ use Rattle.folds.specs.Moments.{Buffer}
 use Rattle.folds.proofs.Compared as compared
 use Rattle.folds.proofs.Compared.{same, every}
 use Rattle.store_rules.specs.Store as Store
-use Rattle.store_rules.specs.Store.{Store}
+use Rattle.store_rules.specs.Store.{Store, perLink}
 use Rattle.call_rules.specs.declared.Answer.the-variants.{
   Done,
   BadEdition,
@@ -119,9 +119,9 @@ pins =
     (3 ∷ 2 ∷ 0 ∷ 1 ∷ [])
     ∷ same (countsOf (store 2)) (2 ∷ 1 ∷ 0 ∷ [])
     -- `shortBy`: enough, each one too little, and nothing in use
-    ∷ not (tooLittle used 16 10 24 3)
-    ∷ tooLittle used 15 10 24 3 ∷ tooLittle used 16 9 24 3 ∷ tooLittle used 16 10 23 3 ∷ tooLittle used 16 10 24 2
-    ∷ not (tooLittle [] 6 4 16 3)
+    ∷ not (tooLittle used 16 10 (perLink * 6) 3)
+    ∷ tooLittle used 15 10 (perLink * 6) 3 ∷ tooLittle used 16 9 (perLink * 6) 3 ∷ tooLittle used 16 10 (perLink * 6 - 1) 3 ∷ tooLittle used 16 10 (perLink * 6) 2
+    ∷ not (tooLittle [] 6 4 (perLink * 4) 3)
     -- `together`: each in its place
     ∷ same
     (let n = together (record { objects = 2; links = 4; bytes = 6; entries = 3 }) (record { objects = 10; links = 20; bytes = 30; entries = 40 }) in
