@@ -15,7 +15,7 @@ use Rattle.ot_layouts.specs.PairPos.{shape1, shape2, itemAt, exact, isSlot}
 use Rattle.ot_layouts.proofs.CoverageGlyphs.{cover-sorted, sorted-ascends, sorted-under}
 use Rattle.ot_layouts.proofs.Octets.{bytes-u16}
 use Rattle.ot_layouts.proofs.Shapes.{by-format}
-use Rattle.store_rules.specs.Store.{Store, sound, bytesOf, childAt, parentOf, positionOf, linkedBytes, linkedAt}
+use Rattle.store_rules.specs.Store.{Store, sound, bytesOf, linkAt, offsetOf, childAt, positionOf, linkedBytes, linkedAt}
 use Rattle.store_rules.proofs.Bytes.{object-bytes}
 use Rattle.store_rules.proofs.Lookups.{child-there}
 use Rattle.store_rules.proofs.Slots.{all-stand, one-stands}
@@ -114,10 +114,10 @@ entries-under s t r h =
     sorted-under (entriesOf s t) 0 hi 65536 (u (bytes-u16 (linkedBytes s t 2) (object-bytes s h (linkedAt s t 2)))) (rw (entries-glyphs s t) x)
 
 -- ---- 7: the links of the table stand at slots
-pub all-at-slots : (s : Store) (t : ℕ) → ((k : ℕ) → k < s .linkCount → parentOf s k ≡ t → isSlot (shape s t) (positionOf s k) ≡ true) → allAtSlots s t ≡ true
+pub all-at-slots : (s : Store) (t : ℕ) → ((k : ℕ) → k < s .linkCount → offsetOf t (linkAt s k) ≡ true → isSlot (shape s t) (positionOf s k) ≡ true) → allAtSlots s t ≡ true
 unfolding allAtSlots
 all-at-slots s t = all-stand s t (isSlot (shape s t))
 
-pub at-slot : (s : Store) (t : ℕ) → allAtSlots s t ≡ true → (k : ℕ) → k < s .linkCount → parentOf s k ≡ t → isSlot (shape s t) (positionOf s k) ≡ true
+pub at-slot : (s : Store) (t : ℕ) → allAtSlots s t ≡ true → (k : ℕ) → k < s .linkCount → offsetOf t (linkAt s k) ≡ true → isSlot (shape s t) (positionOf s k) ≡ true
 unfolding allAtSlots
 at-slot s t = one-stands s t (isSlot (shape s t))

@@ -1,6 +1,6 @@
 -- A table is cut alike in two stores, where the second has all of the first and leads from what the table reaches as the first does. Assumes nothing.
 use Prim.Native.Nat.{ℕ, _-_, _+_, _<_, _≤_}
-use mathlib.Core.Path.{_≡_, refl, sym, ap, ap₂, _∙_}
+use mathlib.Core.Path.{_≡_, sym, ap, ap₂, subst, _∙_}
 use mathlib.Core.Bool.{Bool, true, false, cond, _&&_}
 use mathlib.Core.List.{List, map}
 use mathlib.Core.Logic.{_⊎_, inl, inr, ⊎-elim}
@@ -8,7 +8,6 @@ use mathlib.Core.Option.{Option, Option·getD}
 use native.Mathlib.Omega.{arith}
 use lib.ListN.{length, getD}
 use lib.Dec.{eqb, leb, ltb}
-use borrow.Author.Tests.{eqb-true, eq-eqb}
 use Rattle.folds.specs.Folds.{upto}
 use Rattle.folds.specs.Lists.{isSome}
 use Rattle.folds.proofs.Tests.{either}
@@ -16,10 +15,11 @@ use Rattle.folds.proofs.Joined.{and-three}
 use Rattle.ot_layouts.specs.Coverage.{Entry, coverGlyphs}
 use Rattle.ot_layouts.specs.ClassDef.{classOf}
 use Rattle.ot_layouts.specs.PairPos.{Shape, coverAt, class1At, class2At, shapeOf, itemAt, isSlot}
-use Rattle.store_rules.specs.Store.{Store, sizeOf, bytesOf, parentOf, positionOf, childOf, childAt, linkedAt, linkedBytes}
+use Rattle.store_rules.specs.Store.{Store, sizeOf, bytesOf, linkAt, isOffset, offsetOf, kindOf, parentOf, positionOf, childOf, childAt, linkedAt, linkedBytes}
 use Rattle.store_rules.specs.Reach.{Reach, reachSize, itemSize, onCycle}
 use Rattle.store_rules.proofs.Sound.{Fits}
 use Rattle.store_rules.proofs.Lookups.{linked-used}
+use Rattle.store_rules.proofs.Shaped.{of-offset, of-parent}
 use Rattle.store_rules.proofs.Ways.{Way}
 use Rattle.store_rules.proofs.SameReach.{Seed, SameWays, RowsBehind, behind-goes, behind-went, marks-same, reach-size-same}
 use Rattle.cut_rules.specs.Cuts.{Rule, cutsOf}
@@ -38,43 +38,58 @@ pub record Extends (x y : Store) (t : ℕ) : Type 0 where
   pub bytes : (i : ℕ) → i < x .objectCount → bytesOf y i ≡ bytesOf x i
   pub sizes : (i : ℕ) → i < x .objectCount → sizeOf y i ≡ sizeOf x i
   pub links : (q : ℕ) → childAt y t q ≡ childAt x t q
+  pub kinds : (k : ℕ) → k < x .linkCount → kindOf y k ≡ kindOf x k
   pub parents : (k : ℕ) → k < x .linkCount → parentOf y k ≡ parentOf x k
   pub positions : (k : ℕ) → k < x .linkCount → positionOf y k ≡ positionOf x k
-  pub children : (k : ℕ) → k < x .linkCount → (parentOf x k ≡ t) ⊎ Way x t (parentOf x k) → childOf y k ≡ childOf x k
+  pub children : (k : ℕ) → k < x .linkCount → isOffset (linkAt x k) ≡ true → (parentOf x k ≡ t) ⊎ Way x t (parentOf x k) → childOf y k ≡ childOf x k
   pub behind : (k : ℕ) → x .linkCount ≤ k → k < y .linkCount → x .objectCount ≤ parentOf y k
 
 module _ {x y : Store} {t : ℕ} (e : Extends x y t) where
   -- a row of the table is an old row
-  old-row : (k : ℕ) → k < y .linkCount → parentOf y k ≡ t → k < x .linkCount
-  old-row k l p = ⊎-elim (λ lt. lt) (λ ge. absurd (omega (arith, e .behind k ge l, e .used))) (either k (x .linkCount))
+  old-row : (k : ℕ) → k < y .linkCount → offsetOf t (linkAt y k) ≡ true → k < x .linkCount
+  old-row k l p = ⊎-elim (λ lt. lt) (λ ge. absurd (omega (arith, e .behind k ge l, of-parent t (linkAt y k) p, e .used))) (either k (x .linkCount))
+
+  -- and is an offset of an object as it was
+  offset-same : (k : ℕ) → k < x .linkCount → (p : ℕ) → offsetOf p (linkAt y k) ≡ offsetOf p (linkAt x k)
+  offset-same k l p = ap₂ (λ (n i : ℕ). eqb n 0 && eqb i p) (e .kinds k l) (e .parents k l)
+
+  -- where an offset of the table, or of what it reaches, leads
+  own-child : (k : ℕ) → k < x .linkCount → offsetOf t (linkAt x k) ≡ true → childOf y k ≡ childOf x k
+  own-child k l o = e .children k l (of-offset t (linkAt x k) o) (inl (of-parent t (linkAt x k) o))
+
+  way-child : (k : ℕ) → k < x .linkCount → (p : ℕ) → offsetOf p (linkAt x k) ≡ true → Way x t p → childOf y k ≡ childOf x k
+  way-child k l p o w = e .children k l (of-offset p (linkAt x k) o) (inr (subst (Way x t) (sym (of-parent p (linkAt x k) o)) w))
 
   -- ---- what some links of the table reach
 
-  -- a test of links of the table, by parent and position
-  module _ (test : ℕ → ℕ → Bool) (own : (p q : ℕ) → test p q ≡ true → p ≡ t) where
+  -- a test of offsets of the table, by kind, parent and position
+  module _ (test : ℕ → ℕ → ℕ → Bool) (own : (n p q : ℕ) → test n p q ≡ true → (eqb n 0 && eqb p t) ≡ true) where
     abbrev from : Store → ℕ → Bool
-    from z k = test (parentOf z k) (positionOf z k)
+    from z k = test (kindOf z k) (parentOf z k) (positionOf z k)
+
+    from-own : (z : Store) (k : ℕ) → from z k ≡ true → offsetOf t (linkAt z k) ≡ true
+    from-own z k a = own (kindOf z k) (parentOf z k) (positionOf z k) a
 
     from-same : (k : ℕ) → k < x .linkCount → from y k ≡ from x k
-    from-same k l = ap₂ test (e .parents k l) (e .positions k l)
+    from-same k l = λ d. test (e .kinds k l d) (e .parents k l d) (e .positions k l d)
 
     -- what they reach, the table reaches
     way-of : {i : ℕ} → Reach x (from x) i → Way x t i
-    way-of (Reach.seed k l a f) = Reach.seed k l (rw (own (parentOf x k) (positionOf x k) a) (eq-eqb t t refl)) f
+    way-of (Reach.seed k l a f) = Reach.seed k l (from-own x k a) f
     way-of (Reach.step r k l p f) = Reach.step (way-of r) k l p f
 
     rows-behind : RowsBehind x y (from x)
-    rows-behind = record { rows = e .rows; parents = e .parents; children = λ k l r. e .children k l (inr (way-of r)); behind = e .behind }
+    rows-behind = record { rows = e .rows; parents = offset-same; children = λ k l p o r. way-child k l p o (way-of r); behind = e .behind }
 
     starts : (c : ℕ) → Seed x (from x) c → Seed y (from y) c
     starts c (k, l, a, f) =
-        (k, omega (arith, e .rows), from-same k l ∙ a, e .children k l (inl (own (parentOf x k) (positionOf x k) a)) ∙ f)
+        (k, omega (arith, e .rows), from-same k l ∙ a, own-child k l (from-own x k a) ∙ f)
 
     started : (c : ℕ) → Seed y (from y) c → Seed x (from x) c
     started c (k, l, a, f) =
-        let p = own (parentOf y k) (positionOf y k) a in
-        let m = old-row k l p in
-        (k, m, sym (from-same k m) ∙ a, sym (e .children k m (inl (sym (e .parents k m) ∙ p))) ∙ f)
+        let m = old-row k l (from-own y k a) in
+        let b : from x k ≡ true = sym (from-same k m) ∙ a in
+        (k, m, b, sym (own-child k m (from-own x k b)) ∙ f)
 
     same-ways : SameWays x y (from x) (from y)
     same-ways = record { starts = starts; started = started; goes = behind-goes rows-behind; went = behind-went rows-behind (e .fits) }
@@ -87,14 +102,14 @@ module _ {x y : Store} {t : ℕ} (e : Extends x y t) where
   pub acyclic-same : onCycle x t ≡ false → onCycle y t ≡ false
   unfolding onCycle
   acyclic-same h =
-      marks-same (same-ways (λ p q. eqb p t) (λ p q a. eqb-true p t a)) (e .fits) (e .fitsThen) (e .objects) t (e .used) ∙ h
+      marks-same (same-ways (λ n p q. eqb n 0 && eqb p t) (λ n p q a. a)) (e .fits) (e .fitsThen) (e .objects) t (e .used) ∙ h
 
   pub slots-same : allAtSlots x t ≡ true → allAtSlots y t ≡ true
   slots-same h =
       all-at-slots y t
       (λ k l p.
       let m = old-row k l p in
-      ap₂ (λ (b : List ℕ) (q : ℕ). isSlot (shapeOf b) q) (e .bytes t (e .used)) (e .positions k m) ∙ at-slot x t h k m (sym (e .parents k m) ∙ p))
+      ap₂ (λ (b : List ℕ) (q : ℕ). isSlot (shapeOf b) q) (e .bytes t (e .used)) (e .positions k m) ∙ at-slot x t h k m (sym (offset-same k m t) ∙ p))
 
   -- ---- the rule
 
@@ -103,11 +118,11 @@ module _ {x y : Store} {t : ℕ} (e : Extends x y t) where
   item-same sh a i =
       ap₂ (λ (m n : ℕ). m - n) (size-same (of-items a (i + 1)) (items-own a (i + 1))) (size-same (of-items a i) (items-own a i))
     where
-      of-items : ℕ → ℕ → ℕ → ℕ → Bool
-      of-items lo hi p q = eqb p t && leb (itemAt sh lo) q && ltb q (itemAt sh hi)
+      of-items : ℕ → ℕ → ℕ → ℕ → ℕ → Bool
+      of-items lo hi n p q = eqb n 0 && eqb p t && leb (itemAt sh lo) q && ltb q (itemAt sh hi)
 
-      items-own : (lo hi p q : ℕ) → of-items lo hi p q ≡ true → p ≡ t
-      items-own lo hi p q a = eqb-true p t (and-three (eqb p t) (leb (itemAt sh lo) q) (ltb q (itemAt sh hi)) a .0)
+      items-own : (lo hi n p q : ℕ) → of-items lo hi n p q ≡ true → (eqb n 0 && eqb p t) ≡ true
+      items-own lo hi n p q a = and-three (eqb n 0 && eqb p t) (leb (itemAt sh lo) q) (ltb q (itemAt sh hi)) a .0
 
   linked-at : (q : ℕ) → linkedAt y t q ≡ linkedAt x t q
   linked-at q = ap (λ (o : Option ℕ). Option·getD o 0) (e .links q)

@@ -14,7 +14,8 @@ use Rattle.ot_layouts.specs.PairPos.{Shape, heads, shape1, shape2, coverAt, cla
 use Rattle.ot_layouts.proofs.Shapes.{heads-within, own-within, by-format, formats, format-two}
 use Rattle.store_rules.specs.Store.{Link, lookup, Store, linksOf, bytesOf, linkedAt}
 use Rattle.store_rules.specs.Header.{ownChild, headerLinks, kept}
-use Rattle.store_rules.proofs.Lookups.{hit, lookup-append, lookup-lost}
+use Rattle.store_rules.proofs.Shaped.{of-offset, of-parent}
+use Rattle.store_rules.proofs.Lookups.{hit, hit-other, lookup-append, lookup-lost}
 use Rattle.store_rules.proofs.LinksAscend.{Climb}
 use Rattle.store_rules.proofs.Header.{Rising, header-other, header-none, header-climb, kept-apart}
 use Rattle.pair_rules.specs.Table.{ofItems, shape}
@@ -34,8 +35,8 @@ same-eqb a b c d f g = go (ℕ-discrete a b)
 pub same-hit : (sh : Shape) (t u lo hi q : ℕ) (l : Link) → ofItems t sh lo hi l ≡ true → hit (moved sh u lo l) u q ≡ hit l t (q + sh .item * lo)
 unfolding moved
 same-hit sh t u lo hi q l h =
-    let (a, b, c) = items-from t sh lo hi l h in
-    rw (eq-eqb u u refl, eq-eqb (l .parent) t a) (same-eqb (l .position - sh .item * lo) q (l .position) (q + sh .item * lo) (λ e. omega arith) (λ e. omega arith))
+    let (o, b, c) = items-from t sh lo hi l h in
+    rw (of-offset t l o, eq-eqb u u refl, eq-eqb (l .parent) t (of-parent t l o)) (same-eqb (l .position - sh .item * lo) q (l .position) (q + sh .item * lo) (λ e. omega arith) (λ e. omega arith))
 
 pub moved-child : (sh : Shape) (u lo : ℕ) (l : Link) → moved sh u lo l .child ≡ l .child
 unfolding moved
@@ -65,7 +66,7 @@ table-none s t sh v lo hi u q ne =
     lookup-append (headLinks sh v (linkedAt s t)) (map (moved sh v lo) (sift (ofItems t sh lo hi) (linksOf s))) u q
     ∙ rw (
       header-other (sh .own) v (linkedAt s t) (heads sh) u q ne,
-      lookup-lost (moved sh v lo) (ofItems t sh lo hi) u q u q (λ l h. rw (ne-eqb v u ne)) (linksOf s),
+      lookup-lost (moved sh v lo) (ofItems t sh lo hi) u q u q (λ l h. hit-other (moved sh v lo l) u q ne) (linksOf s),
     )
 
 -- ---- in ascending order
