@@ -14,10 +14,11 @@ use Rattle.folds.proofs.Joined.{or-first}
 use Rattle.folds.proofs.Each.{Each, each-at, each-upto, each-moved, each-append, each-flat}
 use Rattle.ot_layouts.specs.PairPos.{Shape, heads, isSlot}
 use Rattle.ot_layouts.proofs.Slots.{slot-moved}
-use Rattle.store_rules.specs.Store.{Store, Link, linksOf, linkAt, positionOf, bytesOf, linkedAt}
+use Rattle.store_rules.specs.Store.{Store, Link, linksOf, linkAt, offsetOf, positionOf, bytesOf, linkedAt}
 use Rattle.store_rules.specs.Reach.{onCycle}
 use Rattle.store_rules.specs.Appended.{newNumber}
 use Rattle.store_rules.specs.Header.{kept, ownChild}
+use Rattle.store_rules.proofs.Shaped.{of-parent}
 use Rattle.store_rules.proofs.Lookups.{linked-used}
 use Rattle.store_rules.proofs.LinkRows.{noLink, row-is}
 use Rattle.store_rules.proofs.LinksFit.{rows-many}
@@ -49,7 +50,7 @@ module _ (s : Store) (t : ℕ) (cs : List ℕ) (g : Ready s t cs) where
   record Old (l : Link) : Type 0 where
     parentUsed : l .parent < s .objectCount
     childUsed : l .child < s .objectCount
-    slot : l .parent ≡ t → isSlot (shape s t) (l .position) ≡ true
+    slot : offsetOf t l ≡ true → isSlot (shape s t) (l .position) ≡ true
 
   old-links : Each Old (linksOf s)
   unfolding linksOf
@@ -125,7 +126,7 @@ module _ (s : Store) (t : ℕ) (cs : List ℕ) (g : Ready s t cs) where
     unfolding isSlot
     new-at-slots =
         all-at-slots s′ (table j)
-        (λ k m e. ap (λ (x : Shape). isSlot x (positionOf s′ k)) (view-shape (view-new s t cs g j l)) ∙ row-then k m .slot (omega arith))
+        (λ k m e. ap (λ (x : Shape). isSlot x (positionOf s′ k)) (view-shape (view-new s t cs g j l)) ∙ row-then k m .slot (omega (arith, of-parent (table j) (linkAt s′ k) e)))
 
     pub new-acyclic : onCycle s′ (newNumber s (perTable (shape s t)) j) ≡ false
     new-acyclic = unled-acyclic s′ (table j) (λ k m e. row-then k m .apart j l e) (fits-then s t cs g) (omega (arith, new-used s t cs g j 0 l (omega arith)))

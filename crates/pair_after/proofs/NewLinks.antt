@@ -1,6 +1,6 @@
 -- The links after a split: those that stay, then those of each new table; and where each of them leads. Assumes nothing.
 use Prim.Native.Nat.{ℕ, _+_, _*_, _<_, _≤_}
-use mathlib.Core.Path.{_≡_, refl, sym, _∙_}
+use mathlib.Core.Path.{_≡_, refl, sym, ap, _∙_}
 use mathlib.Core.Bool.{Bool, true, false, not}
 use mathlib.Core.List.{List, _++_, map}
 use mathlib.Core.Logic.{_⊎_}
@@ -8,7 +8,6 @@ use mathlib.Core.Option.{some}
 use native.Mathlib.Omega.{arith}
 use lib.ListN.{length}
 use lib.Dec.{eqb}
-use borrow.Author.Tests.{ne-eqb, eq-eqb}
 use Rattle.folds.specs.Folds.{flat}
 use Rattle.folds.specs.Lists.{sift}
 use Rattle.folds.proofs.Each.{Each, each-upto}
@@ -18,11 +17,12 @@ use Rattle.pair_rules.specs.Table.{ofItems, shape}
 use Rattle.cut_rules.specs.Ranges.{from, to}
 use Rattle.pair_rules.specs.Written.{tableLinks, splitStore, storeAfter, newLinks, headLinks, moved, perTable, keptTable, newOf}
 use Rattle.store_rules.specs.Appended.{newNumber}
-use Rattle.store_rules.proofs.Lookups.{lookup-append, lookup-none-flat, or-else-none, lookup-moved, mapped-id, hit, hit-both, mapped, lookup-above, lookup-piece}
+use Rattle.store_rules.proofs.Lookups.{lookup-append, lookup-none-flat, or-else-none, lookup-moved, mapped-id, hit, hit-is, hit-both, mapped, lookup-above, lookup-piece}
 use Rattle.pair_rules.proofs.ItemLinks.{items-out, items-in}
 use Rattle.store_rules.proofs.Appended as behind
 use Rattle.store_rules.specs.Header.{ownChild, kept}
-use Rattle.store_rules.proofs.Header.{kept-other, kept-parent}
+use Rattle.store_rules.proofs.Shaped.{of-other}
+use Rattle.store_rules.proofs.Header.{kept-other, kept-own, kept-parent}
 use Rattle.pair_rules.proofs.NewCounts.{tables-apart}
 use Rattle.pair_rules.proofs.TableLinks.{table-none, head-cover, head-class1, head-class2, past-header, same-hit, moved-child}
 use Rattle.pair_after.proofs.Ready.{Ready}
@@ -76,7 +76,7 @@ module _ (s : Store) (t : ℕ) (cs : List ℕ) (g : Ready s t cs) where
       other l e z = ne (sym (hit-both l i q e .0) ∙ z)
 
       still : (l : Link) → hit l i q ≡ true → stays s t cs l ≡ true
-      still l e = rw (ne-eqb (l .parent) t (other l e))
+      still l e = rw (of-other t l (other l e))
 
       same : (l : Link) → hit l i q ≡ true → kept (sh .own) t v l .child ≡ l .child
       same l e = kept-other (sh .own) t v l (other l e)
@@ -92,7 +92,7 @@ module _ (s : Store) (t : ℕ) (cs : List ℕ) (g : Ready s t cs) where
       still l h = let (a, b) = hit-both l t q h in rw (items-out t sh (from cs 0) (sh .count) l (rw b d))
 
       turned : (l : Link) → hit l t q ≡ true → kept (sh .own) t v l .child ≡ ownChild (sh .own) v q (l .child)
-      turned l h = let (a, b) = hit-both l t q h in rw (eq-eqb (l .parent) t a, b)
+      turned l h = let (a, b) = hit-both l t q h in kept-own (sh .own) t v l (hit-is l t q h .0) ∙ ap (λ (n : ℕ). ownChild (sh .own) v n (l .child)) b
 
   -- ---- a new table has its own links
 
@@ -135,4 +135,4 @@ module _ (s : Store) (t : ℕ) (cs : List ℕ) (g : Ready s t cs) where
       ∙ mapped-id (λ c. c) (λ c. refl) (lookup (linksOf s) t (q + sh .item * lo)))
     where
       in-range : (lo hi : ℕ) → sh .header ≤ q → q + sh .item * lo < itemAt sh hi → (l : Link) → hit l t (q + sh .item * lo) ≡ true → ofItems t sh lo hi l ≡ true
-      in-range lo hi a b l h = let (c, d) = hit-both l t (q + sh .item * lo) h in items-in t sh lo hi l c (omega arith) (omega arith)
+      in-range lo hi a b l h = let (c, d) = hit-is l t (q + sh .item * lo) h in items-in t sh lo hi l c (omega arith) (omega arith)

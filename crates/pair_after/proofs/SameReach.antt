@@ -7,7 +7,6 @@ use mathlib.Core.Logic.{_⊎_, inl, inr, ⊎-elim}
 use native.Mathlib.Omega.{arith}
 use native.Mathlib.Nat.{mul-le-mul-left, mul-add}
 use lib.ListN.{length}
-use borrow.Author.Tests.{eqb-true, eq-eqb}
 use Rattle.folds.specs.Folds.{flat}
 use Rattle.folds.specs.Lists.{sift}
 use Rattle.folds.proofs.Tests.{by-test, true-false}
@@ -25,7 +24,8 @@ use Rattle.store_rules.specs.Appended.{newNumber}
 use Rattle.pair_rules.proofs.Checks.{all-at-slots, at-slot}
 use Rattle.pair_rules.proofs.NewCounts.{per-two}
 use Rattle.store_rules.specs.Header.{kept}
-use Rattle.store_rules.proofs.Header.{header-each, kept-parent, kept-position, kept-any, kept-other}
+use Rattle.store_rules.proofs.Shaped.{of-parent}
+use Rattle.store_rules.proofs.Header.{header-each, kept-parent, kept-position, kept-offset, kept-any, kept-other}
 use Rattle.pair_after.proofs.Ready.{Ready, objects-then}
 use Rattle.pair_after.proofs.NewLinks.{stays, piece, stayed, links-then}
 use Rattle.pair_after.proofs.View.{View, view-shape}
@@ -79,16 +79,17 @@ module _ (s : Store) (t : ℕ) (cs : List ℕ) (g : Ready s t cs) where
       let ls = stayed s t cs ++ flat (piece s t cs) (length cs) in
       subst Kind (sym (row-is s′ ls (links-then s t cs) k h noLink)) (each-at Kind ls kinds k (omega (arith, many-rows)) noLink)
 
-  -- a row from an old object is an old row
-  old-row : (k i : ℕ) → k < s′ .linkCount → parentOf s′ k ≡ i → i < s .objectCount
-      → (m : ℕ) × (m < s .linkCount) × (parentOf s m ≡ i) × (linkAt s′ k ≡ kept (sh .own) t v (linkAt s m))
+  -- an offset of an old object was one
+  old-row : (k i : ℕ) → k < s′ .linkCount → offsetOf i (linkAt s′ k) ≡ true → i < s .objectCount
+      → (m : ℕ) × (m < s .linkCount) × (offsetOf i (linkAt s m) ≡ true) × (linkAt s′ k ≡ kept (sh .own) t v (linkAt s m))
   old-row k i l p h =
-      ⊎-elim (λ (m, a, q). (m, a, sym (ap (λ (x : Link). x .parent) q ∙ kept-parent (sh .own) t v (linkAt s m)) ∙ p, q))
-      (λ (j, a, q). absurd (omega arith)) (row-kind k l)
+      ⊎-elim (λ (m, a, q). (m, a, sym (ap (offsetOf i) q ∙ kept-offset (sh .own) t v (linkAt s m) i) ∙ p, q))
+      (λ (j, a, q). absurd (omega (arith, of-parent i (linkAt s′ k) p))) (row-kind k l)
 
   -- no row leads from the kept table's new parts
-  no-row : (k i : ℕ) → k < s′ .linkCount → parentOf s′ k ≡ i → v ≤ i → ⊥
-  no-row k i l p h =
+  no-row : (k i : ℕ) → k < s′ .linkCount → offsetOf i (linkAt s′ k) ≡ true → v ≤ i → ⊥
+  no-row k i l o h =
+      let p = of-parent i (linkAt s′ k) o in
       ⊎-elim (λ (m, a, q). omega (arith, ap (λ (x : Link). x .parent) q, kept-parent (sh .own) t v (linkAt s m), g .fit .link m a .parentUsed))
       (λ (j, a, q). omega (arith, per-two (bytesOf s t), mul-le-mul-left {m = j + 1} {n = length cs} (perTable sh) (omega arith), mul-add (perTable sh) j 1)) (row-kind k l)
 
@@ -107,7 +108,7 @@ module _ (s : Store) (t : ℕ) (cs : List ℕ) (g : Ready s t cs) where
   pub at-slots : allAtSlots s′ t ≡ true
   at-slots = all-at-slots s′ t one
     where
-      one : (k : ℕ) → k < s′ .linkCount → parentOf s′ k ≡ t → isSlot (shape s′ t) (positionOf s′ k) ≡ true
+      one : (k : ℕ) → k < s′ .linkCount → offsetOf t (linkAt s′ k) ≡ true → isSlot (shape s′ t) (positionOf s′ k) ≡ true
       one k l e =
           let (m, a, p, q) = old-row k t l e (g .reads .used) in
           slot-same (positionOf s′ k) ∙ ap (isSlot sh) (ap (λ (x : Link). x .position) q ∙ kept-position (sh .own) t v (linkAt s m)) ∙ at-slot s t (g .atSlots) m a p
@@ -123,20 +124,19 @@ module _ (s : Store) (t : ℕ) (cs : List ℕ) (g : Ready s t cs) where
   -- the kept table reaches its new parts, and what the table reached
   leads : {i : ℕ} → Reach s′ (ofT s′) i → (v ≤ i) ⊎ ((i < s .objectCount) × Reach s (ofT s) i)
   leads (Reach.seed {i} k l a e) =
-      let p : parentOf s′ k ≡ t = eqb-true (parentOf s′ k) t a in
-      let (m, b, c, q) = old-row k t l p (g .reads .used) in
+      let (m, b, c, q) = old-row k t l a (g .reads .used) in
       let d = child-is k (kept (sh .own) t v (linkAt s m)) q in
       ⊎-elim
       (λ x.
       let w : childOf s m ≡ i = sym x ∙ sym d ∙ e in
-      inr (subst (λ (n : ℕ). n < s .objectCount) w (g .fit .link m b .childUsed), Reach.seed m b (eq-eqb (parentOf s m) t c) w))
+      inr (subst (λ (n : ℕ). n < s .objectCount) w (g .fit .link m b .childUsed), Reach.seed m b c w))
       (λ (x, y). inl (omega arith))
       (kept-any (sh .own) t v (linkAt s m))
   leads (Reach.step {i} {j} r k l p e) =
       ⊎-elim (λ x. absurd (no-row k i l p x))
       (λ (x, y).
       let (m, b, c, q) = old-row k i l p x in
-      let ne : parentOf s m ≡ t → ⊥ = λ z. not-back (subst (Reach s (ofT s)) (sym c ∙ z) y) in
+      let ne : parentOf s m ≡ t → ⊥ = λ z. not-back (subst (Reach s (ofT s)) (sym (of-parent i (linkAt s m) c) ∙ z) y) in
       let w : childOf s m ≡ j = sym (kept-other (sh .own) t v (linkAt s m) ne) ∙ sym (child-is k (kept (sh .own) t v (linkAt s m)) q) ∙ e in
       inr (subst (λ (n : ℕ). n < s .objectCount) w (g .fit .link m b .childUsed), Reach.step y m b c w))
       (leads r)

@@ -16,7 +16,7 @@ use Rattle.folds.proofs.Each.{Each, each-upto, each-moved, each-append, each-fl
 use Rattle.ot_layouts.specs.PairPos.{isSlot, Shape, heads, shapeOf, shape1, shape2, itemAt}
 use Rattle.ot_layouts.proofs.Shapes.{by-format}
 use Rattle.ot_layouts.proofs.Slots.{slot-fits}
-use Rattle.store_rules.specs.Store.{Store, Link, sizeOf, linksOf, linkAt, childAt, bytesOf, sound, linkedAt}
+use Rattle.store_rules.specs.Store.{Store, Link, sizeOf, linksOf, linkAt, isOffset, offsetOf, childAt, bytesOf, sound, linkedAt}
 use Rattle.pair_rules.specs.Table.{ofItems, shape}
 use Rattle.pair_rules.specs.Written.{splitStore, newOf, perTable, newLinks, headLinks, tableLinks, moved, storeAfter, keptTable}
 use Rattle.store_rules.specs.Appended.{newNumber, withBytes, withTail}
@@ -29,11 +29,12 @@ use Rattle.pair_rules.proofs.Checks.{at-slot}
 use Rattle.pair_rules.proofs.NewCounts.{per-two}
 use Rattle.pair_rules.proofs.TableLinks.{table-climb}
 use Rattle.store_rules.specs.Header.{ownChild, kept}
-use Rattle.store_rules.proofs.Header.{header-each, child-any, kept-any}
+use Rattle.store_rules.proofs.Header.{header-each, child-any, kept-any, kept-place}
+use Rattle.store_rules.proofs.Shaped.{is-of, of-offset, offset-wide, offset-shaped}
 use Rattle.pair_after.proofs.Ready.{Ready, objects-then, many-new, new-used}
 use Rattle.pair_after.proofs.NewLinks.{piece, stayed, stays}
 use Rattle.pair_after.proofs.NewBytes.{shortened, room, other-size, kept-size, new-size, new-bytes}
-use Rattle.store_rules.proofs.LinksFit.{Fitting, row-fitting, rows-climb}
+use Rattle.store_rules.proofs.LinksFit.{Fitting, link-fitting, fitting-then, row-fitting, rows-climb}
 use Rattle.store_rules.proofs.AppendedFits.{appended-fits}
 use Rattle.pair_after.proofs.KeptAndNew.{view-new}
 use Rattle.pair_after.proofs.LinksCounted.{many-links}
@@ -46,7 +47,7 @@ cond-lt false x y n f h = h refl
 -- a link of the old store: one of the table stands at a slot
 record Old (s : Store) (t : ℕ) (l : Link) : Type 0 where
   fits : Fitting s l
-  slot : l .parent ≡ t → isSlot (shape s t) (l .position) ≡ true
+  slot : offsetOf t l ≡ true → isSlot (shape s t) (l .position) ≡ true
 
 -- a header link lies in the header
 head-inside : (b : List ℕ) (q : ℕ) → among q (heads (shapeOf b)) ≡ true → q + 2 ≤ shapeOf b .header
@@ -76,7 +77,7 @@ module _ (s : Store) (t : ℕ) (cs : List ℕ) (g : Ready s t cs) where
   new-climb =
       let z : newNumber s (perTable sh) 0 ≡ s .objectCount = omega arith in
       climb-append (stayed s t cs) (flat (piece s t cs) (length cs)) 0 0 (newNumber s (perTable sh) 0) (newNumber s (perTable sh) (length cs))
-      (rw z (climb-stay (kept (sh .own) t (newNumber s (perTable sh) (length cs))) (stays s t cs) (λ l. refl) (λ l. refl) (linksOf s) 0 0 (s .objectCount) (rows-climb s (g .fit))))
+      (rw z (climb-stay (kept (sh .own) t (newNumber s (perTable sh) (length cs))) (stays s t cs) (λ l. refl) (kept-place (sh .own) t (newNumber s (perTable sh) (length cs))) (linksOf s) 0 0 (s .objectCount) (rows-climb s (g .fit))))
       (climb-flat (piece s t cs) (λ j. newNumber s (perTable sh) j) (length cs) (λ j l. piece-climb j))
 
   -- ---- each link fits
@@ -101,19 +102,22 @@ module _ (s : Store) (t : ℕ) (cs : List ℕ) (g : Ready s t cs) where
           (λ (low, high). omega (arith, high, objects-then s t cs g, many-new s t cs g))
           (kept-any (sh .own) t v l)
 
-      room : (l : Link) → Old s t l → stays s t cs l ≡ true → l .position + 2 ≤ sizeOf s′ (l .parent)
-      room l o h = go (ℕ-discrete (l .parent) t)
+      room : (l : Link) → Old s t l → stays s t cs l ≡ true → isOffset l ≡ true → l .position + 2 ≤ sizeOf s (l .parent) → l .position + 2 ≤ sizeOf s′ (l .parent)
+      room l o h w inside = go (ℕ-discrete (l .parent) t)
         where
           go : Dec (l .parent ≡ t) → l .position + 2 ≤ sizeOf s′ (l .parent)
-          go (no n) = omega (arith, o .fits .inside, other-size s t cs g (l .parent) (o .fits .parentUsed) n)
+          go (no n) = omega (arith, other-size s t cs g (l .parent) (o .fits .parentUsed) n)
           go (yes e) =
-              let i : l .position + 2 ≤ sizeOf s t = subst (λ (n : ℕ). l .position + 2 ≤ sizeOf s n) e (o .fits .inside) in
+              let i : l .position + 2 ≤ sizeOf s t = subst (λ (n : ℕ). l .position + 2 ≤ sizeOf s n) e inside in
+              let own = is-of t l w e in
               let below : l .position < itemAt sh (from cs 0) = ⊎-elim (λ lt. lt)
-              (λ ge. true-false (sym h ∙ ap not (items-in t sh (from cs 0) (sh .count) l e ge (omega (arith, g .size))))) (either (l .position) (itemAt sh (from cs 0))) in
-              subst (λ (n : ℕ). l .position + 2 ≤ sizeOf s′ n) (sym e) (omega (arith, kept-size s t cs g, slot-fits (bytesOf s t) (l .position) (from cs 0) (o .slot e) below))
+              (λ ge. true-false (sym h ∙ ap not (items-in t sh (from cs 0) (sh .count) l own ge (omega (arith, g .size))))) (either (l .position) (itemAt sh (from cs 0))) in
+              subst (λ (n : ℕ). l .position + 2 ≤ sizeOf s′ n) (sym e) (omega (arith, kept-size s t cs g, slot-fits (bytesOf s t) (l .position) (from cs 0) (o .slot own) below))
 
       one : (l : Link) → Old s t l → stays s t cs l ≡ true → Fitting s′ (kept (sh .own) t v l)
-      one l o h = record { parentUsed = omega (arith, o .fits .parentUsed, objects-then s t cs g); childUsed = child-in l o; wide = o .fits .wide; inside = room l o h }
+      one l o h =
+          fitting-then s′ l (kept (sh .own) t v l) (sizeOf s (l .parent)) refl refl refl
+          (omega (arith, o .fits .parentUsed, objects-then s t cs g)) (child-in l o) (room l o h) (o .fits .shape)
 
   module _ (j : ℕ) (l : j < length cs) where
     abbrev u : ℕ
@@ -138,7 +142,7 @@ module _ (s : Store) (t : ℕ) (cs : List ℕ) (g : Ready s t cs) where
     heads-fit : Each (Fitting s′) (headLinks sh u (linkedAt s t))
     heads-fit =
         header-each (sh .own) u (linkedAt s t) (Fitting s′) (heads sh)
-        (λ q a. record { parentUsed = in-use; childUsed = child-in q; wide = refl; inside = omega (arith, size-new, head-inside (bytesOf s t) q a) })
+        (λ q a. link-fitting s′ u q (ownChild (sh .own) (u + 1) q (linkedAt s t q)) in-use (child-in q) (omega (arith, size-new, head-inside (bytesOf s t) q a)))
       where
         child-in : (q : ℕ) → ownChild (sh .own) (u + 1) q (linkedAt s t q) < s′ .objectCount
         child-in q =
@@ -161,8 +165,8 @@ module _ (s : Store) (t : ℕ) (cs : List ℕ) (g : Ready s t cs) where
             record {
               parentUsed = in-use;
               childUsed = omega (arith, o .fits .childUsed, objects-then s t cs g);
-              wide = o .fits .wide;
-              inside = omega (arith, size-new, mul-sub (sh .item) (to (sh .count) cs j) (from cs j));
+              shape = offset-shaped (sizeOf s′ u) (moved sh u (from cs j) k) (of-offset t k a) (offset-wide (sizeOf s (k .parent)) k (of-offset t k a) (o .fits .shape))
+                  (omega (arith, size-new, mul-sub (sh .item) (to (sh .count) cs j) (from cs j)));
             }
 
   new-links : Each (Fitting s′) (newLinks s t sh cs)

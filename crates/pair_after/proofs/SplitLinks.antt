@@ -7,13 +7,12 @@ use mathlib.Core.Logic.{_⊎_, inl, inr, ⊎-elim}
 use mathlib.Core.Option.{some}
 use native.Mathlib.Omega.{arith}
 use lib.ListN.{length}
-use borrow.Author.Tests.{eq-eqb}
 use Rattle.folds.specs.Folds.{flat}
 use Rattle.folds.specs.Lists.{among, sift}
 use Rattle.folds.proofs.Each.{Each, each-at, each-upto, each-moved, each-append, each-flat, each-among}
 use Rattle.ot_layouts.specs.PairPos.{Shape, heads}
 use Rattle.ot_layouts.proofs.Shapes.{formats}
-use Rattle.store_rules.specs.Store.{Store, Link, linksOf, linkAt, childAt, parentOf, childOf, bytesOf, linkedAt}
+use Rattle.store_rules.specs.Store.{Store, Link, linksOf, linkAt, isOffset, offsetOf, childAt, parentOf, childOf, bytesOf, linkedAt}
 use Rattle.store_rules.specs.Reach.{Reach}
 use Rattle.store_rules.specs.Appended.{newNumber}
 use Rattle.store_rules.specs.Header.{kept, ownChild}
@@ -21,6 +20,7 @@ use Rattle.store_rules.proofs.Lookups.{child-row, linked-is}
 use Rattle.store_rules.proofs.LinkRows.{noLink, row-is}
 use Rattle.store_rules.proofs.LinksFit.{rows-many}
 use Rattle.store_rules.proofs.Header.{header-each, child-any, kept-any}
+use Rattle.store_rules.proofs.Shaped.{is-of, of-offset, of-parent}
 use Rattle.store_rules.proofs.Ways.{Way, way-child}
 use Rattle.cut_rules.specs.Ranges.{from, to}
 use Rattle.pair_rules.specs.Table.{shape, ofItems}
@@ -33,9 +33,9 @@ use Rattle.pair_after.proofs.NewLinks.{piece, stayed, stays, links-then
 abbrev pub NewOrOwn : Store → ℕ → ℕ → Type 0
 NewOrOwn s t c = (s .objectCount ≤ c) ⊎ Way s t c
 
--- the link leads there from t and from such objects
+-- the link, where it is an offset, leads there from t and from such objects
 abbrev LeadsOn : Store → ℕ → Link → Type 0
-LeadsOn s t l = (l .parent ≡ t) ⊎ NewOrOwn s t (l .parent) → NewOrOwn s t (l .child)
+LeadsOn s t l = isOffset l ≡ true → (l .parent ≡ t) ⊎ NewOrOwn s t (l .parent) → NewOrOwn s t (l .child)
 
 module _ (s : Store) (t : ℕ) (cs : List ℕ) (g : Ready s t cs) where
   abbrev sh : Shape
@@ -51,8 +51,8 @@ module _ (s : Store) (t : ℕ) (cs : List ℕ) (g : Ready s t cs) where
   -- a link of the old store
   record Old (l : Link) : Type 0 where
     parentUsed : l .parent < s .objectCount
-    own : l .parent ≡ t → Way s t (l .child)
-    on : Way s t (l .parent) → Way s t (l .child)
+    own : offsetOf t l ≡ true → Way s t (l .child)
+    on : isOffset l ≡ true → Way s t (l .parent) → Way s t (l .child)
 
   old-links : Each Old (linksOf s)
   unfolding linksOf
@@ -60,22 +60,22 @@ module _ (s : Store) (t : ℕ) (cs : List ℕ) (g : Ready s t cs) where
       each-upto Old (linkAt s) (s .linkCount)
       (λ k l. record {
         parentUsed = g .fit .link k l .parentUsed;
-        own = λ e. Reach.seed k l (eq-eqb (parentOf s k) t e) refl;
-        on = λ w. Reach.step w k l refl refl;
+        own = λ e. Reach.seed k l e refl;
+        on = λ o w. Reach.step w k l (is-of (parentOf s k) (linkAt s k) o refl) refl;
       })
 
-  old-leads : (l : Link) → Old l → (l .parent ≡ t) ⊎ NewOrOwn s t (l .parent) → Way s t (l .child)
-  old-leads l o (inl e) = o .own e
-  old-leads l o (inr (inl ge)) = absurd (omega (arith, o .parentUsed))
-  old-leads l o (inr (inr w)) = o .on w
+  old-leads : (l : Link) → Old l → isOffset l ≡ true → (l .parent ≡ t) ⊎ NewOrOwn s t (l .parent) → Way s t (l .child)
+  old-leads l o x (inl e) = o .own (is-of t l x e)
+  old-leads l o x (inr (inl ge)) = absurd (omega (arith, o .parentUsed))
+  old-leads l o x (inr (inr w)) = o .on x w
 
   stayed-lead : Each (LeadsOn s t) (stayed s t cs)
   unfolding kept
   stayed-lead = each-moved Old (LeadsOn s t) (kept (sh .own) t v) (stays s t cs) one (linksOf s) old-links
     where
       one : (l : Link) → Old l → stays s t cs l ≡ true → LeadsOn s t (kept (sh .own) t v l)
-      one l o h a =
-          ⊎-elim (λ same. inr (subst (Way s t) (sym same) (old-leads l o a))) (λ (low, high). inl (omega arith)) (kept-any (sh .own) t v l)
+      one l o h x a =
+          ⊎-elim (λ same. inr (subst (Way s t) (sym same) (old-leads l o x a))) (λ (low, high). inl (omega arith)) (kept-any (sh .own) t v l)
 
   -- where the header of the old table has a link
   heads-lead : (q : ℕ) → among q (heads sh) ≡ true → Way s t (linkedAt s t q)
@@ -98,8 +98,8 @@ module _ (s : Store) (t : ℕ) (cs : List ℕ) (g : Ready s t cs) where
       let lo = from cs j in
       let hi = to (sh .count) cs j in
       each-append (LeadsOn s t) (headLinks sh u (linkedAt s t)) (map (moved sh u lo) (sift (ofItems t sh lo hi) (linksOf s)))
-      (header-each (sh .own) u (linkedAt s t) (LeadsOn s t) (heads sh) (λ q a x. head u q a (omega arith)))
-      (each-moved Old (LeadsOn s t) (moved sh u lo) (ofItems t sh lo hi) (λ l o h x. inr (o .own (items-from t sh lo hi l h .0))) (linksOf s) old-links)
+      (header-each (sh .own) u (linkedAt s t) (LeadsOn s t) (heads sh) (λ q a w x. head u q a (omega arith)))
+      (each-moved Old (LeadsOn s t) (moved sh u lo) (ofItems t sh lo hi) (λ l o h w x. inr (o .own (items-from t sh lo hi l h .0))) (linksOf s) old-links)
     where
       head : (u q : ℕ) → among q (heads sh) ≡ true → s .objectCount ≤ u → NewOrOwn s t (ownChild (sh .own) (u + 1) q (linkedAt s t q))
       head u q a h =
@@ -112,7 +112,7 @@ module _ (s : Store) (t : ℕ) (cs : List ℕ) (g : Ready s t cs) where
       (each-flat (LeadsOn s t) (piece s t cs) (length cs) (λ j l. piece-lead j)))
 
   -- so do the rows in use
-  pub row-leads : (k : ℕ) → k < s′ .linkCount → (parentOf s′ k ≡ t) ⊎ NewOrOwn s t (parentOf s′ k) → NewOrOwn s t (childOf s′ k)
+  pub row-leads : (k : ℕ) → k < s′ .linkCount → isOffset (linkAt s′ k) ≡ true → (parentOf s′ k ≡ t) ⊎ NewOrOwn s t (parentOf s′ k) → NewOrOwn s t (childOf s′ k)
   row-leads k h =
       subst (LeadsOn s t) (sym (row-is s′ (linksOf s′) refl k h noLink))
       (each-at (LeadsOn s t) (linksOf s′) all-lead k (omega (arith, rows-many s′)) noLink)
@@ -121,4 +121,4 @@ module _ (s : Store) (t : ℕ) (cs : List ℕ) (g : Ready s t cs) where
   pub child-leads : (u q c : ℕ) → (u ≡ t) ⊎ NewOrOwn s t u → childAt s′ u q ≡ some c → NewOrOwn s t c
   child-leads u q c h e =
       let (k, l, a, b, x) = child-row s′ u q c e in
-      subst (NewOrOwn s t) x (row-leads k l (subst (λ (i : ℕ). (i ≡ t) ⊎ NewOrOwn s t i) (sym a) h))
+      subst (NewOrOwn s t) x (row-leads k l (of-offset u (linkAt s′ k) a) (subst (λ (i : ℕ). (i ≡ t) ⊎ NewOrOwn s t i) (sym (of-parent u (linkAt s′ k) a)) h))

@@ -8,14 +8,15 @@ use native.Mathlib.Omega.{arith}
 use native.Mathlib.Nat.{mul-add}
 use lib.Dec.{eqb, leb, ltb}
 use borrow.Author.Tests.{eqb-true, eq-eqb, leb-true, ltb-true, le-leb, lt-ltb}
+use Rattle.folds.proofs.Tests.{and-both}
 use Rattle.folds.proofs.Joined.{and-three, three-hold}
 use Rattle.ot_layouts.specs.PairPos.{Shape, itemAt}
 use Rattle.ot_layouts.proofs.Shapes.{items-rise}
-use Rattle.store_rules.specs.Store.{Store, childAt, parentOf, positionOf}
+use Rattle.store_rules.specs.Store.{Store, linkAt, offsetOf, childAt, positionOf}
 use Rattle.store_rules.specs.Reach.{Reach, reachOf, itemSize}
 use Rattle.store_rules.proofs.Reaching.{reach-more}
 use Rattle.store_rules.proofs.SameReach.{reach-used, reach-size-same}
-use Rattle.store_rules.proofs.SameChildren.{rowsAt, LeadsTo, same-children}
+use Rattle.store_rules.proofs.SameChildren.{Places, OfOffsets, rowsAt, LeadsTo, same-children}
 use Rattle.store_rules.proofs.Ways.{Way, no-way-back}
 use Rattle.pair_rules.specs.Table.{shape, ofItems}
 use Rattle.pair_rules.specs.Written.{splitStore}
@@ -27,15 +28,21 @@ use Rattle.pair_after.proofs.View.{View, view-shape}
 use Rattle.pair_after.proofs.SoundThen.{fits-then}
 
 -- a place of items a up to b of table u
-abbrev atItems : ℕ → Shape → ℕ → ℕ → ℕ → ℕ → Bool
-atItems u sh a b p q = eqb p u && leb (itemAt sh a) q && ltb q (itemAt sh b)
+abbrev atItems : ℕ → Shape → ℕ → ℕ → Places
+atItems u sh a b n p q = eqb n 0 && eqb p u && leb (itemAt sh a) q && ltb q (itemAt sh b)
 
-at-items : (u : ℕ) (sh : Shape) (a b p q : ℕ) → atItems u sh a b p q ≡ true → (p ≡ u) × (itemAt sh a ≤ q) × (q < itemAt sh b)
-at-items u sh a b p q h =
-    let (x, y, z) = and-three (eqb p u) (leb (itemAt sh a) q) (ltb q (itemAt sh b)) h in
-    (eqb-true p u x, leb-true (itemAt sh a) q y, ltb-true q (itemAt sh b) z)
+at-items : (u : ℕ) (sh : Shape) (a b n p q : ℕ) → atItems u sh a b n p q ≡ true → (p ≡ u) × (itemAt sh a ≤ q) × (q < itemAt sh b)
+at-items u sh a b n p q h =
+    let (x, y, z) = and-three (eqb n 0 && eqb p u) (leb (itemAt sh a) q) (ltb q (itemAt sh b)) h in
+    (eqb-true p u (and-both (eqb n 0) (eqb p u) x .1), leb-true (itemAt sh a) q y, ltb-true q (itemAt sh b) z)
 
-in-items : (u : ℕ) (sh : Shape) (a b q : ℕ) → itemAt sh a ≤ q → q < itemAt sh b → atItems u sh a b u q ≡ true
+-- of an offset
+only-offsets : (u : ℕ) (sh : Shape) (a b : ℕ) → OfOffsets (atItems u sh a b)
+only-offsets u sh a b n p q h =
+    let (x, y, z) = and-three (eqb n 0 && eqb p u) (leb (itemAt sh a) q) (ltb q (itemAt sh b)) h in
+    eqb-true n 0 (and-both (eqb n 0) (eqb p u) x .0)
+
+in-items : (u : ℕ) (sh : Shape) (a b q : ℕ) → itemAt sh a ≤ q → q < itemAt sh b → atItems u sh a b 0 u q ≡ true
 in-items u sh a b q x y =
     three-hold (eqb u u) (leb (itemAt sh a) q) (ltb q (itemAt sh b)) (eq-eqb u u refl) (le-leb (itemAt sh a) q x) (lt-ltb q (itemAt sh b) y)
 
@@ -48,10 +55,10 @@ module _ (s : Store) (t : ℕ) (cs : List ℕ) (g : Ready s t cs) {u lo hi : ℕ
     sh = shape s t
 
     -- the places of these items, in the old table and in the new one
-    abbrev old : ℕ → ℕ → Bool
+    abbrev old : Places
     old = atItems t (shape s t) (lo + a) (lo + b)
 
-    abbrev new : ℕ → ℕ → Bool
+    abbrev new : Places
     new = atItems u (shape s t) a b
 
     low : itemAt sh (lo + a) ≡ itemAt sh a + sh .item * lo
@@ -62,7 +69,7 @@ module _ (s : Store) (t : ℕ) (cs : List ℕ) (g : Ready s t cs) {u lo hi : ℕ
 
     there : (c : ℕ) → LeadsTo s old c → LeadsTo s′ new c
     there c (p, q, h, e) =
-        let (x, y, z) = at-items t sh (lo + a) (lo + b) p q h in
+        let (x, y, z) = at-items t sh (lo + a) (lo + b) 0 p q h in
         let m = q - sh .item * lo in
         let back : m + sh .item * lo ≡ q = omega (arith, low) in
         let top′ = items-rise sh (lo + b) hi top in (
@@ -74,7 +81,7 @@ module _ (s : Store) (t : ℕ) (cs : List ℕ) (g : Ready s t cs) {u lo hi : ℕ
 
     back : (c : ℕ) → LeadsTo s′ new c → LeadsTo s old c
     back c (p, q, h, e) =
-        let (x, y, z) = at-items u sh a b p q h in
+        let (x, y, z) = at-items u sh a b 0 p q h in
         let top′ = items-rise sh (lo + b) hi top in (
           t,
           q + sh .item * lo,
@@ -86,7 +93,7 @@ module _ (s : Store) (t : ℕ) (cs : List ℕ) (g : Ready s t cs) {u lo hi : ℕ
     not-table : {i : ℕ} → Reach s (rowsAt s old) i → i ≡ t → ⊥
     not-table {i} r e =
         no-way-back s (g .fit) t (g .acyclic)
-        (subst (Way s t) e (reach-more (λ k l h. let (x, y, z) = at-items t sh (lo + a) (lo + b) (parentOf s k) (positionOf s k) h in eq-eqb (parentOf s k) t x) r))
+        (subst (Way s t) e (reach-more (λ k l h. and-three (offsetOf t (linkAt s k)) (leb (itemAt sh (lo + a)) (positionOf s k)) (ltb (positionOf s k) (itemAt sh (lo + b))) h .0) r))
 
     same : (p q : ℕ) → Reach s (rowsAt s old) p → childAt s′ p q ≡ childAt s p q
     same p q r = others-child s t cs g p q (reach-used s (g .fit) (rowsAt s old) r) (not-table r)
@@ -94,7 +101,7 @@ module _ (s : Store) (t : ℕ) (cs : List ℕ) (g : Ready s t cs) {u lo hi : ℕ
     pub reach-same : itemsReach s′ u a b ≡ itemsReach s t (lo + a) (lo + b)
     reach-same =
         ap (λ (x : Shape). reachOf s′ (ofItems u x a b)) (view-shape v)
-        ∙ reach-size-same (same-children (g .fit) (fits-then s t cs g) old new there back same) (g .fit) (fits-then s t cs g) (omega (arith, objects-then s t cs g))
+        ∙ reach-size-same (same-children (g .fit) (fits-then s t cs g) old new (only-offsets t sh (lo + a) (lo + b)) (only-offsets u sh a b) there back same) (g .fit) (fits-then s t cs g) (omega (arith, objects-then s t cs g))
         (λ i h r. other-size s t cs g i h (not-table r))
 
   -- S of an item is what it was

@@ -117,6 +117,11 @@ module _ (own : List ℕ) (t v : ℕ) (l : Link) where
   unfolding kept
   kept-width = refl
 
+  -- an offset of an object is one still
+  pub kept-offset : (p : ℕ) → offsetOf p (kept own t v l) ≡ offsetOf p l
+  unfolding kept
+  kept-offset p = refl
+
   -- order-only links stay as they are
   pub kept-order : isOffset l ≡ false → kept own t v l .child ≡ l .child
   unfolding kept
