@@ -1,22 +1,22 @@
 -- The links of the arrays stand at their slots, and those of a range of classes lead to the anchors of these classes. Assumes nothing.
 use Prim.Native.Nat.{ℕ, _+_, _*_, _/_, _%_, _<_, _≤_}
-use mathlib.Core.Path.{_≡_, refl, sym, ap, ap₂, subst, _∙_}
+use mathlib.Core.Path.{_≡_, refl, sym, ap, _∙_}
 use mathlib.Core.Bool.{Bool, true, _&&_}
 use mathlib.Core.Logic.{_⊎_, inl, inr, ⊎-elim}
 use mathlib.Core.Option.{some}
 use native.Mathlib.Omega.{arith}
 use native.Mathlib.Nat.{div-add-mod, mod-lt, mul-comm, mul-le-mul-right}
 use lib.ListN.{length}
-use borrow.Author.Tests.{eqb-true, eq-eqb}
 use Rattle.folds.proofs.Tests.{and-both, and-intro, either}
 use Rattle.folds.proofs.Joined.{or-either, or-first, or-second}
 use Rattle.folds.proofs.InRange.{between-is, is-between}
 use Rattle.ot_layouts.specs.MarkBasePos.{markArrayAt, baseArrayAt, markSlot, baseSlot, markClass, classBefore, columnAt}
 use Rattle.ot_layouts.proofs.MarkSlots.{mark-slot, base-slot, class-before, column-slot, column-of}
-use Rattle.store_rules.specs.Store.{Store, Link, linkAt, parentOf, positionOf, childOf, childAt, sizeOf, linkedAt, linkedBytes, offsetOf}
+use Rattle.store_rules.specs.Store.{Store, Link, linkAt, positionOf, childOf, childAt, sizeOf, linkedAt, linkedBytes, offsetOf}
 use Rattle.store_rules.proofs.Sound.{Fits, size-bytes}
 use Rattle.store_rules.proofs.Lookups.{child-row, child-used, linked-is}
-use Rattle.store_rules.proofs.RowChild.{row-child}
+use Rattle.store_rules.proofs.LinksFit.{row-inside}
+use Rattle.store_rules.proofs.RowChild.{offset-child}
 use Rattle.mark_rules.specs.Table.{classesOf, marksIn, basesIn, markArray, baseArray, markBytes, markAnchor, baseAnchor, inClasses, ofClasses}
 use Rattle.mark_rules.proofs.Checks.{Parts, AtSlots}
 
@@ -49,12 +49,12 @@ module _ (s : Store) (t : ℕ) where
       let class : classBefore (markBytes s t) (positionOf s k) ≡ markClass (markBytes s t) i
       = ap (classBefore (markBytes s t)) q ∙ class-before (markBytes s t) i in
       let inside = ap (inClasses lo hi) class ∙ is-between lo hi (markClass (markBytes s t) i) a b in
-      (k, h, or-first (ofMarks lo hi (linkAt s k)) (ofBases lo hi (linkAt s k)) (and-intro _ _ (eq-eqb (parentOf s k) (markArray s t) p) inside), x)
+      (k, h, or-first (ofMarks lo hi (linkAt s k)) (ofBases lo hi (linkAt s k)) (and-intro _ _ p inside), x)
   anchor-row lo hi c (inr (j, m, l, u, a, b, e)) =
       let n = classesOf s t in
       let (k, h, p, q, x) = child-row s (baseArray s t) (baseSlot (j * n + m)) c e in
       let inside = ap (inClasses lo hi) (ap (columnAt n) q ∙ column-of n j m u) ∙ is-between lo hi m a b in
-      (k, h, or-second (ofMarks lo hi (linkAt s k)) (ofBases lo hi (linkAt s k)) (and-intro _ _ (eq-eqb (parentOf s k) (baseArray s t) p) inside), x)
+      (k, h, or-second (ofMarks lo hi (linkAt s k)) (ofBases lo hi (linkAt s k)) (and-intro _ _ p inside), x)
 
   module _ (f : Fits s) (parts : Parts s t) (slots : AtSlots s t) where
     -- an array is as long as its bytes
@@ -62,28 +62,28 @@ module _ (s : Store) (t : ℕ) where
     array-size q c e = sym (size-bytes s f (linkedAt s t q) (omega (arith, linked-is s t q c e, child-used s t f q c e)))
 
     -- what a row leads to, by its place
-    row-leads : (k p q : ℕ) → k < s .linkCount → parentOf s k ≡ p → positionOf s k ≡ q → childAt s p q ≡ some (childOf s k)
-    row-leads k p q l a b = ap₂ (λ (x y : ℕ). childAt s x y) (sym a) (sym b) ∙ row-child s f k l
+    row-leads : (k p q : ℕ) → k < s .linkCount → offsetOf p (linkAt s k) ≡ true → positionOf s k ≡ q → childAt s p q ≡ some (childOf s k)
+    row-leads k p q l a b = ap (childAt s p) (sym b) ∙ offset-child s f k p l a
 
     -- ---- a row of an array stands at one of its slots
 
-    pub mark-place : (k : ℕ) → k < s .linkCount → parentOf s k ≡ markArray s t → (i : ℕ) × (i < marksIn s t) × (positionOf s k ≡ markSlot i)
+    pub mark-place : (k : ℕ) → k < s .linkCount → offsetOf (markArray s t) (linkAt s k) ≡ true → (i : ℕ) × (i < marksIn s t) × (positionOf s k ≡ markSlot i)
     mark-place k l p =
         let (i, e) = mark-slot (positionOf s k) (slots .marks k l p) in
         let (c, d) = parts .marks in
-        let inside : positionOf s k + 2 ≤ sizeOf s (markArray s t) = subst (λ (n : ℕ). positionOf s k + 2 ≤ sizeOf s n) p (f .link k l .inside) in
+        let inside : positionOf s k + 2 ≤ sizeOf s (markArray s t) = row-inside s f k (markArray s t) l p in
         (i, omega (arith, array-size markArrayAt c d, parts .marksLong), e)
 
-    pub base-place : (k : ℕ) → k < s .linkCount → parentOf s k ≡ baseArray s t → (m : ℕ) × (m < basesIn s t * classesOf s t) × (positionOf s k ≡ baseSlot m)
+    pub base-place : (k : ℕ) → k < s .linkCount → offsetOf (baseArray s t) (linkAt s k) ≡ true → (m : ℕ) × (m < basesIn s t * classesOf s t) × (positionOf s k ≡ baseSlot m)
     base-place k l p =
         let (m, e) = base-slot (positionOf s k) (slots .bases k l p) in
         let (c, d) = parts .bases in
-        let inside : positionOf s k + 2 ≤ sizeOf s (baseArray s t) = subst (λ (n : ℕ). positionOf s k + 2 ≤ sizeOf s n) p (f .link k l .inside) in
+        let inside : positionOf s k + 2 ≤ sizeOf s (baseArray s t) = row-inside s f k (baseArray s t) l p in
         (m, omega (arith, array-size baseArrayAt c d, parts .basesLong), e)
 
     -- ---- a row of the classes leads to one of their anchors
 
-    mark-row : (lo hi k : ℕ) → k < s .linkCount → parentOf s k ≡ markArray s t → inClasses lo hi (classBefore (markBytes s t) (positionOf s k)) ≡ true
+    mark-row : (lo hi k : ℕ) → k < s .linkCount → offsetOf (markArray s t) (linkAt s k) ≡ true → inClasses lo hi (classBefore (markBytes s t) (positionOf s k)) ≡ true
         → MarkAnchor lo hi (childOf s k)
     unfolding markAnchor
     mark-row lo hi k l p h =
@@ -93,7 +93,7 @@ module _ (s : Store) (t : ℕ) where
         let (a, b) = between-is lo hi (markClass (markBytes s t) i) (ap (inClasses lo hi) (sym class) ∙ h) in
         (i, m, a, b, row-leads k (markArray s t) (markSlot i) l p e)
 
-    base-row : (lo hi k : ℕ) → k < s .linkCount → parentOf s k ≡ baseArray s t → inClasses lo hi (columnAt (classesOf s t) (positionOf s k)) ≡ true
+    base-row : (lo hi k : ℕ) → k < s .linkCount → offsetOf (baseArray s t) (linkAt s k) ≡ true → inClasses lo hi (columnAt (classesOf s t) (positionOf s k)) ≡ true
         → BaseAnchor lo hi (childOf s k)
     unfolding baseAnchor
     base-row lo hi k l p h =
@@ -117,6 +117,6 @@ module _ (s : Store) (t : ℕ) where
     unfolding ofClasses
     row-anchor lo hi k l h =
         ⊎-elim
-        (λ a. let (p, q) = and-both (offsetOf (markArray s t) (linkAt s k)) _ a in inl (mark-row lo hi k l (eqb-true (parentOf s k) (markArray s t) p) q))
-        (λ a. let (p, q) = and-both (offsetOf (baseArray s t) (linkAt s k)) _ a in inr (base-row lo hi k l (eqb-true (parentOf s k) (baseArray s t) p) q))
+        (λ a. let (p, q) = and-both (offsetOf (markArray s t) (linkAt s k)) _ a in inl (mark-row lo hi k l p q))
+        (λ a. let (p, q) = and-both (offsetOf (baseArray s t) (linkAt s k)) _ a in inr (base-row lo hi k l p q))
         (or-either (ofMarks lo hi (linkAt s k)) (ofBases lo hi (linkAt s k)) h)

@@ -26,7 +26,7 @@ use Rattle.ot_layouts.specs.MarkBasePos.{
   isBaseSlot,
   basesReadable,
 }
-use Rattle.store_rules.specs.Store.{Store, sound, bytesOf, childAt, linkedBytes, parentOf, positionOf, allAt}
+use Rattle.store_rules.specs.Store.{Store, sound, bytesOf, childAt, linkedBytes, linkAt, offsetOf, positionOf, allAt}
 use Rattle.store_rules.proofs.Lookups.{child-there}
 use Rattle.store_rules.proofs.Slots.{all-stand, one-stands}
 use Rattle.call_rules.specs.Answers.{firstCase}
@@ -138,12 +138,12 @@ module _ (s : Store) (t : ℕ) where
       (eq-eqb (length (baseBytes s t)) (2 + 2 * (basesIn s t * classesOf s t)) (p .basesLong)) in
       and-intro _ _ (and-intro _ _ (and-intro (covers coverAt) (covers baseCoverAt) cover baseCover) marks) bases
 
--- ---- 7: the links of the table and of its arrays stand at slots
+-- ---- 7: the offsets of the table and of its arrays stand at slots
 
 pub record AtSlots (s : Store) (t : ℕ) : Type 0 where
-  pub table : (k : ℕ) → k < s .linkCount → parentOf s k ≡ t → isTableSlot (positionOf s k) ≡ true
-  pub marks : (k : ℕ) → k < s .linkCount → parentOf s k ≡ markArray s t → isMarkSlot (positionOf s k) ≡ true
-  pub bases : (k : ℕ) → k < s .linkCount → parentOf s k ≡ baseArray s t → isBaseSlot (positionOf s k) ≡ true
+  pub table : (k : ℕ) → k < s .linkCount → offsetOf t (linkAt s k) ≡ true → isTableSlot (positionOf s k) ≡ true
+  pub marks : (k : ℕ) → k < s .linkCount → offsetOf (markArray s t) (linkAt s k) ≡ true → isMarkSlot (positionOf s k) ≡ true
+  pub bases : (k : ℕ) → k < s .linkCount → offsetOf (baseArray s t) (linkAt s k) ≡ true → isBaseSlot (positionOf s k) ≡ true
 
 pub at-slots : (s : Store) (t : ℕ) → allAtSlots s t ≡ true → AtSlots s t
 unfolding allAtSlots

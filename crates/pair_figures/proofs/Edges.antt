@@ -1,6 +1,6 @@
 -- `splitCall`, `planCall`: a whole outcome of W9's store, and 6 and 8 at their edges. It has 65,536 bytes and more, so it stands apart from what is computed again for
 -- each edit. Assumes nothing.
-use Prim.Native.Nat.{ℕ, zero, suc, _+_, _/_, _%_}
+use Prim.Native.Nat.{ℕ, zero, suc, _+_, _*_, _/_, _%_}
 use mathlib.Core.Path.{_≡_, refl}
 use mathlib.Core.Bool.{Bool, true, _&&_}
 use mathlib.Core.List.{List, [], _∷_, _++_}
@@ -9,7 +9,7 @@ use lib.Dec.{eqb}
 use Rattle.folds.proofs.Compared as compared
 use Rattle.folds.proofs.Compared.{same, every}
 use Rattle.ot_layouts.specs.Numbers.{words}
-use Rattle.store_rules.specs.Store.{Store, bytesOf}
+use Rattle.store_rules.specs.Store.{Store, perLink, bytesOf}
 use Rattle.store_rules.proofs.Pinned.{linkRow, packed}
 use Rattle.call_rules.specs.Settings.{firstEdition}
 use Rattle.call_rules.specs.Outcomes.{Outcome}
@@ -31,7 +31,7 @@ unfoldable pub splitsAt0 : Outcome → Bool
 splitsAt0 o =
     eqb (o .answer) 0 && eqb (o .count) 1 && same (o .list) (3 ∷ 9 ∷ [])
     && same (take 12 (o .store .objects)) (packed 0 (10 ∷ []) ++ (12 ∷ 18 ∷ 18 ∷ 65536 ∷ []) ++ packed 65536 (12 ∷ 6 ∷ 4 ∷ []))
-    && same (take 12 (o .store .links)) (linkRow 0 2 5 ++ linkRow 3 2 4 ++ linkRow 3 10 2)
+    && same (take (perLink * 3) (o .store .links)) (linkRow 0 2 5 ++ linkRow 3 2 4 ++ linkRow 3 10 2)
     && eqb (o .store .byteCount) 65558 && eqb (o .store .objectCount) 6 && eqb (o .store .linkCount) 3
     && same (bytesOf (o .store) 0) (words (1 ∷ 0 ∷ 4 ∷ 0 ∷ 0 ∷ [])) && same (bytesOf (o .store) 3) (words (1 ∷ 0 ∷ 4 ∷ 0 ∷ 1 ∷ 0 ∷ []))
     && same (bytesOf (o .store) 4) (words (1 ∷ 1 ∷ 10 ∷ [])) && same (bytesOf (o .store) 5) (words (1 ∷ 0 ∷ []))

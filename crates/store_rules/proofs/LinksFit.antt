@@ -10,10 +10,10 @@ use Rattle.folds.specs.Folds.{upto, flat}
 use Rattle.folds.proofs.Tests.{either}
 use Rattle.folds.proofs.Each.{Each, each-at, each-upto}
 use Rattle.folds.proofs.Folds.{length-upto}
-use Rattle.store_rules.specs.Store.{Store, Link, linksOf, linkAt, isOffset, parentOf, shaped, ascends, sizeOf}
+use Rattle.store_rules.specs.Store.{Store, Link, linksOf, linkAt, isOffset, offsetOf, parentOf, positionOf, shaped, ascends, sizeOf}
 use Rattle.store_rules.specs.Appended.{link}
 use Rattle.store_rules.proofs.Sound.{Fits, LinkFits, size-most}
-use Rattle.store_rules.proofs.Shaped.{offset-shaped, shaped-then, shaped-leading}
+use Rattle.store_rules.proofs.Shaped.{of-offset, of-parent, offset-inside, offset-shaped, shaped-then, shaped-leading}
 use Rattle.store_rules.proofs.LinkRows.{noLink, row-is}
 use Rattle.store_rules.proofs.LinksAscend.{From, Climb, place, climb-upto, climb-next}
 use Rattle.store_rules.proofs.RowOrder.{rows-from, from-rows}
@@ -44,6 +44,12 @@ rows-many s = length-upto (linkAt s) (s .linkCount)
 module _ (s : Store) (f : Fits s) where
   pub row-fitting : (k : ℕ) → k < s .linkCount → Fitting s (linkAt s k)
   row-fitting k l = let r = f .link k l in record { parentUsed = r .parentUsed; childUsed = r .childUsed; shape = r .shape }
+
+  -- an offset lies in its parent
+  pub row-inside : (k p : ℕ) → k < s .linkCount → offsetOf p (linkAt s k) ≡ true → positionOf s k + 2 ≤ sizeOf s p
+  row-inside k p l o =
+      subst (λ (i : ℕ). positionOf s k + 2 ≤ sizeOf s i) (of-parent p (linkAt s k) o)
+      (offset-inside (sizeOf s (parentOf s k)) (linkAt s k) (of-offset p (linkAt s k) o) (f .link k l .shape))
 
   pub links-fit : Each (Fitting s) (linksOf s)
   unfolding linksOf
