@@ -8,10 +8,10 @@ use mathlib.Core.Option.{Option, some, none}
 use native.Mathlib.Omega.{arith}
 use lib.ListN.{length}
 use lib.Dec.{eqb}
-use borrow.Author.Tests.{eq-eqb, ne-eqb, eqb-true}
+use borrow.Author.Tests.{eq-eqb}
 use Rattle.folds.specs.Folds.{upto}
 use Rattle.folds.specs.Lists.{sift}
-use Rattle.folds.proofs.Tests.{by-test, and-both, and-second}
+use Rattle.folds.proofs.Tests.{by-test, and-both}
 use Rattle.folds.proofs.Folds.{flat-none, upto-cons, upto-same}
 use Rattle.folds.proofs.Each.{Each, each-upto}
 use Rattle.ot_layouts.specs.Lookup.{isOneOf, lookupHeader, subtableCount, lookupExact, isSubtableSlot}
@@ -19,8 +19,9 @@ use Rattle.ot_layouts.proofs.LookupSlots.{which-slot}
 use Rattle.store_rules.specs.Store.{Store, Link, lookup, linksOf, linkAt, childAt, bytesOf, positionOf, offsetOf, allAt}
 use Rattle.store_rules.proofs.Sound.{Fits}
 use Rattle.store_rules.proofs.Slots.{one-stands}
-use Rattle.store_rules.proofs.Lookups.{hit}
-use Rattle.store_rules.proofs.LinksAscend.{From, Climb}
+use Rattle.store_rules.proofs.Shaped.{of-offset, of-parent}
+use Rattle.store_rules.proofs.Lookups.{hit-apart}
+use Rattle.store_rules.proofs.LinksAscend.{From, Climb, place, place-offset}
 use Rattle.store_rules.proofs.LinksFit.{rows-climb}
 use Rattle.lookup_rules.specs.Listed.{slotsAt, linkedIn, subtableSlots, goodLookup}
 use Rattle.lookup_rules.specs.Written.{listings}
@@ -53,23 +54,22 @@ module _ (p : ℕ) where
   -- from slot a on, before e
   abbrev Stands : ℕ → ℕ → List Link → Type 0
   Stands a e [] = Unit {0}
-  Stands a e (l ∷ ls) = (l .parent ≡ p) × (l .position < e) × ((i : ℕ) × (l .position ≡ a + 2 * i)) × Stands (l .position + 2) e ls
+  Stands a e (l ∷ ls) = (offsetOf p l ≡ true) × (l .position < e) × ((i : ℕ) × (l .position ≡ a + 2 * i)) × Stands (l .position + 2) e ls
 
   none-below : (ls : List Link) (a e q : ℕ) → Stands a e ls → q < a → lookup ls p q ≡ none
   unfolding lookup
   none-below [] a e q s h = refl
   none-below (l ∷ ls) a e q (parent, below, (i, at), rest) h =
-      let miss : hit l p q ≡ false = and-second (eqb (l .parent) p) (eqb (l .position) q) (ne-eqb (l .position) q (λ z. omega arith)) in
-      ap (λ (b : Bool). cond b (some (l .child)) (lookup ls p q)) miss ∙ none-below ls (l .position + 2) e q rest (omega arith)
+      ap (λ (b : Bool). cond b (some (l .child)) (lookup ls p q)) (hit-apart l p q (λ z. omega arith)) ∙ none-below ls (l .position + 2) e q rest (omega arith)
 
   passed : (l : Link) (ls : List Link) (q : ℕ) → (l .position ≡ q → ⊥) → lookup (l ∷ ls) p q ≡ lookup ls p q
   unfolding lookup
   passed l ls q ne =
-      ap (λ (b : Bool). cond b (some (l .child)) (lookup ls p q)) (and-second (eqb (l .parent) p) (eqb (l .position) q) (ne-eqb (l .position) q ne))
+      ap (λ (b : Bool). cond b (some (l .child)) (lookup ls p q)) (hit-apart l p q ne)
 
-  here : (l : Link) (ls : List Link) (q : ℕ) → l .parent ≡ p → l .position ≡ q → lookup (l ∷ ls) p q ≡ some (l .child)
+  here : (l : Link) (ls : List Link) (q : ℕ) → offsetOf p l ≡ true → l .position ≡ q → lookup (l ∷ ls) p q ≡ some (l .child)
   unfolding lookup
-  here l ls q e f = rw (eq-eqb (l .parent) p e, eq-eqb (l .position) q f)
+  here l ls q e f = rw (e, eq-eqb (l .position) q f)
 
   -- n slots from a on
   abbrev slots : List Link → ℕ → ℕ → List (Option ℕ)
@@ -106,13 +106,13 @@ module _ (p : ℕ) where
   unfolding lookup sift
   lookup-own [] q = refl
   lookup-own (l ∷ ls) q =
-      by-test (eqb (l .parent) p)
+      by-test (offsetOf p l)
       (λ e. rw (e, e, lookup-own ls q))
       (λ e. rw e (lookup-own ls q))
 
   module _ (a n : ℕ) where
     abbrev AtSlot : Link → Type 0
-    AtSlot l = l .parent ≡ p → (i : ℕ) × (i < n) × (l .position ≡ a + 2 * i)
+    AtSlot l = offsetOf p l ≡ true → (i : ℕ) × (i < n) × (l .position ≡ a + 2 * i)
 
     -- slot j is not passed yet
     abbrev Before : ℕ → ℕ → ℕ → Type 0
@@ -136,15 +136,16 @@ module _ (p : ℕ) where
     unfolding sift
     own-stand [] x y z j c at b = tt
     own-stand (l ∷ ls) x y z j c at b =
-        by-test (eqb (l .parent) p)
+        by-test (offsetOf p l)
         (λ e.
-        let parent = eqb-true (l .parent) p e in
-        let (i, m, s) = at .0 parent in
-        let k = not-before j x y (l .parent) (l .position) b (c .0) parent i s in
+        let parent = of-parent p l e in
+        let (i, m, s) = at .0 e in
+        let here = place-offset l (of-offset p l e) in
+        let k = not-before j x y (l .parent) (place l) b (c .0) parent i (here ∙ s) in
         let next : a + 2 * (i + 1) ≡ l .position + 2 = omega arith in
-        let rest = own-stand ls (l .parent) (l .position + 1) z (i + 1) (c .1) (at .1) (inr (inr (sym parent, omega arith))) in
-        rw e (parent, omega arith, (i - j, omega arith), subst (λ (q : ℕ). Stands q (a + 2 * n) (sift (offsetOf p) ls)) next rest))
-        (λ e. rw e (own-stand ls (l .parent) (l .position + 1) z j (c .1) (at .1) (still-before j x y (l .parent) (l .position) b (c .0))))
+        let rest = own-stand ls (l .parent) (place l + 1) z (i + 1) (c .1) (at .1) (inr (inr (sym parent, omega arith))) in
+        rw e (e, omega arith, (i - j, omega arith), subst (λ (q : ℕ). Stands q (a + 2 * n) (sift (offsetOf p) ls)) next rest))
+        (λ e. rw e (own-stand ls (l .parent) (place l + 1) z j (c .1) (at .1) (still-before j x y (l .parent) (place l) b (c .0))))
 
   pub slots-filled : (s : Store) → Fits s → (a n : ℕ) → allAt s p (isOneOf a n) ≡ true → Filled a (sift (offsetOf p) (linksOf s)) (slotsAt s p a n)
   unfolding slotsAt childAt linksOf

@@ -5,6 +5,7 @@ pub mod Linked
 pub mod Once
 pub mod Listed
 pub mod Redirection
+pub mod RedirectedRows
 pub mod Marks
 pub mod NewLookup
 pub mod Counts

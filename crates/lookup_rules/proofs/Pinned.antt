@@ -108,7 +108,7 @@ writing =
     (linkRow 0 2 12 ++ linkRow 0 10 2 ++ linkRow 5 2 13 ++ linkRow 5 4 7 ++ linkRow 5 6 13 ++ linkRow 5 10 14
     ++ linkRow 6 6 0 ++ linkRow 6 8 4 ++ linkRow 6 10 0 ++ linkRow 7 6 0 ++ linkRow 8 8 0 ++ linkRow 9 0 13 ++ linkRow 10 2 11 ++ linkRow 10 10 3
     ++ linkRow 13 6 0 ++ linkRow 13 8 10 ++ linkRow 13 10 4 ++ linkRow 13 12 0 ++ linkRow 13 14 10 ++ linkRow 14 8 0 ++ linkRow 14 10 10)
-    ∷ same (drop (perLink * 21) (manyThen .links)) (replicate 48 77)
+    ∷ same (drop (perLink * 21) (manyThen .links)) (replicate (perLink * 12) 77)
     ∷ same (needs (lookupsNeed many 0 (10 ∷ []) (6 ∷ 8 ∷ []))) (2 ∷ 7 ∷ 30 ∷ 0 ∷ []) ∷ same (needs (lookupsNeed many 0 (10 ∷ 12 ∷ []) (6 ∷ []))) (1 ∷ 7 ∷ 20 ∷ 0 ∷ [])
     ∷ same (needs (neededInAll many 5 0 (1 ∷ []))) (5 ∷ 8 ∷ 54 ∷ 1 ∷ [])
     ∷ []

@@ -14,7 +14,6 @@ use Rattle.folds.specs.Lists.{among}
 use Rattle.folds.proofs.Each.{each-at, among-each}
 use Rattle.store_rules.specs.Store.{Link, lookup}
 use Rattle.store_rules.proofs.Lookups.{mapped, lookup-changed}
-use Rattle.store_rules.proofs.LinksAscend.{Climb, climb-map}
 use Rattle.lookup_rules.specs.Written.{redirect, redirected}
 
 -- what stands in a list is one of it
@@ -59,8 +58,4 @@ module _ (n : ℕ) (ps : List ℕ) where
   -- a link stands where it stood, and leads to what its child became
   pub lookup-redirected : (ls : List Link) (p q : ℕ) → lookup (map (redirected n ps) ls) p q ≡ mapped (redirect n ps) (lookup ls p q)
   unfolding redirected
-  lookup-redirected ls p q = lookup-changed (redirected n ps) (redirect n ps) p q (λ l. refl) (λ l. refl) (λ l h. refl) ls
-
-  pub climb-redirected : (ls : List Link) (x y e : ℕ) → Climb x y e ls → Climb x y e (map (redirected n ps) ls)
-  unfolding redirected
-  climb-redirected = climb-map (redirected n ps) (λ l. refl) (λ l. refl)
+  lookup-redirected ls p q = lookup-changed (redirected n ps) (redirect n ps) p q (λ l. refl) (λ l. refl) (λ l. refl) (λ l h. refl) ls

@@ -11,6 +11,7 @@ use Rattle.ot_layouts.specs.Numbers.{be16}
 use Rattle.ot_layouts.specs.Lookup.{subtableCount, lookupHeader}
 use Rattle.store_rules.specs.Store.{Store, Link, leadingTo, linksOf, bytesOf}
 use Rattle.store_rules.specs.Appended.{appended}
+use Rattle.store_rules.specs.InOrder.{inOrder}
 use Rattle.store_rules.specs.SlotLinks.{linksFrom, slotLinks}
 use Rattle.call_rules.specs.declared.Needs.{Needs}
 use Rattle.call_rules.specs.Needs.{together}
@@ -53,16 +54,17 @@ unfoldable pub redirect : ℕ → List ℕ → ℕ → ℕ
 redirect n [] c = c
 redirect n (p ∷ ps) c = cond (eqb c p) n (redirect (n + 1) ps c)
 
--- a link, redirected
+-- a link, redirected: "request 3 redirects both kinds"
 unfoldable pub redirected : ℕ → List ℕ → Link → Link
 redirected n ps l = leadingTo (redirect n ps (l .child)) l
 
 -- ---- the store after it
 
--- the new lookups stand behind all objects of the split: s′ is the store s after the split of t into itself and us
+-- the new lookups stand behind all objects of the split: s′ is the store s after the split of t into itself and us. An order-only link goes by its child, so
+-- that a redirected one comes behind its parent's others
 unfoldable pub enteredStore : Store → ℕ → List ℕ → List ℕ → Store → Store
 enteredStore s t us ps s′ =
-    appended s′ (newLookups s t us ps) (map (redirected (s′ .objectCount) ps) (linksOf s′ ++ newLookupLinks s t us ps (s′ .objectCount)))
+    appended s′ (newLookups s t us ps) (inOrder (map (redirected (s′ .objectCount) ps) (linksOf s′ ++ newLookupLinks s t us ps (s′ .objectCount))))
 
 -- "split, then write each type 2 lookup of the list that names it as a new object"
 unfoldable pub lookupStore : Store → ℕ → ℕ → List ℕ → Store

@@ -1,6 +1,6 @@
 -- Figures of mark-to-base tables, at their limits. Stores are sound, their parts of exact length, and each goes through the whole outcome of a cut plan and of
 -- a split. Assumes nothing.
-use Prim.Native.Nat.{ℕ, _+_, _-_}
+use Prim.Native.Nat.{ℕ, _+_, _-_, _*_}
 use mathlib.Core.Path.{_≡_, refl}
 use mathlib.Core.Bool.{Bool, true, _&&_}
 use mathlib.Core.List.{List, [], _∷_, _++_}
@@ -8,7 +8,7 @@ use lib.ListN.{length, replicate, take}
 use lib.Dec.{eqb}
 use Rattle.folds.proofs.Compared.{same, every}
 use Rattle.ot_layouts.specs.Numbers.{words}
-use Rattle.store_rules.specs.Store.{Store, sound, bytesOf}
+use Rattle.store_rules.specs.Store.{Store, perLink, sound, bytesOf}
 use Rattle.store_rules.proofs.Pinned.{linkRow, packed, roomy}
 use Rattle.call_rules.specs.Settings.{firstEdition}
 use Rattle.call_rules.specs.Scratch.{Scratch}
@@ -93,7 +93,7 @@ attaches m b xs s =
 unfoldable pub written : Outcome → Bool
 written o =
     same (take 26 (o .store .objects)) (packed 0 (12 ∷ 6 ∷ 6 ∷ 6 ∷ 4 ∷ 65502 ∷ 12 ∷ 6 ∷ 6 ∷ 4 ∷ 4 ∷ 2 ∷ 2 ∷ []))
-    && same (take 40 (o .store .links))
+    && same (take (perLink * 10) (o .store .links))
     (linkRow 0 2 10 ++ linkRow 0 4 2 ++ linkRow 0 8 11 ++ linkRow 0 10 12 ++ linkRow 3 4 5
     ++ linkRow 6 2 7 ++ linkRow 6 4 2 ++ linkRow 6 8 8 ++ linkRow 6 10 9 ++ linkRow 8 4 5)
     && same (bytesOf (o .store) 0) (words (header 0)) && same (bytesOf (o .store) 6) (words (header 1))

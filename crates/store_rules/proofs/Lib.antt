@@ -7,6 +7,7 @@ pub mod Ways
 pub mod LinkRows
 pub mod LinksAscend
 pub mod RowOrder
+pub mod InOrder
 pub mod Header
 pub mod ObjectRows
 pub mod Slots
