@@ -8,7 +8,6 @@ use mathlib.Core.Option.{some}
 use native.Mathlib.Omega.{arith}
 use native.Mathlib.Nat.{mul-le-mul-left, mul-add}
 use lib.ListN.{length}
-use borrow.Author.Tests.{eqb-true, eq-eqb}
 use Rattle.folds.specs.Lists.{among}
 use Rattle.folds.proofs.Tests.{by-test, true-false}
 use Rattle.folds.proofs.Each.{Each, each-append, each-upto, each-then, each-at, each-sift, each-among}
@@ -20,6 +19,7 @@ use Rattle.store_rules.specs.Appended.{newNumber, link}
 use Rattle.store_rules.specs.Header.{ownChild, headerLinks}
 use Rattle.store_rules.proofs.Reached.{reached-only, reached-all}
 use Rattle.store_rules.proofs.Lookups.{child-row, child-used, linked-is}
+use Rattle.store_rules.proofs.Shaped.{of-parent}
 use Rattle.store_rules.proofs.Header.{header-each, kept-any}
 use Rattle.store_rules.proofs.SlotLinks.{slots-each}
 use Rattle.cut_rules.specs.Ranges.{from, to}
@@ -29,7 +29,7 @@ use Rattle.mark_rules.proofs.Checks.{AtSlots}
 use Rattle.promise_marks.proofs.Ready.{Ready, objects-then}
 use Rattle.promise_marks.proofs.NewLinks.{Of, piece, keptPiece, table-of, kept-child, fresh-each, array-each}
 use Rattle.promise_marks.proofs.StaysSound.{fits-then}
-use Rattle.promise_marks.proofs.Rows.{row-old, row-fresh, from-old, from-new, same-parent, same-position, same-child}
+use Rattle.promise_marks.proofs.Rows.{row-old, row-fresh, from-old, from-new, same-offset, same-position, same-child}
 
 module _ (s : Store) (t : ℕ) (cs : List ℕ) (g : Ready s t cs) where
   abbrev s′ : Store
@@ -81,10 +81,17 @@ module _ (s : Store) (t : ℕ) (cs : List ℕ) (g : Ready s t cs) where
       record {
         table = λ k l p.
             let m = from-old s t cs g k t l p (g .reads .used) in
-            ap isTableSlot (same-position s t cs g k m) ∙ g .atSlots .table k m (sym (same-parent s t cs g k m) ∙ p);
-        marks = λ k l p. row-fresh s t cs g AtSlot fresh-slots k (from-new s t cs g k (v + 1) l (p ∙ mark-array) (omega arith)) l .0 (p ∙ mark-array);
-        bases = λ k l p. row-fresh s t cs g AtSlot fresh-slots k (from-new s t cs g k (v + 2) l (p ∙ base-array) (omega arith)) l .1 (p ∙ base-array);
+            ap isTableSlot (same-position s t cs g k m) ∙ g .atSlots .table k m (sym (same-offset s t cs g k m t) ∙ p);
+        marks = λ k l p.
+            let o = at-array k (v + 1) mark-array p in
+            row-fresh s t cs g AtSlot fresh-slots k (from-new s t cs g k (v + 1) l o (omega arith)) l .0 (of-parent (v + 1) (linkAt s′ k) o);
+        bases = λ k l p.
+            let o = at-array k (v + 2) base-array p in
+            row-fresh s t cs g AtSlot fresh-slots k (from-new s t cs g k (v + 2) l o (omega arith)) l .1 (of-parent (v + 2) (linkAt s′ k) o);
       }
+    where
+      at-array : (k a : ℕ) {x : ℕ} → x ≡ a → offsetOf x (linkAt s′ k) ≡ true → offsetOf a (linkAt s′ k) ≡ true
+      at-array k a e p = subst (λ (i : ℕ). offsetOf i (linkAt s′ k) ≡ true) e p
 
   -- ---- the kept table cannot be reached from itself
 
@@ -98,13 +105,13 @@ module _ (s : Store) (t : ℕ) (cs : List ℕ) (g : Ready s t cs) where
 
   -- what the table leads to
   leads-to : (q c : ℕ) → childAt s t q ≡ some c → Reach s (ofT s) c
-  leads-to q c e = let (k, l, a, b, x) = child-row s t q c e in Reach.seed k l (eq-eqb (parentOf s k) t a) x
+  leads-to q c e = let (k, l, a, b, x) = child-row s t q c e in Reach.seed k l a x
 
   -- and what one of its arrays does
   array-leads : (at d : ℕ) → childAt s t at ≡ some d → (q c : ℕ) → childAt s (linkedAt s t at) q ≡ some c → Reach s (ofT s) c
   array-leads at d f q c e =
       let (k, l, a, b, x) = child-row s (linkedAt s t at) q c e in
-      Reach.step (leads-to at d f) k l (a ∙ linked-is s t at d f) x
+      Reach.step (leads-to at d f) k l (subst (λ (i : ℕ). offsetOf i (linkAt s k) ≡ true) (linked-is s t at d f) a) x
 
   pub mark-leads : (q c : ℕ) → childAt s (markArray s t) q ≡ some c → Reach s (ofT s) c
   mark-leads = let (d, f) = g .parts .marks in array-leads markArrayAt d f
@@ -161,26 +168,25 @@ module _ (s : Store) (t : ℕ) (cs : List ℕ) (g : Ready s t cs) where
       (array-known (v + 1) 0 (from cs 0))
 
   -- a row of the table leads where it led, or to a new part
-  kept-known : (k : ℕ) → k < s .linkCount → parentOf s k ≡ t → Known (childOf s′ k)
+  kept-known : (k : ℕ) → k < s .linkCount → ofT s k ≡ true → Known (childOf s′ k)
   kept-known k l p =
       subst Leads (sym (row-old s t cs g k l))
       (⊎-elim
-      (λ e. subst Known (sym e) (inr (g .fit .link k l .childUsed, Reach.seed k l (eq-eqb (parentOf s k) t p) refl)))
+      (λ e. subst Known (sym e) (inr (g .fit .link k l .childUsed, Reach.seed k l p refl)))
       (λ (a, b). inl (omega arith))
       (kept-any own t v (linkAt s k)))
 
   leads : {i : ℕ} → Reach s′ (ofT s′) i → Known i
   leads (Reach.seed {i} k l a e) =
-      let p : parentOf s′ k ≡ t = eqb-true (parentOf s′ k) t a in
-      let m = from-old s t cs g k t l p (g .reads .used) in
-      subst Known e (kept-known k m (sym (same-parent s t cs g k m) ∙ p))
+      let m = from-old s t cs g k t l a (g .reads .used) in
+      subst Known e (kept-known k m (sym (same-offset s t cs g k m t) ∙ a))
   leads (Reach.step {i} {j} r k l p e) =
       ⊎-elim
       (λ ge. subst Known e (row-fresh s t cs g Leads fresh-known k (from-new s t cs g k i l p ge) l))
       (λ (lt, y).
       let m = from-old s t cs g k i l p lt in
-      let q : parentOf s k ≡ i = sym (same-parent s t cs g k m) ∙ p in
-      let ne : parentOf s k ≡ t → ⊥ = λ z. not-back (subst (Reach s (ofT s)) (sym q ∙ z) y) in
+      let q : offsetOf i (linkAt s k) ≡ true = sym (same-offset s t cs g k m i) ∙ p in
+      let ne : parentOf s k ≡ t → ⊥ = λ z. not-back (subst (Reach s (ofT s)) (sym (of-parent i (linkAt s k) q) ∙ z) y) in
       let w : childOf s k ≡ j = sym (same-child s t cs g k m ne) ∙ e in
       inr (subst (λ (n : ℕ). n < s .objectCount) w (g .fit .link k m .childUsed), Reach.step y k m q w))
       (leads r)

@@ -16,8 +16,8 @@ use Rattle.ot_layouts.specs.MarkBasePos.{coverAt, baseCoverAt, markArrayAt, bas
 use Rattle.store_rules.specs.Store.{Store, Link, linksOf, linkAt, lookup, childAt, linkedAt}
 use Rattle.store_rules.specs.Appended.{newNumber}
 use Rattle.store_rules.specs.Header.{ownChild, headerLinks, kept}
-use Rattle.store_rules.proofs.Lookups.{lookup-append, lookup-piece, lookup-elsewhere, lookup-changed, or-else-none, hit, hit-both, mapped, mapped-id}
-use Rattle.store_rules.proofs.Header.{header-each, header-other, kept-parent, kept-position, kept-other}
+use Rattle.store_rules.proofs.Lookups.{lookup-append, lookup-piece, lookup-elsewhere, lookup-changed, or-else-none, hit, hit-is, hit-both, mapped, mapped-id}
+use Rattle.store_rules.proofs.Header.{header-each, header-other, kept-parent, kept-position, kept-kind, kept-own, kept-other}
 use Rattle.store_rules.proofs.SlotLinks.{slot-at, slot-none, slots-each}
 use Rattle.store_rules.proofs.Appended as behind
 use Rattle.cut_rules.specs.Ranges.{from, to}
@@ -192,7 +192,7 @@ module _ (s : Store) (t : ℕ) (cs : List ℕ) (g : Ready s t cs) where
   unfolding childAt
   others-child i q h ne =
       child-of-old i q h
-      ∙ lookup-changed (kept own t v) (λ c. c) i q (kept-parent own t v) (kept-position own t v) same (linksOf s)
+      ∙ lookup-changed (kept own t v) (λ c. c) i q (kept-parent own t v) (kept-position own t v) (kept-kind own t v) same (linksOf s)
       ∙ mapped-id (λ c. c) (λ c. refl) (lookup (linksOf s) i q)
     where
       same : (l : Link) → hit l i q ≡ true → kept own t v l .child ≡ l .child
@@ -203,8 +203,8 @@ module _ (s : Store) (t : ℕ) (cs : List ℕ) (g : Ready s t cs) where
   unfolding childAt kept
   kept-child q =
       child-of-old t q (g .reads .used)
-      ∙ lookup-changed (kept own t v) (ownChild own v q) t q (kept-parent own t v) (kept-position own t v)
-      (λ l e. let (a, b) = hit-both l t q e in rw (eq-eqb (l .parent) t a, b)) (linksOf s)
+      ∙ lookup-changed (kept own t v) (ownChild own v q) t q (kept-parent own t v) (kept-position own t v) (kept-kind own t v)
+      (λ l e. let (a, b) = hit-is l t q e in kept-own own t v l a ∙ ap (λ (n : ℕ). ownChild own v n (l .child)) b) (linksOf s)
 
   -- ---- a new object has its own
 

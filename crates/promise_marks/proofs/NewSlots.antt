@@ -1,6 +1,6 @@
 -- The links of a new table and of its arrays stand at slots. Assumes nothing.
 use Prim.Native.Nat.{ℕ, _+_, _-_, _*_, _<_, _≤_}
-use mathlib.Core.Path.{_≡_, subst, _∙_}
+use mathlib.Core.Path.{_≡_, subst}
 use mathlib.Core.Bool.{true}
 use mathlib.Core.List.{List}
 use mathlib.Core.Logic.{_⊎_, inl, inr, ⊎-elim}
@@ -10,10 +10,11 @@ use Rattle.folds.proofs.Tests.{either}
 use Rattle.folds.proofs.Each.{Each, each-append, each-then}
 use Rattle.ot_layouts.specs.MarkBasePos.{markArrayAt, baseArrayAt, own, heads, isTableSlot, isMarkSlot, isBaseSlot, markSlot, baseSlot}
 use Rattle.ot_layouts.proofs.MarkSlots.{is-mark-slot, is-base-slot}
-use Rattle.store_rules.specs.Store.{Store, Link, linkedAt}
+use Rattle.store_rules.specs.Store.{Store, Link, linkAt, offsetOf, linkedAt}
 use Rattle.store_rules.specs.Appended.{newNumber}
 use Rattle.store_rules.specs.Header.{headerLinks}
 use Rattle.store_rules.proofs.Lookups.{linked-is}
+use Rattle.store_rules.proofs.Shaped.{of-parent}
 use Rattle.store_rules.proofs.Header.{header-each}
 use Rattle.store_rules.proofs.SlotLinks.{slots-each}
 use Rattle.cut_rules.specs.Ranges.{from, to}
@@ -89,7 +90,14 @@ module _ (s : Store) (t : ℕ) (cs : List ℕ) (g : Ready s t cs) (j : ℕ) (l :
   pub new-slots : AtSlots s′ (newNumber s perTable j)
   new-slots =
       record {
-        table = λ k m p. row-fresh s t cs g AtSlot fresh-slots k (from-new s t cs g k (table j) m p (omega arith)) m .table p;
-        marks = λ k m p. row-fresh s t cs g AtSlot fresh-slots k (from-new s t cs g k (table j + 2) m (p ∙ mark-array) (omega arith)) m .marks (p ∙ mark-array);
-        bases = λ k m p. row-fresh s t cs g AtSlot fresh-slots k (from-new s t cs g k (table j + 3) m (p ∙ base-array) (omega arith)) m .bases (p ∙ base-array);
+        table = λ k m p. row-fresh s t cs g AtSlot fresh-slots k (from-new s t cs g k (table j) m p (omega arith)) m .table (of-parent (table j) (linkAt s′ k) p);
+        marks = λ k m p.
+            let o = at-array k (table j + 2) mark-array p in
+            row-fresh s t cs g AtSlot fresh-slots k (from-new s t cs g k (table j + 2) m o (omega arith)) m .marks (of-parent (table j + 2) (linkAt s′ k) o);
+        bases = λ k m p.
+            let o = at-array k (table j + 3) base-array p in
+            row-fresh s t cs g AtSlot fresh-slots k (from-new s t cs g k (table j + 3) m o (omega arith)) m .bases (of-parent (table j + 3) (linkAt s′ k) o);
       }
+    where
+      at-array : (k a : ℕ) {x : ℕ} → x ≡ a → offsetOf x (linkAt s′ k) ≡ true → offsetOf a (linkAt s′ k) ≡ true
+      at-array k a e p = subst (λ (i : ℕ). offsetOf i (linkAt s′ k) ≡ true) e p

@@ -1,6 +1,7 @@
 -- The rows after a split: the old ones at their old places, then rows of new objects. Assumes nothing.
 use Prim.Native.Nat.{ℕ, _+_, _-_, _<_, _≤_}
 use mathlib.Core.Path.{_≡_, refl, sym, ap, subst, _∙_}
+use mathlib.Core.Bool.{true}
 use mathlib.Core.List.{List, _++_}
 use mathlib.Core.Logic.{⊎-elim}
 use native.Mathlib.Omega.{arith}
@@ -10,12 +11,13 @@ use Rattle.folds.proofs.Tests.{either}
 use Rattle.folds.proofs.Each.{Each, each-at}
 use Rattle.folds.proofs.Moved.{length-map}
 use Rattle.ot_layouts.specs.MarkBasePos.{own}
-use Rattle.store_rules.specs.Store.{Store, Link, linksOf, linkAt, parentOf, positionOf, childOf}
+use Rattle.store_rules.specs.Store.{Store, Link, linksOf, linkAt, offsetOf, parentOf, positionOf, childOf}
 use Rattle.store_rules.specs.Appended.{newNumber}
 use Rattle.store_rules.specs.Header.{kept}
 use Rattle.store_rules.proofs.LinkRows.{noLink, row-is}
 use Rattle.store_rules.proofs.LinksFit.{rows-many}
-use Rattle.store_rules.proofs.Header.{kept-parent, kept-position, kept-other}
+use Rattle.store_rules.proofs.Shaped.{of-parent}
+use Rattle.store_rules.proofs.Header.{kept-parent, kept-position, kept-offset, kept-other}
 use Rattle.mark_rules.specs.Written.{perTable, freshLinks, splitStore}
 use Rattle.promise_marks.proofs.Ready.{Ready}
 use Rattle.promise_marks.proofs.NewLinks.{stayed, links-then, fresh-of}
@@ -52,6 +54,9 @@ module _ (s : Store) (t : ℕ) (cs : List ℕ) (g : Ready s t cs) where
   pub same-position : (k : ℕ) → k < s .linkCount → positionOf s′ k ≡ positionOf s k
   same-position k l = ap (λ (x : Link). x .position) (row-old k l) ∙ kept-position own t v (linkAt s k)
 
+  pub same-offset : (k : ℕ) → k < s .linkCount → (p : ℕ) → offsetOf p (linkAt s′ k) ≡ offsetOf p (linkAt s k)
+  same-offset k l p = ap (offsetOf p) (row-old k l) ∙ kept-offset own t v (linkAt s k) p
+
   -- of another object than the table it leads where it led
   pub same-child : (k : ℕ) → k < s .linkCount → (parentOf s k ≡ t → ⊥) → childOf s′ k ≡ childOf s k
   same-child k l ne = ap (λ (x : Link). x .child) (row-old k l) ∙ kept-other own t v (linkAt s k) ne
@@ -73,8 +78,8 @@ module _ (s : Store) (t : ℕ) (cs : List ℕ) (g : Ready s t cs) where
 
   -- ---- a row of an old object is an old one, and one of a new object a new one
 
-  pub from-old : (k i : ℕ) → k < s′ .linkCount → parentOf s′ k ≡ i → i < s .objectCount → k < s .linkCount
-  from-old k i h p l = ⊎-elim (λ lt. lt) (λ ge. absurd (omega (arith, new-parent k ge h))) (either k (s .linkCount))
+  pub from-old : (k i : ℕ) → k < s′ .linkCount → offsetOf i (linkAt s′ k) ≡ true → i < s .objectCount → k < s .linkCount
+  from-old k i h p l = ⊎-elim (λ lt. lt) (λ ge. absurd (omega (arith, of-parent i (linkAt s′ k) p, new-parent k ge h))) (either k (s .linkCount))
 
-  pub from-new : (k i : ℕ) → k < s′ .linkCount → parentOf s′ k ≡ i → s .objectCount ≤ i → s .linkCount ≤ k
-  from-new k i h p l = ⊎-elim (λ lt. absurd (omega (arith, same-parent k lt, g .fit .link k lt .parentUsed))) (λ ge. ge) (either k (s .linkCount))
+  pub from-new : (k i : ℕ) → k < s′ .linkCount → offsetOf i (linkAt s′ k) ≡ true → s .objectCount ≤ i → s .linkCount ≤ k
+  from-new k i h p l = ⊎-elim (λ lt. absurd (omega (arith, of-parent i (linkAt s′ k) p, same-parent k lt, g .fit .link k lt .parentUsed))) (λ ge. ge) (either k (s .linkCount))

@@ -1,6 +1,6 @@
 -- What classes of a table of a range reach after a split is what they reached in the old table. Assumes nothing.
 use Prim.Native.Nat.{ℕ, _+_, _-_, _<_, _≤_}
-use mathlib.Core.Path.{_≡_, ap, ap₂, subst, _∙_}
+use mathlib.Core.Path.{_≡_, sym, ap, ap₂, subst, _∙_}
 use mathlib.Core.Bool.{Bool, true}
 use mathlib.Core.List.{List}
 use mathlib.Core.Logic.{inl, inr}
@@ -21,7 +21,8 @@ use Rattle.promise_marks.proofs.View.{View}
 use Rattle.promise_marks.proofs.KeptAndNew.{view-kept}
 use Rattle.promise_marks.proofs.StaysSound.{fits-then}
 use Rattle.promise_marks.proofs.WrittenAfresh.{kept-reads}
-use Rattle.promise_marks.proofs.Rows.{rows-then, new-parent, same-parent, same-child}
+use Rattle.store_rules.proofs.Shaped.{of-parent}
+use Rattle.promise_marks.proofs.Rows.{rows-then, new-parent, same-offset, same-child}
 use Rattle.promise_marks.proofs.SameAnchors.{anchor-old, anchor-new}
 use Rattle.promise_marks.proofs.KeptChecked.{not-back, mark-leads, base-leads, slots-then}
 
@@ -61,8 +62,8 @@ module _ (s : Store) (t : ℕ) (cs : List ℕ) (g : Ready s t cs) where
       rows-behind =
           record {
             rows = omega (arith, rows-then s t cs g);
-            parents = same-parent s t cs g;
-            children = λ k l r. same-child s t cs g k l (λ z. not-back s t cs g (subst (Reach s ofT) z (classes-table r)));
+            parents = same-offset s t cs g;
+            children = λ k l p o r. same-child s t cs g k l (λ z. not-back s t cs g (subst (Reach s ofT) (sym (of-parent p (linkAt s k) o) ∙ z) (classes-table r)));
             behind = new-parent s t cs g;
           }
 

@@ -18,8 +18,8 @@ use Rattle.store_rules.specs.Header.{ownChild, headerLinks, kept}
 use Rattle.store_rules.proofs.Sound.{Fits, fits-sound}
 use Rattle.store_rules.proofs.Lookups.{child-used, linked-is}
 use Rattle.store_rules.proofs.LinksAscend.{Climb, climb-map, climb-upper, climb-lower, climb-append, climb-flat}
-use Rattle.store_rules.proofs.LinksFit.{Fitting, links-fit, rows-climb}
-use Rattle.store_rules.proofs.Header.{Rising, header-climb, header-each, kept-any, kept-parent, kept-position}
+use Rattle.store_rules.proofs.LinksFit.{Fitting, link-fitting, fitting-then, links-fit, rows-climb}
+use Rattle.store_rules.proofs.Header.{Rising, header-climb, header-each, kept-any, kept-parent, kept-place}
 use Rattle.store_rules.proofs.SlotLinks.{slots-each, slots-climb}
 use Rattle.store_rules.proofs.AppendedFits.{appended-fits}
 use Rattle.cut_rules.specs.Ranges.{from, to}
@@ -86,7 +86,7 @@ module _ (s : Store) (t : ℕ) (cs : List ℕ) (g : Ready s t cs) where
       let z : newNumber s perTable 0 ≡ s .objectCount = omega arith in
       let y : v + 1 + 2 ≡ v + 3 = omega arith in
       let old : Climb 0 0 (newNumber s perTable 0) (stayed s t cs)
-      = rw z (climb-map (kept own t v) (kept-parent own t v) (kept-position own t v) (linksOf s) 0 0 (s .objectCount) (rows-climb s (g .fit))) in
+      = rw z (climb-map (kept own t v) (kept-parent own t v) (kept-place own t v) (linksOf s) 0 0 (s .objectCount) (rows-climb s (g .fit))) in
       let tables : Climb (newNumber s perTable 0) 0 v (flat (piece s t cs) (length cs)) = climb-flat (piece s t cs) (newNumber s perTable) (length cs) one in
       climb-append (stayed s t cs) (freshLinks s t cs) 0 0 (newNumber s perTable 0) (v + 3) old
       (rw (fresh-is s t cs)
@@ -110,12 +110,9 @@ module _ (s : Store) (t : ℕ) (cs : List ℕ) (g : Ready s t cs) where
       one : (l : Link) → Fitting s l → Fitting s′ (kept own t v l)
       one l f =
           let o = objects-then s t cs g in
-          record {
-            parentUsed = omega (arith, f .parentUsed);
-            childUsed = ⊎-elim (λ e. omega (arith, f .childUsed)) (λ (a, b). omega arith) (kept-any own t v l);
-            wide = f .wide;
-            inside = omega (arith, f .inside, old-size s t cs g (l .parent) (f .parentUsed));
-          }
+          fitting-then s′ l (kept own t v l) (sizeOf s (l .parent)) refl refl refl (omega (arith, f .parentUsed))
+          (⊎-elim (λ e. omega (arith, f .childUsed)) (λ (a, b). omega arith) (kept-any own t v l))
+          (λ w inside. omega (arith, old-size s t cs g (l .parent) (f .parentUsed))) (f .shape)
 
   -- an anchor is an old object
   abbrev OldAnchor : Mark → Type 0
@@ -139,9 +136,9 @@ module _ (s : Store) (t : ℕ) (cs : List ℕ) (g : Ready s t cs) where
       let old = each-at OldAnchor ms (anchors-used lo hi) in
       array-each s t (Fitting s′) p lo hi
       (slots-each p (markSlot 0) 4 (markChild ms) (Fitting s′) (length ms)
-      (λ k c l e. record { parentUsed = omega arith; childUsed = omega (arith, old k l noMark c e); wide = refl; inside = omega arith }))
+      (λ k c l e. link-fitting s′ p _ c (omega arith) (omega (arith, old k l noMark c e)) (omega arith)))
       (slots-each (p + 1) (baseSlot 0) 2 (baseChild s t lo (hi - lo)) (Fitting s′) n
-      (λ k c l e. record { parentUsed = h; childUsed = omega (arith, child-used s (baseArray s t) (g .fit) _ c e); wide = refl; inside = omega arith }))
+      (λ k c l e. link-fitting s′ (p + 1) _ c h (omega (arith, child-used s (baseArray s t) (g .fit) _ c e)) (omega arith)))
 
   module _ (j : ℕ) (l : j < length cs) where
     abbrev u : ℕ
@@ -172,7 +169,7 @@ module _ (s : Store) (t : ℕ) (cs : List ℕ) (g : Ready s t cs) where
       where
         part-fits : (q c : ℕ) → c < s′ .objectCount → q + 2 ≤ tableSize → Fitting s′ (link u q c)
         part-fits q c used h =
-            record { parentUsed = omega (arith, new-used s t cs g j 0 l (omega arith)); childUsed = used; wide = refl; inside = omega (arith, size-table) }
+            link-fitting s′ u q c (omega (arith, new-used s t cs g j 0 l (omega arith))) used (omega (arith, size-table))
 
         cover : Fitting s′ (link u coverAt (u + 1))
         cover = part-fits coverAt (u + 1) (new-used s t cs g j 1 l (omega arith)) (omega arith)
