@@ -1,4 +1,5 @@
 pub mod Apart
 pub mod Entering
+pub mod Unled
 pub mod NewLookups
 pub mod LookupsStay

@@ -12,7 +12,7 @@ use Rattle.folds.proofs.FromTheFront.{flat-same}
 use Rattle.ot_layouts.specs.Lookup.{subtableCount, lookupHeader, lookupExact, isSubtableSlot}
 use Rattle.store_rules.specs.Store.{Store, positionOf, childOf, bytesOf, childAt, allAt}
 use Rattle.store_rules.proofs.Slots.{all-stand}
-use Rattle.store_rules.proofs.RowChild.{row-child}
+use Rattle.store_rules.proofs.RowChild.{offset-child}
 use Rattle.pair_rules.specs.Written.{splitStore}
 use Rattle.lookup_rules.specs.Listed.{slotsAt, subtableSlots, goodLookup}
 use Rattle.lookup_rules.specs.Written.{entered, newSlots, newLookup, newLookups, subtableLinks, newLookupLinks, countFits, countsFit}
@@ -50,7 +50,7 @@ module _ (s : Store) (t : ℕ) (cs : List ℕ) (g : Ready s t cs) where
         (all-stand s′ p (isSubtableSlot b) (λ k l e.
         let q = positionOf s′ k in
         stands-at s p q (childOf s′ k) (isSubtableSlot b) stand
-        (sym (others-child s t cs g p q used other) ∙ ap (λ (u : ℕ). childAt s′ u q) (sym e) ∙ row-child s′ (fits-then s t cs g) k l))))
+        (sym (others-child s t cs g p q used other) ∙ offset-child s′ (fits-then s t cs g) k p l e))))
 
   -- ---- all of them
 

@@ -10,8 +10,11 @@ use Rattle.folds.proofs.Folds.{length-upto, upto-same}
 use Rattle.folds.proofs.FromTheFront.{upto-getD, upto-at}
 use Rattle.folds.proofs.Moved.{length-map, map-upto}
 use Rattle.ot_layouts.specs.Lookup.{subtableCount, lookupHeader}
-use Rattle.store_rules.specs.Store.{Store, Link, headOf, tailOf, bytesOf, childAt, lookup, linksOf}
+use Rattle.store_rules.specs.Store.{Store, Link, headOf, tailOf, bytesOf, childAt, lookup, linkAt, linksOf}
 use Rattle.store_rules.specs.Appended.{appended}
+use Rattle.store_rules.specs.InOrder.{inOrder}
+use Rattle.store_rules.proofs.Shaped.{of-parent}
+use Rattle.store_rules.proofs.InOrder.{RowsAlike, alike-many}
 use Rattle.store_rules.proofs.Sound.{Fits}
 use Rattle.store_rules.proofs.Lookups.{mapped, lookup-append, lookup-none-flat, lookup-piece, or-else-none, child-row}
 use Rattle.store_rules.proofs.LinksFit.{rows-many}
@@ -32,14 +35,15 @@ use Rattle.lookup_rules.specs.Written.{
   lookupStore,
   linksNeeded,
 }
-use Rattle.lookup_rules.proofs.Redirection.{among-place, lookup-redirected}
+use Rattle.lookup_rules.proofs.Redirection.{among-place}
+use Rattle.lookup_rules.proofs.RedirectedRows.{rows-redirected, lookup-ordered}
 use Rattle.lookup_rules.proofs.NewLookup.{exact-long, new-count}
 use Rattle.lookup_rules.proofs.Counts.{all-needed}
 use Rattle.pair_after.proofs.Ready.{objects-then}
-use Rattle.pair_after.proofs.SoundThen.{fits-then}
 use Rattle.pair_after.proofs.Taken.{bytes-then, links-then, bytes-length, rows-length}
 use Rattle.lookup_after.proofs.Entering.{Entering}
 use Rattle.lookup_after.proofs.Apart.{Named, each-named}
+use Rattle.lookup_after.proofs.Unled as before
 
 module _ (s : Store) (l t : ℕ) (cs : List ℕ) (e : Entering s l t cs) where
   -- the store after the split
@@ -63,18 +67,18 @@ module _ (s : Store) (l t : ℕ) (cs : List ℕ) (e : Entering s l t cs) where
   abbrev slots : ℕ → List (Option ℕ)
   slots m = newSlots s t (newTables s t cs) (getD (rewritten s l t) m 0)
 
-  -- the new lookups, their links, and all links
+  -- the new lookups, and all links
   abbrev pub new : List (List ℕ)
   new = newLookups s t (newTables s t cs) (rewritten s l t)
 
-  abbrev pub more : List Link
-  more = newLookupLinks s t (newTables s t cs) (rewritten s l t) (splitStore s t cs .objectCount)
+  abbrev more : List Link
+  more = before.more s l t cs e
 
-  abbrev pub unled : List Link
-  unled = linksOf (splitStore s t cs) ++ newLookupLinks s t (newTables s t cs) (rewritten s l t) (splitStore s t cs .objectCount)
+  abbrev unled : List Link
+  unled = before.unled s l t cs e
 
   abbrev pub links : List Link
-  links = map (redirected (splitStore s t cs .objectCount) (rewritten s l t)) (unled)
+  links = inOrder (map (redirected (splitStore s t cs .objectCount) (rewritten s l t)) unled)
 
   -- the store at exit
   abbrev s″ : Store
@@ -84,12 +88,16 @@ module _ (s : Store) (l t : ℕ) (cs : List ℕ) (e : Entering s l t cs) where
   unfolding lookupStore enteredStore
   s″-is = refl
 
-  pub fit′ : Fits s′
-  fit′ = fits-then s t cs (e .ready)
+  abbrev fit′ : Fits s′
+  fit′ = before.fit′ s l t cs e
 
   -- what is known of a lookup that is rewritten
   pub named : (m : ℕ) → m < length ps → Named s t (p m)
   named m h = each-named s l t (e .fine) (e .ready .fit) (e .ready .reads) (p m) (among-place ps m h)
+
+  -- the rows are the redirected ones, but for children that order-only links of one parent exchange
+  pub rows-alike : RowsAlike links (map (redirected n ps) unled)
+  rows-alike = rows-redirected n ps unled (n + length ps) (before.climb-unled s l t cs e) (before.old-links s l t cs e)
 
   -- ---- room
 
@@ -99,7 +107,7 @@ module _ (s : Store) (l t : ℕ) (cs : List ℕ) (e : Entering s l t cs) where
 
   pub many-links : length links ≡ s .linkCount + needLinks (shape s t) (length cs) + sum (λ m. linksNeeded s t us (p m)) (length ps)
   many-links =
-      length-map (redirected n ps) unled ∙ length-append (linksOf s′) more
+      alike-many links (map (redirected n ps) unled) rows-alike ∙ length-map (redirected n ps) unled ∙ length-append (linksOf s′) more
       ∙ omega (arith, rows-many s′, links-then s t cs (e .ready), all-needed s (e .ready .fit) t us ps n (λ m h. named m h .lists .good))
 
   pub room : behind.Room s′ new
@@ -137,7 +145,7 @@ module _ (s : Store) (l t : ℕ) (cs : List ℕ) (e : Entering s l t cs) where
   unfolding childAt
   child-is i q =
       ap (λ (x : List Link). lookup x i q) links-are
-      ∙ lookup-redirected n ps unled i q
+      ∙ lookup-ordered n ps unled (n + length ps) (before.climb-unled s l t cs e) (before.old-links s l t cs e) i q
       ∙ ap (mapped (redirect n ps)) (lookup-append (linksOf s′) more i q)
 
   -- no link of another object is among those of new lookup m
@@ -170,7 +178,7 @@ module _ (s : Store) (l t : ℕ) (cs : List ℕ) (e : Entering s l t cs) where
     where
       go : (o : Option ℕ) → childAt s′ (n + m) q ≡ o → o ≡ none
       go none h = refl
-      go (some c) h = let (k, a, b, d, f) = child-row s′ (n + m) q c h in absurd (omega (arith, fit′ .link k a .parentUsed))
+      go (some c) h = let (k, a, b, d, f) = child-row s′ (n + m) q c h in absurd (omega (arith, of-parent (n + m) (linkAt s′ k) b, fit′ .link k a .parentUsed))
 
   lookup-child : (m i : ℕ) → m < length ps → i < length (slots m) → childAt s″ (n + m) (lookupHeader + 2 * i) ≡ mapped (redirect n ps) (getD (slots m) i none)
   unfolding newLookupLinks
