@@ -88,7 +88,7 @@ module _ (s : Store) (l t : ℕ) (cs : List ℕ) (e : Entering s l t cs) where
   unfolding lookupStore enteredStore
   s″-is = refl
 
-  abbrev fit′ : Fits s′
+  abbrev pub fit′ : Fits s′
   fit′ = before.fit′ s l t cs e
 
   -- what is known of a lookup that is rewritten

@@ -2,21 +2,22 @@
 use Prim.Native.Nat.{ℕ, _+_, _-_, _<_, _≤_}
 use mathlib.Core.Path.{_≡_, refl, sym, ap, subst, _∙_}
 use mathlib.Core.Bool.{true}
-use mathlib.Core.List.{List}
+use mathlib.Core.List.{List, map}
 use mathlib.Core.Logic.{_⊎_, inl, inr, ⊎-elim}
 use native.Mathlib.Omega.{arith}
 use lib.ListN.{length, getD, length-append, List·getD-append, List·getD-map}
 use lib.Seq.{getD-append-add}
-use borrow.Author.Tests.{eqb-true}
 use Rattle.folds.proofs.Each.{Each, each-flat, each-at}
 use Rattle.folds.proofs.Moved.{length-map}
 use Rattle.ot_layouts.specs.Lookup.{lookupHeader}
-use Rattle.store_rules.specs.Store.{Store, Link, linksOf, linkAt, parentOf, childOf}
+use Rattle.store_rules.specs.Store.{Store, Link, linksOf, linkAt, isOffset, parentOf, childOf}
 use Rattle.store_rules.specs.Reach.{Reach}
 use Rattle.store_rules.proofs.LinkRows.{noLink, row-is}
 use Rattle.store_rules.proofs.LinksFit.{rows-many}
 use Rattle.store_rules.proofs.SlotLinks.{slots-each}
 use Rattle.store_rules.proofs.Ways.{Way}
+use Rattle.store_rules.proofs.Shaped.{of-offset, of-parent}
+use Rattle.store_rules.proofs.InOrder.{Alike, alike-many, alike-at}
 use Rattle.pair_rules.specs.Table.{cutPlaces, setsSorted}
 use Rattle.pair_rules.specs.Written.{newTables, splitStore}
 use Rattle.pair_rules.specs.Reads.{ReadsPairs}
@@ -38,7 +39,8 @@ use Rattle.promise_lookups.specs.Demands.{AgainNoEntry}
 use Rattle.promise_lookups.proofs.Answered.{enters-may, store-entered}
 use Rattle.lookup_after.proofs.Entering.{Entering}
 use Rattle.promise_lookups.proofs.GoesAhead.{entering}
-use Rattle.lookup_after.proofs.NewLookups.{more, unled, links, links-are, fit′, used-then, split-head, split-tail, split-bytes}
+use Rattle.lookup_after.proofs.Unled.{more, unled, fit′}
+use Rattle.lookup_after.proofs.NewLookups.{links, links-are, rows-alike, used-then, split-head, split-tail, split-bytes}
 use Rattle.promise_lookups.proofs.StaysSound.{fits-entered}
 use Rattle.promise_lookups.proofs.Kept.{not-rewritten, table-child, around-table, kept-table}
 
@@ -63,16 +65,20 @@ module _ (s : Store) (l t : ℕ) (cs : List ℕ) (e : Entering s l t cs) where
 
   many-then : s″ .linkCount ≡ s′ .linkCount + length (more s l t cs e)
   many-then =
-      sym (rows-many s″) ∙ ap length (links-are s l t cs e) ∙ length-map led (unled s l t cs e) ∙ length-append (linksOf s′) (more s l t cs e)
+      sym (rows-many s″) ∙ ap length (links-are s l t cs e) ∙ alike-many (links s l t cs e) (map led (unled s l t cs e)) (rows-alike s l t cs e) ∙ length-map led (unled s l t cs e) ∙ length-append (linksOf s′) (more s l t cs e)
       ∙ ap (λ (k : ℕ). k + length (more s l t cs e)) (rows-many s′)
 
-  row-then : (k : ℕ) → k < s″ .linkCount → linkAt s″ k ≡ led (getD (unled s l t cs e) k noLink)
-  row-then k h = row-is s″ (links s l t cs e) (links-are s l t cs e) k h (led noLink) ∙ List·getD-map led (unled s l t cs e) k noLink
+  row-then : (k : ℕ) → k < s″ .linkCount → Alike (linkAt s″ k) (led (getD (unled s l t cs e) k noLink))
+  row-then k h =
+      subst (λ (x : Link). Alike x (led (getD (unled s l t cs e) k noLink))) (sym (row-is s″ (links s l t cs e) (links-are s l t cs e) k h (led noLink)))
+      (subst (Alike (getD (links s l t cs e) k (led noLink))) (List·getD-map led (unled s l t cs e) k noLink)
+      (alike-at (links s l t cs e) (map led (unled s l t cs e)) (rows-alike s l t cs e) k (led noLink)))
 
-  old-row : (k : ℕ) → k < s′ .linkCount → linkAt s″ k ≡ led (linkAt s′ k)
+  old-row : (k : ℕ) → k < s′ .linkCount → Alike (linkAt s″ k) (led (linkAt s′ k))
   old-row k h =
-      row-then k (omega (arith, many-then))
-      ∙ ap led (List·getD-append (linksOf s′) (more s l t cs e) noLink k (omega (arith, rows-many s′)) ∙ sym (row-is s′ (linksOf s′) refl k h noLink))
+      subst (λ (x : Link). Alike (linkAt s″ k) (led x))
+      (List·getD-append (linksOf s′) (more s l t cs e) noLink k (omega (arith, rows-many s′)) ∙ sym (row-is s′ (linksOf s′) refl k h noLink))
+      (row-then k (omega (arith, many-then)))
 
   more-above : Each (λ k. n ≤ k .parent) (more s l t cs e)
   unfolding newLookupLinks
@@ -85,23 +91,26 @@ module _ (s : Store) (l t : ℕ) (cs : List ℕ) (e : Entering s l t cs) where
   new-row k ge h =
       let j = k - s′ .linkCount in
       let z : k ≡ length (linksOf s′) + j = omega (arith, rows-many s′) in
-      let row : linkAt s″ k ≡ led (getD (more s l t cs e) j noLink)
-      = row-then k h ∙ ap led (ap (λ (m : ℕ). getD (unled s l t cs e) m noLink) z ∙ getD-append-add (linksOf s′) (more s l t cs e) j noLink) in
-      let p : parentOf s″ k ≡ getD (more s l t cs e) j noLink .parent = ap (λ (x : Link). x .parent) row in
+      let row : Alike (linkAt s″ k) (led (getD (more s l t cs e) j noLink))
+      = subst (λ (x : Link). Alike (linkAt s″ k) (led x))
+      (ap (λ (m : ℕ). getD (unled s l t cs e) m noLink) z ∙ getD-append-add (linksOf s′) (more s l t cs e) j noLink) (row-then k h) in
+      let p : parentOf s″ k ≡ getD (more s l t cs e) j noLink .parent = row .parent in
       omega (arith, p, each-at (λ k. n ≤ k .parent) (more s l t cs e) more-above j (omega (arith, many-then)) noLink)
 
   -- ---- the store at exit extends the split's, from the kept table
 
   -- what the kept table reaches is new, or the old one reached it
   own-way : {i : ℕ} → Way s′ t i → NewOrOwn s t i
-  own-way (Reach.seed k h a f) = subst (NewOrOwn s t) f (row-leads s t cs (e .ready) k h (inl (eqb-true (parentOf s′ k) t a)))
-  own-way (Reach.step r k h p f) = subst (NewOrOwn s t) f (row-leads s t cs (e .ready) k h (inr (subst (NewOrOwn s t) (sym p) (own-way r))))
+  own-way (Reach.seed k h a f) = subst (NewOrOwn s t) f (row-leads s t cs (e .ready) k h (of-offset t (linkAt s′ k) a) (inl (of-parent t (linkAt s′ k) a)))
+  own-way (Reach.step {i} r k h p f) =
+      subst (NewOrOwn s t) f
+      (row-leads s t cs (e .ready) k h (of-offset i (linkAt s′ k) p) (inr (subst (NewOrOwn s t) (sym (of-parent i (linkAt s′ k) p)) (own-way r))))
 
-  child-same : (k : ℕ) → k < s′ .linkCount → (parentOf s′ k ≡ t) ⊎ Way s′ t (parentOf s′ k) → childOf s″ k ≡ childOf s′ k
+  child-same : (k : ℕ) → k < s′ .linkCount → isOffset (linkAt s′ k) ≡ true → (parentOf s′ k ≡ t) ⊎ Way s′ t (parentOf s′ k) → childOf s″ k ≡ childOf s′ k
   unfolding redirected
-  child-same k h d =
-      let own = row-leads s t cs (e .ready) k h (⊎-elim (λ z. inl z) (λ w. inr (own-way w)) d) in
-      ap (λ (x : Link). x .child) (old-row k h) ∙ redirect-other n ps (childOf s′ k) (not-rewritten s l t cs e (childOf s′ k) own)
+  child-same k h o d =
+      let own = row-leads s t cs (e .ready) k h o (⊎-elim (λ z. inl z) (λ w. inr (own-way w)) d) in
+      old-row k h .child o ∙ redirect-other n ps (childOf s′ k) (not-rewritten s l t cs e (childOf s′ k) own)
 
   extends : Extends s′ s″ t
   unfolding redirected
@@ -116,8 +125,9 @@ module _ (s : Store) (l t : ℕ) (cs : List ℕ) (e : Entering s l t cs) where
         bytes = split-bytes s l t cs e;
         sizes = λ i h. omega (arith, split-head s l t cs e i h, split-tail s l t cs e i h);
         links = λ q. table-child s l t cs e t q used own;
-        parents = λ k h. ap (λ (x : Link). x .parent) (old-row k h);
-        positions = λ k h. ap (λ (x : Link). x .position) (old-row k h);
+        kinds = λ k h. old-row k h .kind;
+        parents = λ k h. old-row k h .parent;
+        positions = λ k h. old-row k h .position;
         children = child-same;
         behind = new-row;
       }

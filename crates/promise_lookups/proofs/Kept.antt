@@ -35,7 +35,8 @@ use Rattle.lookup_after.proofs.Entering.{Entering}
 use Rattle.promise_lookups.proofs.GoesAhead.{entering}
 use Rattle.lookup_after.proofs.Apart.{way-reaches, list-other, each-named, no-way-to, no-way-from}
 use Rattle.lookup_after.proofs.NewLookups.{fit′, used-then, split-head, split-tail, split-bytes, split-child, lookup-bytes, lookup-slots}
-use Rattle.promise_lookups.proofs.StaysSound.{old-used, sound-entered}
+use Rattle.lookup_after.proofs.Unled.{old-used}
+use Rattle.promise_lookups.proofs.StaysSound.{sound-entered}
 
 module _ (s : Store) (l t : ℕ) (cs : List ℕ) (e : Entering s l t cs) where
   abbrev s′ : Store

@@ -1,6 +1,6 @@
 -- The promise speaks of something, and its second condition is needed: a call that enters a table, where another subtable has a device link to the lookup.
 -- Assumes nothing.
-use Prim.Native.Nat.{ℕ}
+use Prim.Native.Nat.{ℕ, _*_}
 use mathlib.Core.Path.{_≡_, refl, sym, ap, _∙_}
 use mathlib.Core.Bool.{true}
 use mathlib.Core.List.{List, [], _∷_, _++_}
@@ -18,7 +18,8 @@ use Rattle.folds.proofs.Each.{each-among}
 use Rattle.folds.proofs.Bytes.{bytes-append, bytes-zeros}
 use Rattle.ot_layouts.specs.Numbers.{words, be16}
 use Rattle.ot_layouts.specs.Lookup.{lookupType, pairType}
-use Rattle.store_rules.specs.Store.{Store, bytesOf, childAt}
+use Rattle.store_rules.specs.Appended.{link, rowNumbers}
+use Rattle.store_rules.specs.Store.{Store, perLink, bytesOf, childAt}
 use Rattle.call_rules.specs.declared.Settings.{Settings}
 use Rattle.call_rules.specs.Settings.{firstEdition}
 use Rattle.call_rules.specs.Scratch.{Scratch, scratchOf}
@@ -45,8 +46,7 @@ turned =
       bytes = front ++ replicate 65618 0;
       objects = 0 ∷ 12 ∷ 12 ∷ 18 ∷ 18 ∷ 22 ∷ 22 ∷ 32 ∷ 32 ∷ 44 ∷ 44 ∷ 50 ∷ 50 ∷ 52 ∷ 52 ∷ 65568 ∷ replicate 8 0;
       links =
-          0 ∷ 2 ∷ 2 ∷ 1 ∷ 0 ∷ 10 ∷ 2 ∷ 6 ∷ 2 ∷ 2 ∷ 2 ∷ 3 ∷ 3 ∷ 6 ∷ 2 ∷ 0 ∷ 3 ∷ 8 ∷ 2 ∷ 4
-          ∷ 4 ∷ 2 ∷ 2 ∷ 1 ∷ 4 ∷ 10 ∷ 2 ∷ 5 ∷ 5 ∷ 4 ∷ 2 ∷ 3 ∷ 6 ∷ 0 ∷ 2 ∷ 7 ∷ replicate 16 0;
+          rowNumbers (link 0 2 1 ∷ link 0 10 6 ∷ link 2 2 3 ∷ link 3 6 0 ∷ link 3 8 4 ∷ link 4 2 1 ∷ link 4 10 5 ∷ link 5 4 3 ∷ link 6 0 7 ∷ []) ++ replicate (perLink * 4) 0;
       byteCount = 65568;
       objectCount = 8;
       linkCount = 9;

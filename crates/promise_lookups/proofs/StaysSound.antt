@@ -2,34 +2,34 @@
 use Prim.Native.Nat.{ℕ, suc, _+_, _*_, _<_, _≤_}
 use mathlib.Core.Path.{_≡_, refl, sym, ap, subst, _∙_}
 use mathlib.Core.Bool.{true}
-use mathlib.Core.List.{List, []}
+use mathlib.Core.List.{List, [], map}
 use mathlib.Core.Option.{Option, some, none}
 use native.Mathlib.Omega.{arith}
 use lib.ListN.{length, getD}
 use Rattle.folds.specs.Lists.{join, Bytes}
 use Rattle.folds.proofs.FromTheFront.{upto-getD}
-use Rattle.folds.proofs.Each.{Each, each-upto, each-append, each-flat, each-map, each-then, each-among}
-use Rattle.ot_layouts.specs.Lookup.{subtableCount, lookupHeader}
-use Rattle.store_rules.specs.Store.{Store, Link, sound, sizeOf, bytesOf, childAt, linksOf}
-use Rattle.store_rules.specs.Appended.{newNumber}
+use Rattle.folds.proofs.Each.{Each, each-upto, each-append, each-flat, each-map, each-then}
+use Rattle.ot_layouts.specs.Lookup.{lookupHeader}
+use Rattle.store_rules.specs.Store.{Store, Link, shaped, sound, sizeOf, bytesOf, linksOf}
+use Rattle.store_rules.specs.Appended.{link}
 use Rattle.store_rules.proofs.Sound.{Fits, fits-sound}
 use Rattle.store_rules.proofs.Bytes.{object-bytes}
-use Rattle.store_rules.proofs.Lookups.{child-used}
-use Rattle.store_rules.proofs.LinksAscend.{Climb, climb-append, climb-flat}
-use Rattle.store_rules.proofs.LinksFit.{Fitting, links-fit, rows-climb}
-use Rattle.store_rules.proofs.SlotLinks.{slots-each, slots-climb}
+use Rattle.store_rules.proofs.LinksAscend.{Climb}
+use Rattle.store_rules.proofs.LinksFit.{Fitting, links-fit}
+use Rattle.store_rules.proofs.Shaped.{offset-shaped, shaped-then, shaped-leading}
+use Rattle.store_rules.proofs.InOrder.{order-each}
+use Rattle.store_rules.proofs.SlotLinks.{slots-each}
 use Rattle.store_rules.proofs.Appended as behind
 use Rattle.store_rules.proofs.AppendedFits.{appended-fits, appended-bytes}
-use Rattle.pair_rules.specs.Table.{shape, cutPlaces}
-use Rattle.pair_rules.specs.Written.{newTables, splitStore, perTable, needed, needsOf, needObjects}
-use Rattle.pair_rules.proofs.NewCounts.{per-two}
-use Rattle.lookup_rules.specs.Listed.{slotsAt, linkedIn, subtableSlots, rewritten}
+use Rattle.pair_rules.specs.Table.{cutPlaces}
+use Rattle.pair_rules.specs.Written.{newTables, splitStore, needed, needsOf, needObjects}
+use Rattle.lookup_rules.specs.Listed.{rewritten}
 use Rattle.lookup_rules.specs.Written.{newSlots, newLookup, subtableLinks, newLookupLinks, redirected, lookupStore, lookupsNeed, neededInAll}
-use Rattle.lookup_rules.proofs.Slots.{each-linked, among-linked, each-entered}
-use Rattle.lookup_rules.proofs.Redirection.{redirect-below, climb-redirected}
+use Rattle.lookup_rules.proofs.Redirection.{redirect-below}
+use Rattle.lookup_rules.proofs.RedirectedRows.{climb-redirected}
 use Rattle.lookup_rules.proofs.NewLookup.{new-long, new-octets}
 use Rattle.promise_calls.specs.Unchanged.{Octets}
-use Rattle.pair_after.proofs.Ready.{objects-then, many-new, new-used}
+use Rattle.pair_after.proofs.Ready.{objects-then, many-new}
 use Rattle.promise_pairs.proofs.GoesAhead.{store-written}
 use Rattle.promise_pairs.proofs.StaysOctets.{stays-octets}
 use Rattle.pair_after.proofs.Taken.{bytes-then, links-length}
@@ -37,13 +37,11 @@ use Rattle.promise_lookups.specs.Demands.{StaysSoundEntered, StaysOctets
 use Rattle.promise_lookups.proofs.Answered.{store-entered}
 use Rattle.lookup_after.proofs.Entering.{Entering}
 use Rattle.promise_lookups.proofs.GoesAhead.{entering, splits}
+use Rattle.lookup_after.proofs.Unled.{more, unled, fit′, slot-used, old-links, climb-unled}
 use Rattle.lookup_after.proofs.NewLookups.{
   new,
-  more,
-  unled,
   links,
   s″-is,
-  fit′,
   room,
   many-lookups,
   many-links,
@@ -73,34 +71,13 @@ module _ (s : Store) (l t : ℕ) (cs : List ℕ) (e : Entering s l t cs) where
   abbrev s″ : Store
   s″ = lookupStore s l t cs
 
-  pub old-used : s .objectCount ≤ n
-  old-used = omega (arith, objects-then s t cs (e .ready))
-
-  -- what a slot of a new lookup leads to is in use after the split
-  tables-used : Each (λ c. c < n) us
-  unfolding newTables
-  tables-used =
-      each-upto (λ c. c < n) (newNumber s (perTable (shape s t))) (length cs)
-      (λ j k. omega (arith, new-used s t cs (e .ready) j 0 k (omega (arith, per-two (bytesOf s t)))))
-
-  slot-used : (m i c : ℕ) → i < length (slots m) → getD (slots m) i none ≡ some c → c < n
-  unfolding newSlots subtableSlots slotsAt
-  slot-used m i c h f =
-      let p = getD ps m 0 in
-      each-among (λ c. c < n) (linkedIn (slots m)) c
-      (each-entered (λ c. c < n) t us (subtableSlots s p) tables-used
-      (each-linked (λ c. c < n) (λ i. childAt s p (lookupHeader + 2 * i)) (subtableCount (bytesOf s p))
-      (λ i c k x. omega (arith, child-used s p (e .ready .fit) (lookupHeader + 2 * i) c x, old-used))))
-      (among-linked (slots m) i c h f)
-
   -- ---- links
 
   -- a link before redirection
   record Before (k : Link) : Type 0 where
     parentUsed : k .parent < s″ .objectCount
     childUsed : k .child < n
-    wide : k .width ≡ 2
-    inside : k .position + 2 ≤ sizeOf s″ (k .parent)
+    shape : shaped (sizeOf s″ (k .parent)) k ≡ true
 
   old-before : Each Before (linksOf s′)
   old-before =
@@ -110,8 +87,8 @@ module _ (s : Store) (l t : ℕ) (cs : List ℕ) (e : Entering s l t cs) where
       record {
         parentUsed = omega (arith, used-then s l t cs e);
         childUsed = f .childUsed;
-        wide = f .wide;
-        inside = omega (arith, f .inside, split-head s l t cs e (k .parent) a, split-tail s l t cs e (k .parent) a);
+        shape = shaped-then (sizeOf s′ (k .parent)) k (sizeOf s″ (k .parent))
+            (λ o i. omega (arith, split-head s l t cs e (k .parent) a, split-tail s l t cs e (k .parent) a)) (f .shape);
       })
       (linksOf s′) (links-fit s′ (fit′ s l t cs e))
 
@@ -129,36 +106,25 @@ module _ (s : Store) (l t : ℕ) (cs : List ℕ) (e : Entering s l t cs) where
       (λ m h. slots-each (n + m) lookupHeader 2 (λ i. getD (slots m) i none) Before (length (slots m))
       (λ i c k x. record {
         parentUsed = omega (arith, used-then s l t cs e);
-        childUsed = slot-used m i c k x;
-        wide = refl;
-        inside = omega (arith, lookup-size m h);
+        childUsed = slot-used s l t cs e m i c k x;
+        shape = offset-shaped (sizeOf s″ (n + m)) (link (n + m) (lookupHeader + 2 * i) c) refl refl (omega (arith, lookup-size m h));
       }))
 
   all-fit : Each (Fitting s″) (links s l t cs e)
   unfolding redirected
   all-fit =
-      each-map Before (Fitting s″) (redirected n ps)
+      order-each (Fitting s″) (map (redirected n ps) (unled s l t cs e))
+      (each-map Before (Fitting s″) (redirected n ps)
       (λ k b. record {
         parentUsed = b .parentUsed;
         childUsed = omega (arith, redirect-below n ps (k .child) (b .childUsed), used-then s l t cs e);
-        wide = b .wide;
-        inside = b .inside;
+        shape = shaped-leading (sizeOf s″ (k .parent)) k (redirected n ps k) refl refl refl (b .shape);
       })
       (unled s l t cs e)
-      (each-append Before (linksOf s′) (more s l t cs e) old-before new-before)
+      (each-append Before (linksOf s′) (more s l t cs e) old-before new-before))
 
   all-climb : Climb 0 0 (n + length ps) (links s l t cs e)
-  unfolding newLookupLinks
-  all-climb =
-      let z : n ≡ n + 0 = omega arith in
-      climb-redirected n ps (unled s l t cs e) 0 0 (n + length ps)
-      (climb-append (linksOf s′) (more s l t cs e) 0 0 (n + 0) (n + length ps)
-      (subst (λ (k : ℕ). Climb 0 0 k (linksOf s′)) z (rows-climb s′ (fit′ s l t cs e)))
-      (climb-flat (λ m. subtableLinks (n + m) (slots m)) (λ m. n + m) (length ps)
-      (λ m h.
-      let next : suc (n + m) ≡ n + suc m = omega arith in
-      subst (λ (k : ℕ). Climb (n + m) 0 k (subtableLinks (n + m) (slots m))) next
-      (slots-climb (n + m) lookupHeader 2 (λ i. getD (slots m) i none) (length (slots m)) (omega arith)))))
+  all-climb = climb-redirected n ps (unled s l t cs e) (n + length ps) (climb-unled s l t cs e) (old-links s l t cs e)
 
   -- ---- the store
 

@@ -1,6 +1,6 @@
 -- The demands speak of something under either edition: a store of bytes with a table that a call splits. And bytes are needed: without them a new table may be
 -- unreadable. Assumes nothing.
-use Prim.Native.Nat.{ℕ}
+use Prim.Native.Nat.{ℕ, _*_}
 use mathlib.Core.Path.{_≡_, refl}
 use mathlib.Core.Bool.{true}
 use mathlib.Core.List.{List, [], _∷_, _++_}
@@ -15,7 +15,8 @@ use Rattle.folds.proofs.Table.{every, rule-at}
 use Rattle.ot_layouts.specs.Numbers.{words, be16}
 use Rattle.folds.proofs.Bytes.{bytes-append, bytes-zeros}
 use Rattle.folds.specs.Lists.{Bytes}
-use Rattle.store_rules.specs.Store.{Store}
+use Rattle.store_rules.specs.Appended.{link, rowNumbers}
+use Rattle.store_rules.specs.Store.{Store, perLink}
 use Rattle.pair_rules.specs.Table.{cutPlaces}
 use Rattle.call_rules.specs.declared.Settings.{Settings}
 use Rattle.call_rules.specs.Settings.{firstEdition, secondEdition, known}
@@ -49,7 +50,7 @@ threeSlots =
     record {
       bytes = slotsFront ++ replicate 80042 0;
       objects = 0 ∷ 16 ∷ 16 ∷ 26 ∷ 26 ∷ 28 ∷ 28 ∷ 30 ∷ 30 ∷ 40030 ∷ 40030 ∷ 80030 ∷ replicate 10 0;
-      links = 0 ∷ 2 ∷ 2 ∷ 1 ∷ 0 ∷ 10 ∷ 2 ∷ 2 ∷ 0 ∷ 12 ∷ 2 ∷ 3 ∷ 0 ∷ 14 ∷ 2 ∷ 2 ∷ 2 ∷ 0 ∷ 2 ∷ 4 ∷ 3 ∷ 0 ∷ 2 ∷ 5 ∷ replicate 8 0;
+      links = rowNumbers (link 0 2 1 ∷ link 0 10 2 ∷ link 0 12 3 ∷ link 0 14 2 ∷ link 2 0 4 ∷ link 3 0 5 ∷ []) ++ replicate (perLink * 2) 0;
       byteCount = 80030;
       objectCount = 6;
       linkCount = 6;
@@ -98,7 +99,7 @@ wild =
     record {
       bytes = wildFront ++ replicate 76000 0;
       objects = 0 ∷ 6 ∷ 6 ∷ 16 ∷ 16 ∷ 20 ∷ 20 ∷ 68036 ∷ replicate 10 0;
-      links = 3 ∷ 2 ∷ 2 ∷ 0 ∷ 3 ∷ 8 ∷ 2 ∷ 1 ∷ 3 ∷ 10 ∷ 2 ∷ 2 ∷ replicate 12 0;
+      links = rowNumbers (link 3 2 0 ∷ link 3 8 1 ∷ link 3 10 2 ∷ []) ++ replicate (perLink * 3) 0;
       byteCount = 68036;
       objectCount = 4;
       linkCount = 3;

@@ -1,12 +1,13 @@
 -- None of the four useless builds keeps what is promised of mark-to-base tables under either edition: each is held to a call that splits. Assumes nothing.
-use Prim.Native.Nat.{ℕ}
+use Prim.Native.Nat.{ℕ, _*_}
 use mathlib.Core.Path.{_≡_, refl}
 use mathlib.Core.Bool.{true}
 use mathlib.Core.List.{List, [], _∷_, _++_}
 use native.Mathlib.Omega.{arith}
 use lib.ListN.{replicate}
 use Rattle.ot_layouts.specs.Numbers.{words}
-use Rattle.store_rules.specs.Store.{Store}
+use Rattle.store_rules.specs.Appended.{link, rowNumbers}
+use Rattle.store_rules.specs.Store.{Store, perLink}
 use Rattle.call_rules.specs.declared.Settings.{Settings}
 use Rattle.call_rules.specs.Settings.{firstEdition, secondEdition, known}
 use Rattle.call_rules.specs.Scratch.{Scratch, scratchOf}
@@ -33,9 +34,7 @@ threeClasses =
     record {
       bytes = classesFront ++ replicate 80072 0;
       objects = 0 ∷ 12 ∷ 12 ∷ 22 ∷ 22 ∷ 28 ∷ 28 ∷ 42 ∷ 42 ∷ 50 ∷ 50 ∷ 40050 ∷ 40050 ∷ 80050 ∷ replicate 22 0;
-      links =
-          0 ∷ 2 ∷ 2 ∷ 1 ∷ 0 ∷ 4 ∷ 2 ∷ 2 ∷ 0 ∷ 8 ∷ 2 ∷ 3 ∷ 0 ∷ 10 ∷ 2 ∷ 4
-          ∷ 3 ∷ 4 ∷ 2 ∷ 5 ∷ 3 ∷ 8 ∷ 2 ∷ 6 ∷ 3 ∷ 12 ∷ 2 ∷ 5 ∷ replicate 44 0;
+      links = rowNumbers (link 0 2 1 ∷ link 0 4 2 ∷ link 0 8 3 ∷ link 0 10 4 ∷ link 3 4 5 ∷ link 3 8 6 ∷ link 3 12 5 ∷ []) ++ replicate (perLink * 11) 0;
       byteCount = 80050;
       objectCount = 7;
       linkCount = 7;
