@@ -2,4 +2,5 @@ pub mod Apart
 pub mod Entering
 pub mod Unled
 pub mod NewLookups
+pub mod OrdersThen
 pub mod LookupsStay

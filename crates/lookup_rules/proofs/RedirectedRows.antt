@@ -11,12 +11,13 @@ use borrow.Author.Tests.{eqb-true}
 use Rattle.folds.specs.Lists.{among}
 use Rattle.folds.proofs.Tests.{by-test, true-false, either}
 use Rattle.folds.proofs.Each.{Each, each-map, each-then}
-use Rattle.store_rules.specs.Store.{Link, isOffset, shaped, rowBefore, lookup}
-use Rattle.store_rules.specs.InOrder.{inOrder}
+use Rattle.store_rules.specs.Store.{Link, isOffset, shaped, rowBefore, lookup, ordersIn}
+use Rattle.store_rules.specs.InOrder.{inOrder, ascending}
 use Rattle.store_rules.proofs.Lookups.{mapped}
 use Rattle.store_rules.proofs.Shaped.{offset-inside, order-numbers, shaped-leading}
 use Rattle.store_rules.proofs.LinksAscend.{From, Climb, place, place-offset, place-order, from-trans}
 use Rattle.store_rules.proofs.RowOrder.{Before, before-is}
+use Rattle.store_rules.proofs.Orders.{orders-map, orders-ordered}
 use Rattle.store_rules.proofs.InOrder.{Formed, Apart, AllApart, Alike, RowsAlike, PassedAlike, AllPassed, order-climb, order-alike, alike-lookup}
 use Rattle.lookup_rules.specs.Written.{redirect, redirected}
 use Rattle.lookup_rules.proofs.Redirection.{At, redirect-either, lookup-redirected}
@@ -150,6 +151,14 @@ module _ (n : ℕ) (ps : List ℕ) where
     climb-redirected =
         order-climb (map f ls) e (each-map Old Formed f formed-then ls os) (all-apart ls 0 0 e climbs os)
         (each-map (λ m. m .parent < e) (λ m. m .parent < e) f (λ m h. h) ls (climb-below ls 0 0 e climbs))
+
+    -- the order-only links of an object lead to what their children became, in order
+    pub orders-redirected : (p : ℕ) → ordersIn (inOrder (map (redirected n ps) ls)) p ≡ ascending (map (redirect n ps) (ordersIn ls p))
+    unfolding redirected
+    orders-redirected p =
+        orders-ordered p (map f ls) e (each-map Old Formed f formed-then ls os) (all-apart ls 0 0 e climbs os)
+        (each-map (λ m. m .parent < e) (λ m. m .parent < e) f (λ m h. h) ls (climb-below ls 0 0 e climbs))
+        ∙ ap ascending (orders-map f (redirect n ps) (λ l. refl) (λ l. refl) (λ l o. refl) ls p)
 
     -- each is the redirected one at its place, but for children of order-only links
     pub rows-redirected : RowsAlike (inOrder (map (redirected n ps) ls)) (map (redirected n ps) ls)

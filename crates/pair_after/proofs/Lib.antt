@@ -1,5 +1,6 @@
 pub mod Ready
 pub mod NewLinks
+pub mod OrdersStay
 pub mod NewBytes
 pub mod View
 pub mod KeptAndNew

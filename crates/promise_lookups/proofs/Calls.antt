@@ -17,7 +17,7 @@ use Rattle.promise_lookups.specs.Calls.{EnterLeaves, LookupKeeps}
 use Rattle.promise_lookups.proofs.Exactly.{no-case-enters, enters-no-case}
 use Rattle.promise_lookups.proofs.Answered.{may-enters, enters-as-many, store-entered}
 use Rattle.promise_lookups.proofs.StaysSound.{stays-sound-entered, stays-octets-entered}
-use Rattle.promise_lookups.proofs.Kept.{others-redirected, lookups-written}
+use Rattle.promise_lookups.proofs.Kept.{others-redirected, orders-redirected, lookups-written}
 use Rattle.promise_lookups.proofs.WrittenAfresh.{entered-afresh}
 use Rattle.promise_lookups.proofs.LookupsKept.{lookups-kept}
 use Rattle.promise_lookups.proofs.AgainNothing.{again-no-entry}
@@ -38,6 +38,7 @@ module _ (how : Settings) (s : Store) (l t : ℕ) (w : Scratch) (list : List ℕ
         new = lookups-written how s l t w list p;
         afresh = entered-afresh how s l t w list octets p;
         others = others-redirected how s l t w list p;
+        orders = orders-redirected how s l t w list p;
         again = again-no-entry how s l t w list octets p;
         sounds = stays-sound-entered how s l t w list p;
         octets = stays-octets-entered how s l t w list octets p;

@@ -29,13 +29,14 @@ use Rattle.pair_after.proofs.NewLinks.{others-child}
 use Rattle.pair_after.proofs.NewBytes as split
 use Rattle.pair_after.proofs.SoundThen.{sound-then}
 use Rattle.pair_after.proofs.SplitLinks.{NewOrOwn, child-leads}
-use Rattle.promise_lookups.specs.Demands.{tablesNew, leadThen, numberThen, OthersRedirected, ObjectsAsSplit, TablesAsSplit, LookupsWritten, ListLeads}
+use Rattle.promise_lookups.specs.Demands.{tablesNew, leadThen, numberThen, OthersRedirected, OrdersRedirected, ObjectsAsSplit, TablesAsSplit, LookupsWritten, ListLeads}
 use Rattle.promise_lookups.proofs.Answered.{store-entered}
 use Rattle.lookup_after.proofs.Entering.{Entering}
 use Rattle.promise_lookups.proofs.GoesAhead.{entering}
 use Rattle.lookup_after.proofs.Apart.{way-reaches, list-other, each-named, no-way-to, no-way-from}
 use Rattle.lookup_after.proofs.NewLookups.{fit′, used-then, split-head, split-tail, split-bytes, split-child, lookup-bytes, lookup-slots}
 use Rattle.lookup_after.proofs.Unled.{old-used}
+use Rattle.lookup_after.proofs.OrdersThen.{orders-entered}
 use Rattle.promise_lookups.proofs.StaysSound.{sound-entered}
 
 module _ (s : Store) (l t : ℕ) (cs : List ℕ) (e : Entering s l t cs) where
@@ -123,6 +124,11 @@ lead-then : (how : Settings) (s : Store) (l t : ℕ) (o : Option ℕ) → mapped
 lead-then how s l t (some c) = refl
 lead-then how s l t none = refl
 
+pub orders-redirected : OrdersRedirected
+orders-redirected how s l t w list p i =
+    rw (store-entered how s l t w list p) (orders-entered s l t (cutPlaces how s t) (entering how s l t w list p) i)
+
+-- every other object keeps its place, its bytes and its offsets, but for redirected children
 pub others-redirected : OthersRedirected
 others-redirected how s l t w list p i h ne =
     let cs = cutPlaces how s t in

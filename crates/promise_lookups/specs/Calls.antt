@@ -8,7 +8,8 @@ use mathlib.Core.Option.{some}
 use lib.ListN.{length, getD}
 use Rattle.folds.specs.Lists.{put}
 use Rattle.ot_layouts.specs.Lookup.{lookupType, pairType}
-use Rattle.store_rules.specs.Store.{Store, sound, bytesOf, childAt, headOf, tailOf}
+use Rattle.store_rules.specs.Store.{Store, sound, bytesOf, childAt, ordersOf, headOf, tailOf}
+use Rattle.store_rules.specs.InOrder.{ascending}
 use Rattle.call_rules.specs.declared.Settings.{Settings}
 use Rattle.call_rules.specs.Scratch.{Scratch}
 use Rattle.call_rules.specs.Outcomes.{Outcome}
@@ -21,7 +22,7 @@ use Rattle.lookup_rules.specs.Calls.{lookupCases}
 use Rattle.promise_calls.specs.Unchanged.{Unchanged, Octets}
 use Rattle.promise_calls.specs.Keeps.{CallKeeps}
 use Rattle.promise_pairs.specs.Demands.{AllAfresh}
-use Rattle.promise_lookups.specs.Demands.{tablesNew, firstLookup, leadThen, AllRead, NoOtherReaches}
+use Rattle.promise_lookups.specs.Demands.{tablesNew, firstLookup, numberThen, leadThen, AllRead, NoOtherReaches}
 use Rattle.promise_lookups.specs.Exactly.{MayEnter}
 
 -- after new tables were entered
@@ -46,6 +47,8 @@ pub record EnterLeaves (how : Settings) (s : Store) (l t : ℕ) (list : List ℕ
   pub others : (i : ℕ) → i < s .objectCount → (i ≡ t → ⊥)
       → (headOf (o .store) i ≡ headOf s i) × (tailOf (o .store) i ≡ tailOf s i)
       × (bytesOf (o .store) i ≡ bytesOf s i) × ((q : ℕ) → childAt (o .store) i q ≡ leadThen how s l t (childAt s i q))
+  -- "request 3 redirects both kinds": its order-only links lead to what their children became, in the order of rows
+  pub orders : (i : ℕ) → ordersOf (o .store) i ≡ ascending (map (numberThen how s l t) (ordersOf s i))
   -- "Splitting the kept table again adds and changes nothing.", "under the same edition"
   pub again : (v : Scratch) (list′ : List ℕ) → scratchShort (o .store) t v ≡ false
       → (splitCall how (o .store) t v list′ .answer ≡ 0) × Unchanged (o .store) v list′ (splitCall how (o .store) t v list′)

@@ -8,7 +8,8 @@ use mathlib.Core.Option.{Option, some, none}
 use lib.ListN.{length, getD}
 use Rattle.folds.specs.Lists.{put, among}
 use Rattle.ot_layouts.specs.Lookup.{lookupType, pairType}
-use Rattle.store_rules.specs.Store.{Store, sound, bytesOf, childAt, headOf, tailOf}
+use Rattle.store_rules.specs.Store.{Store, sound, bytesOf, childAt, ordersOf, headOf, tailOf}
+use Rattle.store_rules.specs.InOrder.{ascending}
 use Rattle.call_rules.specs.declared.Settings.{Settings}
 use Rattle.call_rules.specs.Scratch.{Scratch, cleared}
 use Rattle.pair_rules.specs.Table.{cutPlaces}
@@ -91,6 +92,12 @@ OthersRedirected =
     (how : Settings) (s : Store) (l t : ℕ) (w : Scratch) (list : List ℕ) → Enters how s l t w list → (i : ℕ) → i < s .objectCount → (i ≡ t → ⊥)
     → (headOf (storeEntered how s l t w list) i ≡ headOf s i) × (tailOf (storeEntered how s l t w list) i ≡ tailOf s i)
     × (bytesOf (storeEntered how s l t w list) i ≡ bytesOf s i) × ((q : ℕ) → childAt (storeEntered how s l t w list) i q ≡ leadThen how s l t (childAt s i q))
+
+-- "request 3 redirects both kinds": the order-only links of each object lead to what their children became, in the order of rows; a new object has none
+abbrev pub OrdersRedirected : Type 0
+OrdersRedirected =
+    (how : Settings) (s : Store) (l t : ℕ) (w : Scratch) (list : List ℕ) → Enters how s l t w list
+    → (i : ℕ) → ordersOf (storeEntered how s l t w list) i ≡ ascending (map (numberThen how s l t) (ordersOf s i))
 
 -- every object of the split has the place and the bytes that the split gave it
 abbrev pub ObjectsAsSplit : Type 0

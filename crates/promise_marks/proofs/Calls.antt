@@ -32,7 +32,7 @@ use Rattle.promise_marks.proofs.Refusals.{planAhead, as-many-as-cuts}
 use Rattle.promise_marks.proofs.Answered.{may-splits, may-plans, may-mark, mark-gives}
 use Rattle.promise_marks.proofs.AttachmentsKept.{attachments-kept, readings-kept}
 use Rattle.promise_marks.proofs.WrittenAfresh.{written-afresh}
-use Rattle.promise_marks.proofs.OthersKept.{others-kept}
+use Rattle.promise_marks.proofs.OthersKept.{others-kept, orders-kept}
 use Rattle.promise_marks.proofs.AgainNothing.{again-nothing}
 use Rattle.promise_marks.proofs.StaysSound.{stays-sound}
 use Rattle.promise_marks.proofs.StaysOctets.{stays-octets}
@@ -89,6 +89,7 @@ module _ (how : Settings) (s : Store) (t : ℕ) (w : Scratch) (list : List ℕ) 
           attachments = marks-read;
           afresh = written-afresh how s t w list p;
           others = others-kept how s t w list p;
+          orders = orders-kept how s t w list p;
           again = again-nothing how s t w list p;
           sounds = stays-sound how s t w list p;
           octets = λ bytes. stays-octets how s t w list bytes p;

@@ -4,6 +4,7 @@ pub mod Refusals
 pub mod Answered
 pub mod NewBytes
 pub mod NewLinks
+pub mod OrdersStay
 pub mod View
 pub mod KeptAndNew
 pub mod LinksCounted

@@ -8,7 +8,7 @@ use mathlib.Core.Option.{none}
 use lib.ListN.{length}
 use lib.Dec.{eqb}
 use Rattle.folds.specs.Lists.{put}
-use Rattle.store_rules.specs.Store.{Store, sound, bytesOf, childAt, headOf, tailOf}
+use Rattle.store_rules.specs.Store.{Store, sound, bytesOf, childAt, ordersOf, headOf, tailOf}
 use Rattle.call_rules.specs.declared.Settings.{Settings}
 use Rattle.call_rules.specs.Scratch.{Scratch}
 use Rattle.call_rules.specs.Outcomes.{Outcome}
@@ -45,6 +45,8 @@ pub record SplitLeaves (how : Settings) (s : Store) (t : ℕ) (list : List ℕ) 
   pub others : (i : ℕ) → i < s .objectCount → (i ≡ t → ⊥)
       → (headOf (o .store) i ≡ headOf s i) × (tailOf (o .store) i ≡ tailOf s i)
       × (bytesOf (o .store) i ≡ bytesOf s i) × ((q : ℕ) → childAt (o .store) i q ≡ childAt s i q)
+  -- ""keeps its links" counts both kinds": of the kept table too, and a new object has none, as it had none
+  pub orders : (i : ℕ) → ordersOf (o .store) i ≡ ordersOf s i
   -- "Splitting the kept table again adds and changes nothing.", "under the same edition"
   pub again : (v : Scratch) (list′ : List ℕ) → scratchShort (o .store) t v ≡ false
       → (markSplitCall how (o .store) t v list′ .answer ≡ 0) × Unchanged (o .store) v list′ (markSplitCall how (o .store) t v list′)

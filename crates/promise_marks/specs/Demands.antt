@@ -9,7 +9,7 @@ use lib.ListN.{length, getD}
 use Rattle.folds.specs.Lists.{put, join}
 use Rattle.ot_layouts.specs.Numbers.{be16}
 use Rattle.ot_layouts.specs.MarkBasePos.{formatOf, coverAt, baseCoverAt, classCountAt}
-use Rattle.store_rules.specs.Store.{Store, sound, bytesOf, childAt, headOf, tailOf, linkedBytes, linkedAt}
+use Rattle.store_rules.specs.Store.{Store, sound, bytesOf, childAt, ordersOf, headOf, tailOf, linkedBytes, linkedAt}
 use Rattle.store_rules.specs.Appended.{newNumber}
 use Rattle.store_rules.specs.Reach.{itemSize, SentenceOfS}
 use Rattle.cut_rules.specs.Ranges.{from, to}
@@ -162,6 +162,11 @@ OthersKept =
     (how : Settings) (s : Store) (t : ℕ) (w : Scratch) (list : List ℕ) → Splits how s t w list → (i : ℕ) → i < s .objectCount → (i ≡ t → ⊥)
     → (headOf (storeThen how s t w list) i ≡ headOf s i) × (tailOf (storeThen how s t w list) i ≡ tailOf s i)
     × (bytesOf (storeThen how s t w list) i ≡ bytesOf s i) × ((q : ℕ) → childAt (storeThen how s t w list) i q ≡ childAt s i q)
+
+-- and its order-only links: "Demand 3's "keeps its links" counts both kinds"; they "stay with the kept table in a split, and are not given to new ones"
+abbrev pub OrdersKept : Type 0
+OrdersKept =
+    (how : Settings) (s : Store) (t : ℕ) (w : Scratch) (list : List ℕ) → Splits how s t w list → (i : ℕ) → ordersOf (storeThen how s t w list) i ≡ ordersOf s i
 
 -- ---- 3: "splitting again under the same edition", scratch being enough, adds and changes nothing
 

@@ -37,7 +37,7 @@ use Rattle.pair_rules.proofs.SortedSets.{no-case-pairs}
 use Rattle.promise_pairs.proofs.PairsKept.{pairs-kept}
 use Rattle.promise_pairs.proofs.WrittenAfresh.{written-afresh}
 use Rattle.promise_pairs.proofs.ReadingsKept.{readings-kept}
-use Rattle.promise_pairs.proofs.OthersKept.{others-kept}
+use Rattle.promise_pairs.proofs.OthersKept.{others-kept, orders-kept}
 use Rattle.promise_pairs.proofs.AgainNothing.{again-nothing}
 use Rattle.promise_pairs.proofs.StaysSound.{stays-sound}
 use Rattle.promise_pairs.proofs.StaysOctets.{stays-octets}
@@ -98,6 +98,7 @@ module _ (how : Settings) (s : Store) (t : ℕ) (w : Scratch) (list : List ℕ) 
           pairs = pairs-read;
           afresh = written-afresh how s t w list bytes p;
           others = others-kept how s t w list p;
+          orders = orders-kept how s t w list p;
           again = again-nothing how s t w list bytes p;
           sounds = stays-sound how s t w list p;
           octets = stays-octets how s t w list bytes p;

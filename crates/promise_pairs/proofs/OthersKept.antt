@@ -1,9 +1,14 @@
 -- Every other object in use keeps its place, its bytes and its links. Assumes nothing.
 use Rattle.pair_rules.specs.Table.{cutPlaces}
-use Rattle.promise_pairs.specs.Demands.{OthersKept}
+use Rattle.promise_pairs.specs.Demands.{OthersKept, OrdersKept}
 use Rattle.promise_pairs.proofs.GoesAhead.{splits-ready, store-written}
 use Rattle.pair_after.proofs.NewLinks.{others-child}
+use Rattle.pair_after.proofs.OrdersStay.{orders-then}
 use Rattle.pair_after.proofs.NewBytes.{old-head, other-tail, other-bytes}
+
+-- order-only links stay with their objects
+pub orders-kept : OrdersKept
+orders-kept how s t w list p i = rw (store-written how s t w list p) (orders-then s t (cutPlaces how s t) i)
 
 -- "Every other old object keeps its bytes and links", and its place
 pub others-kept : OthersKept

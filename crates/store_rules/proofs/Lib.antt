@@ -8,12 +8,14 @@ pub mod LinkRows
 pub mod LinksAscend
 pub mod RowOrder
 pub mod InOrder
+pub mod Orders
 pub mod Header
 pub mod ObjectRows
 pub mod Slots
 pub mod Bytes
 pub mod Pinned
 pub mod LinksFit
+pub mod RowsSentence
 pub mod Appended
 pub mod AppendedFits
 pub mod Changed

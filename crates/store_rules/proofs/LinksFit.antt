@@ -55,7 +55,7 @@ module _ (s : Store) (f : Fits s) where
   unfolding linksOf
   links-fit = each-upto (Fitting s) (linkAt s) (s .linkCount) row-fitting
 
-  row-from : (k : ℕ) → suc k < s .linkCount → From (parentOf s k) (place (linkAt s k) + 1) (parentOf s (suc k)) (place (linkAt s (suc k)))
+  pub row-from : (k : ℕ) → suc k < s .linkCount → From (parentOf s k) (place (linkAt s k) + 1) (parentOf s (suc k)) (place (linkAt s (suc k)))
   unfolding ascends
   row-from k h =
       let r = f .link k (omega arith) in

@@ -204,11 +204,15 @@ allAt s p slot = all (λ k. cond (offsetOf p (linkAt s k)) (slot (positionOf s k
 
 -- ---- order-only links
 
--- what object p is to be placed after: the children of its order-only links, in order
-unfoldable pub ordersOf : Store → ℕ → List ℕ
-ordersOf s p = map (λ l. l .child) (sift (orderOf p) (linksOf s))
+-- the children of the order-only links of object p among these, in order
+unfoldable pub ordersIn : List Link → ℕ → List ℕ
+ordersIn ls p = map (λ l. l .child) (sift (orderOf p) ls)
+
+-- what object p is to be placed after
+abbrev pub ordersOf : Store → ℕ → List ℕ
+ordersOf s p = ordersIn (linksOf s) p
 
 -- all of this file's definitions, for checks that compute
 unfoldable pub computes : Unit {0}
-unfolding byteRoom objectRoom linkRoom bytesOf objectFits rowBefore onePosition ascends shaped linkFits sound handedOut linksOf lookup childAt allAt ordersOf
+unfolding byteRoom objectRoom linkRoom bytesOf objectFits rowBefore onePosition ascends shaped linkFits sound handedOut linksOf lookup childAt allAt ordersIn
 computes = tt
