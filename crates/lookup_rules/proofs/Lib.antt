@@ -1,4 +1,5 @@
 pub mod Pinned
+pub mod PinnedOrders
 pub mod Slots
 pub mod Filled
 pub mod Linked

@@ -9,3 +9,4 @@ pub mod LinkCounts
 pub mod ClassLinks
 pub mod Measured
 pub mod Pinned
+pub mod PinnedOrders

@@ -1,4 +1,5 @@
 pub mod Pinned
+pub mod PinnedOrders
 pub mod SecondEdition
 pub mod TableCuts
 pub mod Measured
