@@ -5,16 +5,16 @@ use mathlib.Core.List.{[], _∷_}
 use mathlib.Core.Logic.{⊎-elim}
 use mathlib.Core.Option.{some, none}
 use mathlib.Core.Path.{_≡_, sym, _∙_}
-use native.Mathlib.Decide.{ℕ-discrete}
 use native.Mathlib.Nat.{not-suc-le-zero, le-of-suc-le-suc, eq-or-lt-of-le}
 use native.Mathlib.Omega.{arith}
 use lib.Dec.{eqb}
 use borrow.Author.Tests.{eq-eqb, ne-eqb}
 use Rattle.folds.specs.Folds.{flat, upto}
-use Rattle.folds.proofs.Tests.{either, and-first, and-second}
-use Rattle.store_rules.specs.Store.{Store, Link, linkAt, linksOf, lookup, childAt, parentOf, positionOf, childOf}
-use Rattle.store_rules.proofs.Lookups.{hit, lookup-append, lookup-none-flat}
-use Rattle.store_reader.specs.Rows.{keyOf, rowKey, InOrder, FirstRow}
+use Rattle.folds.proofs.Tests.{either, by-test, and-first}
+use Rattle.store_rules.specs.Store.{Store, Link, linkAt, offsetOf, linksOf, lookup, childAt, kindOf, parentOf, positionOf, childOf}
+use Rattle.store_rules.proofs.Lookups.{hit, hit-is, hit-other, hit-apart, lookup-append, lookup-none-flat}
+use Rattle.store_rules.proofs.Shaped.{of-offset, of-parent, order-of-none}
+use Rattle.store_reader.specs.Rows.{keyOf, rowPlace, rowKey, InOrder, FirstRow}
 use Rattle.store_reader.specs.Children.{childFound}
 use Rattle.store_reader.specs.declared.Child.the-variants.{Of, Nowhere}
 
@@ -41,10 +41,13 @@ module _ (p q : ℕ) where
 module _ (s : Store) (p q r : ℕ) (o : InOrder (s .links) (s .linkCount)) (f : FirstRow (s .links) (s .linkCount) (keyOf p q) r) where
   -- a row with another key is that of no hit
   misses : (k : ℕ) → (rowKey (s .links) k ≡ keyOf p q → ⊥) → hit (linkAt s k) p q ≡ false
-  misses k ne = elim (ℕ-discrete (parentOf s k) p) [
-    | yes e ↦ and-second (eqb (parentOf s k) p) (eqb (positionOf s k) q) (ne-eqb (positionOf s k) q (λ z. ne (omega arith)))
-    | no e ↦ and-first (eqb (parentOf s k) p) (eqb (positionOf s k) q) (ne-eqb (parentOf s k) p e)
-  ]
+  unfolding rowPlace
+  misses k ne =
+      by-test (hit (linkAt s k) p q)
+      (λ h.
+      let (a, b) = hit-is (linkAt s k) p q h in
+      absurd (ne (rw (of-offset p (linkAt s k) a, of-parent p (linkAt s k) a, b))))
+      (λ h. h)
 
   before-misses : (k : ℕ) → k < r → hit (linkAt s k) p q ≡ false
   before-misses k h = misses k (λ e. omega (arith, f .below k h))
@@ -62,13 +65,17 @@ module _ (s : Store) (p q r : ℕ) (o : InOrder (s .links) (s .linkCount)) (f : 
       sym (lookup-none p q (linkAt s) (s .linkCount)
       (λ k l. ⊎-elim (λ d. before-misses k d) (λ d. ⊎-elim (λ e. after-misses k e l) (λ e. let z : k ≡ r = omega arith in rw z h) (either r k)) (either k r)))
 
-  pub child-found : r < s .linkCount → parentOf s r ≡ p → positionOf s r ≡ q → childFound (Of (childOf s r)) ≡ childAt s p q
+  pub child-found : r < s .linkCount → parentOf s r ≡ p → kindOf s r ≡ 0 → positionOf s r ≡ q → childFound (Of (childOf s r)) ≡ childAt s p q
   unfolding childAt linksOf
-  child-found l a b =
-      sym (lookup-at p q (linkAt s) (s .linkCount) r l before-misses (rw (eq-eqb (parentOf s r) p a, eq-eqb (positionOf s r) q b)))
+  child-found l a z b =
+      sym (lookup-at p q (linkAt s) (s .linkCount) r l before-misses (rw (eq-eqb (kindOf s r) 0 z, eq-eqb (parentOf s r) p a, eq-eqb (positionOf s r) q b)))
 
   pub child-other-parent : (parentOf s r ≡ p → ⊥) → childFound Nowhere ≡ childAt s p q
-  child-other-parent ne = child-missing (and-first (eqb (parentOf s r) p) (eqb (positionOf s r) q) (ne-eqb (parentOf s r) p ne))
+  child-other-parent ne = child-missing (hit-other (linkAt s r) p q ne)
 
   pub child-other-place : (positionOf s r ≡ q → ⊥) → childFound Nowhere ≡ childAt s p q
-  child-other-place ne = child-missing (and-second (eqb (parentOf s r) p) (eqb (positionOf s r) q) (ne-eqb (positionOf s r) q ne))
+  child-other-place ne = child-missing (hit-apart (linkAt s r) p q ne)
+
+  pub child-order-only : (kindOf s r ≡ 0 → ⊥) → childFound Nowhere ≡ childAt s p q
+  child-order-only ne =
+      child-missing (and-first (offsetOf p (linkAt s r)) (eqb (positionOf s r) q) (order-of-none p (linkAt s r) (ne-eqb (kindOf s r) 0 ne)))

@@ -9,56 +9,64 @@ use native.Mathlib.Nat.{not-suc-le-zero, le-of-suc-le-suc, eq-or-lt-of-le}
 use native.Mathlib.Numerals.{add-one}
 use native.Mathlib.Omega.{arith}
 use lib.Dec.{leb, ltb, eqb}
-use lib.ListN.{getD}
+use lib.ListN.{length, getD}
 use borrow.Author.Tests.{ltb-true, lt-ltb, le-ltb, le-leb, lt-leb, eq-eqb, ne-eqb}
 use Rattle.folds.specs.Folds.{before}
-use Rattle.folds.proofs.Tests.{either, and-first, and-second}
-use Rattle.store_rules.specs.Store.{Store, perLink, rowParent, rowPosition, sound, parentOf, positionOf, ascends}
-use Rattle.store_rules.proofs.Sound.{Fits, sound-fits}
+use Rattle.folds.proofs.Tests.{either, by-test, and-first, and-second}
+use Rattle.store_rules.specs.Store.{Store, perLink, rowParent, rowPosition, rowChild, rowKind, sound, linkAt, isOffset, offsetOf, ofSpan, sizeOf, parentOf, positionOf}
+use Rattle.store_rules.proofs.Sound.{Fits, sound-fits, size-most}
+use Rattle.store_rules.proofs.Shaped.{offset-inside}
+use Rattle.store_rules.proofs.LinksAscend.{place, place-offset, place-order}
+use Rattle.store_rules.proofs.RowsSentence.{later}
 use Rattle.store_reader.specs.declared.LinkRows.{LinkRows}
-use Rattle.store_reader.specs.Rows.{keyOf, rowKey, leastKey, InOrder, FirstRow, Bracket, ParentRows}
+use Rattle.store_reader.specs.Rows.{orders, keyOf, rowPlace, rowKey, InOrder, FirstRow, Bracket, ParentRows}
 
--- pairs ascend as their keys do, where second parts have 32 bits
-key-ascends : (p q p′ q′ : ℕ) → q < 4294967296 → q′ < 4294967296 → ltb (keyOf p q) (keyOf p′ q′) ≡ (ltb p p′ || eqb p p′ && ltb q q′)
-key-ascends p q p′ q′ h h′ =
-    ⊎-elim (λ l. rw (lt-ltb p p′ l) (lt-ltb (keyOf p q) (keyOf p′ q′) (omega arith)))
-    (λ g. ⊎-elim
-    (λ (l : p′ < p). rw (le-ltb p p′ g, ne-eqb p p′ (λ e. omega arith)) (le-ltb (keyOf p q) (keyOf p′ q′) (omega arith)))
-    (λ (g′ : p ≤ p′). let e : p ≡ p′ = omega arith in rw (le-ltb p p′ g, eq-eqb p p′ e) (same e (either q q′)))
-    (either p′ p))
-    (either p p′)
-  where
-    same : p ≡ p′ → (q < q′) ⊎ (q′ ≤ q) → ltb (keyOf p q) (keyOf p′ q′) ≡ ltb q q′
-    same e (inl l) = lt-ltb (keyOf p q) (keyOf p′ q′) (omega arith) ∙ sym (lt-ltb q q′ l)
-    same e (inr g) = le-ltb (keyOf p q) (keyOf p′ q′) (omega arith) ∙ sym (le-ltb q q′ g)
+-- ---- a row's place
 
-module _ (s : Store) where
-  ascends-after : (k : ℕ) → positionOf s k < 4294967296 → positionOf s (suc k) < 4294967296 → ltb (rowKey (s .links) k) (rowKey (s .links) (suc k)) ≡ ascends s (suc k)
-  unfolding ascends
-  ascends-after k h h′ = key-ascends (parentOf s k) (positionOf s k) (parentOf s (suc k)) (positionOf s (suc k)) h h′
+module _ (l : List ℕ) (k : ℕ) where
+  pub place-is-position : getD l (perLink * k + rowKind) 0 ≡ 0 → getD l (perLink * k + rowPosition) 0 ≡ rowPlace l k
+  unfolding rowPlace
+  place-is-position z = rw (eq-eqb (getD l (perLink * k + rowKind) 0) 0 z)
 
-  -- a row stands behind the one before it if its key is no less than one more than that one's
-  pub least-ascends : ((j : ℕ) → positionOf s j < 4294967296) → (k : ℕ) → leb (leastKey (s .links) k) (rowKey (s .links) k) ≡ ascends s k
-  unfolding ascends before
-  least-ascends small zero = le-leb 0 (rowKey (s .links) 0) (omega arith)
-  least-ascends small (suc k) = rw (add-one (rowKey (s .links) k)) (ascends-after k (small k) (small (suc k)))
+  pub place-is-child : (getD l (perLink * k + rowKind) 0 ≡ 0 → ⊥) → orders + getD l (perLink * k + rowChild) 0 ≡ rowPlace l k
+  unfolding rowPlace
+  place-is-child n = rw (ne-eqb (getD l (perLink * k + rowKind) 0) 0 n)
+
+-- ---- the rows of a sound store
 
 module _ (s : Store) (f : Fits s) where
-  -- positions are within objects, and these within the data
-  pub position-most : (k : ℕ) → k < s .linkCount → positionOf s k < 16777216
-  position-most k h = omega (arith, f .link k h .inside, f .object (parentOf s k) (f .link k h .parentUsed) .inside, f .bytesMost)
+  -- a row's place is its link's
+  row-place : (k : ℕ) → rowPlace (s .links) k ≡ place (linkAt s k)
+  unfolding rowPlace place
+  row-place k = refl
+
+  -- an offset stands before all order-only links
+  pub offset-place : (k : ℕ) → k < s .linkCount → isOffset (linkAt s k) ≡ true → rowPlace (s .links) k < orders
+  offset-place k h o =
+      let r = f .link k h in
+      omega (arith, row-place k, place-offset (linkAt s k) o, offset-inside (sizeOf s (parentOf s k)) (linkAt s k) o (r .shape), size-most s f (parentOf s k) (r .parentUsed))
+
+  pub place-most : (k : ℕ) → k < s .linkCount → rowPlace (s .links) k < 4294967296
+  place-most k h =
+      by-test (isOffset (linkAt s k)) (λ o. omega (arith, offset-place k h o))
+      (λ o. omega (arith, row-place k, place-order (linkAt s k) o, f .link k h .childUsed, f .objectsMost))
 
   keys-rise : (j k : ℕ) → j < k → k < s .linkCount → rowKey (s .links) j < rowKey (s .links) k
-  keys-rise j zero h l = absurd (not-suc-le-zero h)
-  keys-rise j (suc k) h l =
-      let last : rowKey (s .links) k < rowKey (s .links) (suc k) = ltb-true (rowKey (s .links) k) (rowKey (s .links) (suc k)) (ascends-after s k (omega (arith, position-most k (omega arith))) (omega (arith, position-most (suc k) l)) ∙ f .link (suc k) l .rising) in
-      ⊎-elim (λ e. rw e last) (λ lt. omega (arith, keys-rise j k lt (omega arith), last)) (eq-or-lt-of-le (le-of-suc-le-suc h))
+  keys-rise j k h l =
+      let a = row-place j in
+      let b = row-place k in
+      let c = place-most j (omega arith) in
+      ⊎-elim (λ d. omega arith) (λ (d, e). omega arith) (later s f j k h l)
 
   pub in-order : InOrder (s .links) (s .linkCount)
-  in-order = record { room = f .linksIn; rising = keys-rise }
+  in-order = record { room = f .linksIn; places = place-most; rising = keys-rise }
 
 pub rows-in-order : (s : Store) → sound s ≡ true → InOrder (s .links) (s .linkCount)
 rows-in-order s h = in-order s (sound-fits s h)
+
+-- what a look at a row's key asks
+pub key-asks : {l : List ℕ} {m : ℕ} → InOrder l m → (k : ℕ) → k < m → (perLink * k + rowKind < length l) × (rowPlace l k < 4294967296)
+key-asks o k h = (omega (arith, o .room), o .places k h)
 
 -- ---- a search: the rows before lo are below the key, those from hi on are not
 
@@ -100,7 +108,7 @@ behind {l} {m} {key} {near} o h n b = subst (λ (lo : ℕ). Bracket l m key lo m
 pub rows-rise : {l : List ℕ} {m a b lo hi : ℕ} → FirstRow l m a lo → FirstRow l m b hi → a ≤ b → lo ≤ hi
 rows-rise {l} {m} {a} {b} {lo} {hi} f g h = ⊎-elim (λ (d : hi < lo). absurd (omega (arith, f .below hi d, g .above hi (omega arith) (omega (arith, f .within))))) (λ d. d) (either hi lo)
 
--- ---- the rows of parent p at the positions from a on, below b
+-- ---- the rows of parent p at the places from a on, below b
 
 module _ (lo hi k p a b P Q : ℕ) (small : Q < 4294967296) (short : b ≤ 4294967296)
     (early : k < lo → keyOf P Q < keyOf p a) (in-lo : lo ≤ k → keyOf p a ≤ keyOf P Q) (in-hi : k < hi → keyOf P Q < keyOf p b) (late : hi ≤ k → keyOf p b ≤ keyOf P Q) where
@@ -132,26 +140,41 @@ module _ (lo hi k p a b P Q : ℕ) (small : Q < 4294967296) (short : b ≤ 42949
       (either k lo)
 
 -- row k is one of those from lo up to hi exactly if it is such a row
-pub rows-between : {l : List ℕ} {m lo hi : ℕ} (p a b : ℕ) → FirstRow l m (keyOf p a) lo → FirstRow l m (keyOf p b) hi → b ≤ 4294967296 → (k : ℕ) → k < m → getD l (perLink * k + rowPosition) 0 < 4294967296
-    → (leb lo k && ltb k hi) ≡ (eqb (getD l (perLink * k + rowParent) 0) p && leb a (getD l (perLink * k + rowPosition) 0) && ltb (getD l (perLink * k + rowPosition) 0) b)
+pub rows-between : {l : List ℕ} {m lo hi : ℕ} (p a b : ℕ) → FirstRow l m (keyOf p a) lo → FirstRow l m (keyOf p b) hi → b ≤ 4294967296 → (k : ℕ) → k < m → rowPlace l k < 4294967296
+    → (leb lo k && ltb k hi) ≡ (eqb (getD l (perLink * k + rowParent) 0) p && leb a (rowPlace l k) && ltb (rowPlace l k) b)
 rows-between {l} {m} {lo} {hi} p a b f g short k used small =
-    between lo hi k p a b (getD l (perLink * k + rowParent) 0) (getD l (perLink * k + rowPosition) 0) small short (f .below k) (λ d. f .above k d used) (g .below k) (λ d. g .above k d used)
+    between lo hi k p a b (getD l (perLink * k + rowParent) 0) (rowPlace l k) small short (f .below k) (λ d. f .above k d used) (g .below k) (λ d. g .above k d used)
 
--- the same for all rows of parent p
-pub parent-rows : {l : List ℕ} {m lo hi : ℕ} (p : ℕ) → FirstRow l m (keyOf p 0) lo → FirstRow l m (keyOf (p + 1) 0) hi → (k : ℕ) → k < m → getD l (perLink * k + rowPosition) 0 < 4294967296
-    → (leb lo k && ltb k hi) ≡ eqb (getD l (perLink * k + rowParent) 0) p
-parent-rows {l} {m} {lo} {hi} p f g k used small =
-    let e : keyOf (p + 1) 0 ≡ keyOf p 4294967296 = omega arith in
-    let h : FirstRow l m (keyOf p 4294967296) hi = subst (λ (key : ℕ). FirstRow l m key hi) e g in
-    rows-between p 0 4294967296 f h (omega arith) k used small
-    ∙ rw (le-leb 0 (getD l (perLink * k + rowPosition) 0) (omega arith), lt-ltb (getD l (perLink * k + rowPosition) 0) 4294967296 small) (and-true (eqb (getD l (perLink * k + rowParent) 0) p))
-  where
-    and-true : (b : Bool) → b && true && true ≡ b
-    and-true true = refl
-    and-true false = refl
+module _ (s : Store) (f : Fits s) where
+  -- and that is an offset of p at these positions
+  pub span-rows : {lo hi : ℕ} (p a b : ℕ) → FirstRow (s .links) (s .linkCount) (keyOf p a) lo → FirstRow (s .links) (s .linkCount) (keyOf p b) hi → b ≤ orders
+      → (k : ℕ) → k < s .linkCount → (leb lo k && ltb k hi) ≡ ofSpan p a b (linkAt s k)
+  span-rows p a b first next short k used =
+      let q = rowPlace (s .links) k in
+      rows-between p a b first next (omega arith) k used (place-most s f k used)
+      ∙ by-test (isOffset (linkAt s k))
+      (λ o. rw (o, row-place s f k ∙ place-offset (linkAt s k) o))
+      (λ o.
+      let behind : orders ≤ q = omega (arith, row-place s f k, place-order (linkAt s k) o) in
+      rw o (and-second (eqb (parentOf s k) p && leb a q) (ltb q b) (le-ltb q b (omega arith))))
+
+  -- the same for all offsets of p
+  pub parent-rows : (p : ℕ) {r : LinkRows} → ParentRows (s .links) (s .linkCount) p r → (k : ℕ) → k < s .linkCount
+      → (leb (r .first) k && ltb k (r .after)) ≡ offsetOf p (linkAt s k)
+  parent-rows p rows k used =
+      span-rows p 0 orders (rows .first) (rows .after) (omega arith) k used
+      ∙ by-test (isOffset (linkAt s k))
+      (λ o.
+      let below : positionOf s k < orders = omega (arith, offset-place s f k used o, row-place s f k, place-offset (linkAt s k) o) in
+      rw (o, le-leb 0 (positionOf s k) (omega arith), lt-ltb (positionOf s k) orders below) (and-true (eqb (parentOf s k) p)))
+      (λ o. rw o)
+    where
+      and-true : (b : Bool) → b && true && true ≡ b
+      and-true true = refl
+      and-true false = refl
 
 -- a position's first row is one of its parent's, or the one behind them
-pub among-parent : {l : List ℕ} {m p : ℕ} {r : LinkRows} → ParentRows l m p r → (q : ℕ) → q < 4294967296 → Bracket l m (keyOf p q) (r .first) (r .after)
+pub among-parent : {l : List ℕ} {m p : ℕ} {r : LinkRows} → ParentRows l m p r → (q : ℕ) → q ≤ orders → Bracket l m (keyOf p q) (r .first) (r .after)
 among-parent rows q small =
     record {
       lo-le = rows .rise;

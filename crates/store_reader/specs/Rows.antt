@@ -1,9 +1,11 @@
 -- The order of link rows as an order of numbers, and where a parent's rows begin. Assumes nothing.
 use Prim.Native.Nat.{ℕ, _+_, _*_, _<_, _≤_}
+use mathlib.Core.Bool.{cond}
 use mathlib.Core.List.{List}
 use lib.ListN.{length, getD}
+use lib.Dec.{eqb}
 use Rattle.folds.specs.Folds.{before}
-use Rattle.store_rules.specs.Store.{perLink, rowParent, rowPosition}
+use Rattle.store_rules.specs.Store.{perLink, rowParent, rowPosition, rowChild, rowKind}
 use Rattle.store_reader.specs.declared.LinkRows.{LinkRows}
 
 -- object i of these rows lies within n bytes
@@ -12,25 +14,30 @@ pub record Inside (n : ℕ) (o : List ℕ) (i : ℕ) : Type 0 where
   pub ordered : getD o (2 * i) 0 ≤ getD o (2 * i + 1) 0
   pub inside : getD o (2 * i + 1) 0 ≤ n
 
+-- the first place behind all positions: an offset stands within an object, and that within 16,777,216 bytes
+abbrev pub orders : ℕ
+orders = 16777216
+
 -- the least head that object i may have: the tail of the object before it, 0 where there is none
 abbrev pub leastHead : List ℕ → ℕ → ℕ
 leastHead o i = before (λ j. getD o (2 * j + 1) 0) i
 
--- parent and position as one number: as a position has 32 bits, numbers ascend as the pairs do
+-- parent and place as one number: as a place has 32 bits, numbers ascend as the pairs do
 abbrev pub keyOf : ℕ → ℕ → ℕ
 keyOf p q = 4294967296 * p + q
 
--- row k's parent and position
+-- where row k stands among those of its parent: an offset at its position, an order-only link behind all bytes, by its child
+unfoldable pub rowPlace : List ℕ → ℕ → ℕ
+rowPlace l k = cond (eqb (getD l (perLink * k + rowKind) 0) 0) (getD l (perLink * k + rowPosition) 0) (orders + getD l (perLink * k + rowChild) 0)
+
+-- row k's parent and place
 abbrev pub rowKey : List ℕ → ℕ → ℕ
-rowKey l k = keyOf (getD l (perLink * k + rowParent) 0) (getD l (perLink * k + rowPosition) 0)
+rowKey l k = keyOf (getD l (perLink * k + rowParent) 0) (rowPlace l k)
 
--- the least key that row k may have: one more than that of the row before it, 0 where there is none
-abbrev pub leastKey : List ℕ → ℕ → ℕ
-leastKey l k = before (λ j. rowKey l j + 1) k
-
--- there are m rows, "strictly ascending by (parent, position)"
+-- there are m rows, "strictly ascending"
 pub record InOrder (l : List ℕ) (m : ℕ) : Type 0 where
   pub room : perLink * m ≤ length l
+  pub places : (k : ℕ) → k < m → rowPlace l k < 4294967296
   pub rising : (j k : ℕ) → j < k → k < m → rowKey l j < rowKey l k
 
 -- r is the first of the m rows at or past the key, m where there is none
@@ -39,10 +46,10 @@ pub record FirstRow (l : List ℕ) (m key r : ℕ) : Type 0 where
   pub below : (k : ℕ) → k < r → rowKey l k < key
   pub above : (k : ℕ) → r ≤ k → k < m → key ≤ rowKey l k
 
--- of the m rows, those of parent p
+-- of the m rows, the offsets of parent p
 pub record ParentRows (l : List ℕ) (m p : ℕ) (r : LinkRows) : Type 0 where
   pub first : FirstRow l m (keyOf p 0) (r .first)
-  pub after : FirstRow l m (keyOf (p + 1) 0) (r .after)
+  pub after : FirstRow l m (keyOf p orders) (r .after)
   pub rise : r .first ≤ r .after
 
 -- that row lies from lo to hi: the rows before lo stand before the key, those from hi on do not

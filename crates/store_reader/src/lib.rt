@@ -5,16 +5,16 @@ ghost use mathlib.Core.List.{List};
 ghost use lib.ListN.{length, getD};
 ghost use lib.Dec.{leb};
 ghost use Rattle.folds.specs.Folds.{all};
-ghost use Rattle.store_rules.specs.Store.{lent, perLink, rowPosition, rowChild, bytesOf, objectFits, linkFits, sound, handedOut, childAt};
+ghost use Rattle.store_rules.specs.Store.{lent, perLink, rowKind, linkAt, sizeOf, bytesOf, objectFits, ascends, shaped, linkFits, sound, handedOut, childAt};
 ghost use Rattle.folds.specs.Moments.{came};
 ghost use Rattle.store_rules.specs.Moments.{storeCameWith};
-ghost use Rattle.store_reader.specs.Rows.{Inside, leastHead, keyOf, rowKey, leastKey, InOrder, Bracket, FirstRow, ParentRows};
+ghost use Rattle.store_reader.specs.Rows.{Inside, leastHead, keyOf, rowPlace, rowKey, InOrder, Bracket, FirstRow, ParentRows};
 ghost use Rattle.store_reader.specs.Children.{childFound};
 
 pub mod held_rows;
 
 // The numbers of a link row, and where each stands in it.
-pub const PER_LINK: usize = 4;
+pub const PER_LINK: usize = 5;
 
 pub const PARENT: usize = 0;
 
@@ -23,6 +23,11 @@ pub const POSITION: usize = 1;
 pub const WIDTH: usize = 2;
 
 pub const CHILD: usize = 3;
+
+pub const KIND: usize = 4;
+
+// The first place behind all positions.
+pub const ORDERS: u32 = 16777216;
 
 // What a look for the child at a position finds.
 pub enum Child {
@@ -70,19 +75,30 @@ fn objects_fit(objects: &[u32], counts: [u32; 3]) -> bool
     true
 }
 
-// Parent and position as one number.
-fn key_of(parent: u32, position: u32) -> u64
-    ensures { λ r. ⌜ r ≡ keyOf parent position ⌝ }
+// Parent and place as one number.
+fn key_of(parent: u32, place: u32) -> u64
+    ensures { λ r. ⌜ r ≡ keyOf parent place ⌝ }
 {
-    4294967296 * (parent as u64) + (position as u64)
+    4294967296 * (parent as u64) + (place as u64)
 }
 
-// Parent and position of link row `k` as one number.
+// Where link row `k` stands among those of its parent.
+fn place_at(links: &[u32], k: usize) -> u32
+    requires { ⌜ (perLink * k + rowKind < length (now links)) × (rowPlace (now links) k < 4294967296) ⌝ }
+    ensures { λ r. ⌜ r ≡ rowPlace (came links) k ⌝ }
+{
+    if links[PER_LINK * k + KIND] == 0 {
+        return links[PER_LINK * k + POSITION];
+    }
+    ORDERS + links[PER_LINK * k + CHILD]
+}
+
+// Parent and place of link row `k` as one number.
 fn key_at(links: &[u32], k: usize) -> u64
-    requires { ⌜ perLink * k + rowPosition < length (now links) ⌝ }
+    requires { ⌜ (perLink * k + rowKind < length (now links)) × (rowPlace (now links) k < 4294967296) ⌝ }
     ensures { λ r. ⌜ r ≡ rowKey (came links) k ⌝ }
 {
-    key_of(links[PER_LINK * k + PARENT], links[PER_LINK * k + POSITION])
+    key_of(links[PER_LINK * k + PARENT], place_at(links, k))
 }
 
 // Whether position + 2 is within object `i`.
@@ -93,10 +109,78 @@ fn position_fits(objects: &[u32], i: usize, position: u32) -> bool
     (objects[2 * i] as u64) + (position as u64) + 2 <= (objects[2 * i + 1] as u64)
 }
 
-// Whether link row `k` fits: parent and child in use, width 2, position + 2 within the parent, and its key is at or past `least`, one more than that of
-// the row before it.
-fn link_fits(objects: &[u32], links: &[u32], counts: [u32; 3], k: usize, least: u64) -> bool
-    requires { ⌜ (2 * getD counts 1 0 ≤ length (now objects)) × (perLink * k + rowChild < length (now links)) × (least ≡ leastKey (now links) k) ⌝ }
+// Whether link row `k` is of its kind's shape: width 2 and position + 2 within the parent, or order-only with position 0 and width 0.
+fn is_shaped(objects: &[u32], links: &[u32], k: usize, parent: usize) -> bool
+    requires { ⌜ (2 * parent + 1 < length (now objects)) × (perLink * k + rowKind < length (now links)) ⌝ }
+    ensures { λ r. ⌜ ((b c : List ℕ) → r ≡ shaped (sizeOf (lent b (came objects) (came links) c) parent) (linkAt (lent b (came objects) (came links) c) k)) ⌝ }
+{
+    let kind = links[PER_LINK * k + KIND];
+    let position = links[PER_LINK * k + POSITION];
+    let width = links[PER_LINK * k + WIDTH];
+    if kind == 0 {
+        if width != 2 {
+            return false;
+        }
+        return position_fits(objects, parent, position);
+    }
+    if kind != 1 {
+        return false;
+    }
+    if position != 0 {
+        return false;
+    }
+    width == 0
+}
+
+// Whether link row `k` comes behind the row before it, and is not at the position of an offset before it.
+fn is_behind(links: &[u32], k: usize) -> bool
+    requires { ⌜ perLink * k + rowKind < length (now links) ⌝ }
+    ensures { λ r. ⌜ ((b o c : List ℕ) → r ≡ ascends (lent b o (came links) c) k) ⌝ }
+{
+    if k == 0 {
+        return true;
+    }
+    rows_rise(links, k - 1)
+}
+
+// Whether link row `k` comes before the next one, and these are not two offsets of one parent at one position.
+fn rows_rise(links: &[u32], k: usize) -> bool
+    requires { ⌜ perLink * (k + 1) + rowKind < length (now links) ⌝ }
+    ensures { λ r. ⌜ ((b o c : List ℕ) → r ≡ ascends (lent b o (came links) c) (k + 1)) ⌝ }
+{
+    let parent = links[PER_LINK * k + PARENT];
+    let next_parent = links[PER_LINK * (k + 1) + PARENT];
+    if parent < next_parent {
+        return true;
+    }
+    if next_parent < parent {
+        return false;
+    }
+    let kind = links[PER_LINK * k + KIND];
+    let next_kind = links[PER_LINK * (k + 1) + KIND];
+    if kind < next_kind {
+        return true;
+    }
+    if next_kind < kind {
+        return false;
+    }
+    let position = links[PER_LINK * k + POSITION];
+    let next_position = links[PER_LINK * (k + 1) + POSITION];
+    if position < next_position {
+        return true;
+    }
+    if next_position < position {
+        return false;
+    }
+    if kind == 0 {
+        return false;
+    }
+    links[PER_LINK * k + CHILD] < links[PER_LINK * (k + 1) + CHILD]
+}
+
+// Whether link row `k` fits: parent and child in use, of its kind's shape, and behind the row before it.
+fn link_fits(objects: &[u32], links: &[u32], counts: [u32; 3], k: usize) -> bool
+    requires { ⌜ (2 * getD counts 1 0 ≤ length (now objects)) × (perLink * k + rowKind < length (now links)) ⌝ }
     ensures { λ r. ⌜ ((b : List ℕ) → r ≡ linkFits (lent b (came objects) (came links) counts) k) ⌝ }
 {
     let parent = links[PER_LINK * k + PARENT];
@@ -106,28 +190,23 @@ fn link_fits(objects: &[u32], links: &[u32], counts: [u32; 3], k: usize, least: 
     if counts[1] <= links[PER_LINK * k + CHILD] {
         return false;
     }
-    if links[PER_LINK * k + WIDTH] != 2 {
+    if !is_shaped(objects, links, k, parent as usize) {
         return false;
     }
-    if !position_fits(objects, parent as usize, links[PER_LINK * k + POSITION]) {
-        return false;
-    }
-    least <= key_at(links, k)
+    is_behind(links, k)
 }
 
-// Whether each link row in use fits. A parent in use is below the count, so one more than a row's key is a number of 64 bits.
+// Whether each link row in use fits.
 fn links_fit(objects: &[u32], links: &[u32], counts: [u32; 3]) -> bool
     requires { ⌜ (2 * getD counts 1 0 ≤ length (now objects)) × (perLink * getD counts 2 0 ≤ length (now links)) ⌝ }
     ensures { λ r. ⌜ ((b : List ℕ) → r ≡ all (linkFits (lent b (came objects) (came links) counts)) (getD counts 2 0)) ⌝ }
 {
     let count = counts[2] as usize;
     let mut k: usize = 0;
-    let mut least: u64 = 0;
     while k < count {
-        if !link_fits(objects, links, counts, k, least) {
+        if !link_fits(objects, links, counts, k) {
             return false;
         }
-        least = key_at(links, k) + 1;
         k += 1;
     }
     true
@@ -308,14 +387,14 @@ pub fn next_row(links: &[u32], count: usize, start: usize, parent: u32, position
     row
 }
 
-// The rows of `parent` among the `count` link rows.
+// The offsets of `parent` among the `count` link rows.
 pub fn rows_of(links: &[u32], count: usize, parent: u32) -> LinkRows
     requires { ⌜ InOrder (now links) count ⌝ }
     requires { ⌜ parent < 65536 ⌝ }
     ensures { λ r. ⌜ ParentRows (came links) count parent r ⌝ }
 {
     let first = first_row(links, count, parent, 0);
-    let after = first_row(links, count, parent + 1, 0);
+    let after = first_row(links, count, parent, ORDERS);
     LinkRows { first, after }
 }
 
@@ -328,6 +407,9 @@ pub fn child_in(links: &[u32], counts: [u32; 3], row: usize, parent: u32, positi
         return Child::Nowhere;
     }
     if links[PER_LINK * row + PARENT] != parent {
+        return Child::Nowhere;
+    }
+    if links[PER_LINK * row + KIND] != 0 {
         return Child::Nowhere;
     }
     if links[PER_LINK * row + POSITION] != position {

@@ -60,7 +60,7 @@ module _ (l m : Link) where
       h)
 
   -- two offsets of one parent at one position
-  one-position : l .parent ≡ m .parent → isOffset l ≡ true → isOffset m ≡ true → l .position ≡ m .position → onePosition l m ≡ true
+  pub one-position : l .parent ≡ m .parent → isOffset l ≡ true → isOffset m ≡ true → l .position ≡ m .position → onePosition l m ≡ true
   unfolding onePosition
   one-position a b c d = rw (b, c, eq-eqb (l .parent) (m .parent) a, eq-eqb (l .position) (m .position) d)
 

@@ -14,7 +14,7 @@ use Rattle.store_rules.proofs.RowOrder.{from-rows}
 
 module _ (s : Store) (f : Fits s) where
   -- a later row has a later place
-  later : (j k : ℕ) → j < k → k < s .linkCount → From (parentOf s j) (place (linkAt s j) + 1) (parentOf s k) (place (linkAt s k))
+  pub later : (j k : ℕ) → j < k → k < s .linkCount → From (parentOf s j) (place (linkAt s j) + 1) (parentOf s k) (place (linkAt s k))
   later j zero h l = absurd (not-suc-le-zero h)
   later j (suc k) h l =
       let next = row-from s f k l in

@@ -1,6 +1,6 @@
 -- `store_reader::child_in` meets its contract: no row but the first at or past the position can stand at it. Assumes nothing.
 use Rattle.store_rules.specs.Store.{lent}
-use Rattle.store_reader.proofs.Children.{child-past, child-other-parent, child-other-place, child-found}
+use Rattle.store_reader.proofs.Children.{child-past, child-other-parent, child-order-only, child-other-place, child-found}
 use borrow.Author.Needs.{needs}
 use Rattle.store_reader.proofs.child_in.Statement.{statement}
 use Rattle.store_reader.proofs.child_in.Tie as tie
@@ -16,14 +16,19 @@ returns-2 c =
 returns-3 : tie.Need-returns-3
 returns-3 c =
     let s = c .before .before .before .before .before in
-    λ b o. child-other-place (lent b o (s .args .links .now) (s .args .t2)) _ _ _ (s .pre .0) (s .pre .1) (c .if3 .taken)
+    λ b o. child-order-only (lent b o (s .args .links .now) (s .args .t2)) _ _ _ (s .pre .0) (s .pre .1) (c .if3 .taken)
 
 returns-4 : tie.Need-returns-4
 returns-4 c =
-    let s = c .before .before .before .before .before .before in
+    let s = c .before .before .before .before .before .before .before in
+    λ b o. child-other-place (lent b o (s .args .links .now) (s .args .t2)) _ _ _ (s .pre .0) (s .pre .1) (c .if4 .taken)
+
+returns-5 : tie.Need-returns-5
+returns-5 c =
+    let s = c .before .before .before .before .before .before .before .before in
     λ b o.
     child-found (lent b o (s .args .links .now) (s .args .t2)) _ _ _ (s .pre .0) (s .pre .1)
-    (c .before .before .before .before .before .if1 .left) (c .before .before .before .if2 .left) (c .before .if3 .left)
+    (c .before .before .before .before .before .before .before .if1 .left) (c .before .before .before .before .before .if2 .left) (c .before .before .before .if3 .left) (c .before .if4 .left)
 
 pub child-in-spec : {M : Type 1} → statement M
 child-in-spec =
@@ -46,4 +51,9 @@ child-in-spec =
     (λ c. search needs)
     (λ c. search needs)
     (λ c. search needs)
-    returns-4)
+    returns-4
+    (λ c. search needs)
+    (λ c. search needs)
+    (λ c. search needs)
+    (λ c. search needs)
+    returns-5)

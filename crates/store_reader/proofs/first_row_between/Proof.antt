@@ -3,7 +3,7 @@ use Prim.Native.Nat.{_-_}
 use native.Mathlib.Omega.{arith}
 use borrow.Author.Needs.{needs}
 use Rattle.store_reader.specs.Rows.{Bracket}
-use Rattle.store_reader.proofs.Rows.{up, down, found}
+use Rattle.store_reader.proofs.Rows.{key-asks, up, down, found}
 use Rattle.store_reader.proofs.first_row_between.Statement.{statement}
 use Rattle.store_reader.proofs.first_row_between.Tie as tie
 
@@ -29,6 +29,9 @@ loop-again-2 c =
 returns : tie.Need-returns Inv-loop μ-loop
 returns c = found (c .before .loop .inv) (c .loop-test .left)
 
+key-at-requires : tie.Need-key-at-requires Inv-loop μ-loop
+key-at-requires c κs = key-asks (c .before .before .before .pre .0) _ (omega (arith, c .before .loop .inv .hi-le))
+
 pub first-row-between-spec : {M : Type 1} → statement M
 first-row-between-spec =
     tie.close
@@ -38,7 +41,7 @@ first-row-between-spec =
     loop-holds
     (λ c. search needs)
     (λ c. search needs)
-    (λ c κs. search needs)
+    key-at-requires
     (λ c. search needs)
     (λ c. search needs)
     loop-again

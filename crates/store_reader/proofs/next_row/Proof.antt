@@ -3,7 +3,7 @@ use Prim.Native.Nat.{_-_}
 use native.Mathlib.Omega.{arith}
 use borrow.Author.Needs.{needs}
 use Rattle.store_reader.specs.Rows.{keyOf, Bracket}
-use Rattle.store_reader.proofs.Rows.{rest, up, down, found}
+use Rattle.store_reader.proofs.Rows.{key-asks, rest, up, down, found}
 use Rattle.store_reader.proofs.next_row.Statement.{statement}
 use Rattle.store_reader.proofs.next_row.Tie as tie
 
@@ -29,6 +29,9 @@ loop-again c =
 returns-2 : tie.Need-returns-2 Inv-loop μ-loop
 returns-2 c = found (c .before .loop .inv) (c .loop-test .left)
 
+key-at-requires : tie.Need-key-at-requires Inv-loop μ-loop
+key-at-requires c κs = key-asks (c .before .before .before .before .pre .0) _ (omega arith)
+
 pub next-row-spec : {M : Type 1} → statement M
 next-row-spec =
     tie.close
@@ -37,7 +40,7 @@ next-row-spec =
     μ-loop
     (λ c κs. search needs)
     loop-holds
-    (λ c κs. search needs)
+    key-at-requires
     returns
     (λ c. search needs)
     (λ c. search needs)

@@ -3,7 +3,7 @@ use Prim.Native.Nat.{_-_, _<_}
 use native.Mathlib.Omega.{arith}
 use borrow.Author.Needs.{needs}
 use Rattle.store_reader.specs.Rows.{Bracket}
-use Rattle.store_reader.proofs.Rows.{up, down}
+use Rattle.store_reader.proofs.Rows.{key-asks, up, down}
 use Rattle.store_reader.proofs.row_down.Statement.{statement}
 use Rattle.store_reader.proofs.row_down.Tie as tie
 
@@ -27,6 +27,9 @@ loop-again c =
     let a = c .before .before .before in
     (down (a .before .before .pre .0) (a .loop .inv .0) (a .loop .to - a .loop .step) (omega arith) (omega arith) (omega arith), omega arith)
 
+key-at-requires : tie.Need-key-at-requires Inv-loop μ-loop
+key-at-requires c κs = key-asks (c .before .before .before .pre .0) _ (omega (arith, c .before .loop .inv .0 .hi-le))
+
 pub row-down-spec : {M : Type 1} → statement M
 row-down-spec =
     tie.close
@@ -36,7 +39,7 @@ row-down-spec =
     loop-holds
     (λ c. search needs)
     (λ c. search needs)
-    (λ c κs. search needs)
+    key-at-requires
     (λ c. search needs)
     first-row-between-requires
     (λ c. search needs)

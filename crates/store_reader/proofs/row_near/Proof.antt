@@ -5,7 +5,7 @@ use native.Mathlib.Omega.{arith}
 use denote.Ref.{now}
 use borrow.Author.Needs.{needs}
 use Rattle.store_reader.specs.Rows.{keyOf, FirstRow, Bracket}
-use Rattle.store_reader.proofs.Rows.{up, down, hit}
+use Rattle.store_reader.proofs.Rows.{key-asks, up, down, hit}
 use Rattle.store_reader.proofs.row_near.Statement.{statement}
 use Rattle.store_reader.proofs.row_near.Tie as tie
 
@@ -57,6 +57,9 @@ returns-5 c =
     let k = c .before .before .before .before .before in
     hit (start k .pre .0) (start k .args .near) (omega (arith, start k .pre .1 .hi-le)) (omega arith)
 
+key-at-requires : tie.Need-key-at-requires
+key-at-requires c κs = let k = c .before .before in key-asks (start k .pre .0) _ (omega (arith, start k .pre .1 .hi-le))
+
 pub row-near-spec : {M : Type 1} → statement M
 row-near-spec =
     tie.close
@@ -66,7 +69,7 @@ row-near-spec =
     returns
     row-up-requires
     returns-2
-    (λ c κs. search needs)
+    key-at-requires
     (λ c. search needs)
     row-up-requires-2
     returns-3

@@ -3,7 +3,7 @@ use Prim.Native.Nat.{_+_, _-_, _<_}
 use native.Mathlib.Omega.{arith}
 use borrow.Author.Needs.{needs}
 use Rattle.store_reader.specs.Rows.{Bracket}
-use Rattle.store_reader.proofs.Rows.{up, down}
+use Rattle.store_reader.proofs.Rows.{key-asks, up, down}
 use Rattle.store_reader.proofs.row_up.Statement.{statement}
 use Rattle.store_reader.proofs.row_up.Tie as tie
 
@@ -27,6 +27,9 @@ loop-again c =
     let a = c .before .before .before in
     (up (a .before .before .pre .0) (a .loop .inv .0) (a .loop .from + a .loop .step - 1) (omega arith) (omega arith) (omega arith), omega arith)
 
+key-at-requires : tie.Need-key-at-requires Inv-loop μ-loop
+key-at-requires c κs = key-asks (c .before .before .before .pre .0) _ (omega (arith, c .before .loop .inv .0 .hi-le))
+
 pub row-up-spec : {M : Type 1} → statement M
 row-up-spec =
     tie.close
@@ -37,7 +40,7 @@ row-up-spec =
     (λ c. search needs)
     (λ c. search needs)
     (λ c. search needs)
-    (λ c κs. search needs)
+    key-at-requires
     first-row-between-requires
     (λ c. search needs)
     (λ c. search needs)

@@ -1,4 +1,4 @@
--- `store_reader::rows_of` meets its contract: the next parent's rows start where this one's end. Assumes nothing.
+-- `store_reader::rows_of` meets its contract: its order-only links start where its offsets end. Assumes nothing.
 use native.Mathlib.Omega.{arith}
 use borrow.Author.Needs.{needs}
 use Rattle.store_reader.proofs.Rows.{rows-rise}
@@ -12,4 +12,4 @@ returns c =
     record { first = f; after = g; rise = rows-rise f g (omega arith) }
 
 pub rows-of-spec : {M : Type 1} → statement M
-rows-of-spec = tie.close (tie.spec (λ c κs. search needs) (λ c. search needs) (λ c κs. search needs) returns)
+rows-of-spec = tie.close (tie.spec (λ c κs. search needs) (λ c κs. search needs) returns)
