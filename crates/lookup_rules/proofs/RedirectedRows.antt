@@ -37,12 +37,13 @@ redirect-once n ps c d h k e = go (redirect-either n ps c) (redirect-either n ps
 -- each comes from where they start on
 climb-each : (ls : List Link) (p q e : ℕ) → Climb p q e ls → Each (λ m. From p q (m .parent) (place m)) ls
 climb-each [] p q e c = tt
-climb-each (l ∷ ls) p q e c =
-    (c .0,
-    each-then (λ m. From (l .parent) (place l + 1) (m .parent) (place m)) (λ m. From p q (m .parent) (place m))
-    (λ m b. from-trans p q (l .parent) (place l) (m .parent) (place m) (c .0)
-    (from-trans (l .parent) (place l) (l .parent) (place l + 1) (m .parent) (place m) (inr (refl, omega arith)) b))
-    ls (climb-each ls (l .parent) (place l + 1) e (c .1)))
+climb-each (l ∷ ls) p q e c = (
+  c .0,
+  each-then (λ m. From (l .parent) (place l + 1) (m .parent) (place m)) (λ m. From p q (m .parent) (place m))
+      (λ m b. from-trans p q (l .parent) (place l) (m .parent) (place m) (c .0)
+      (from-trans (l .parent) (place l) (l .parent) (place l + 1) (m .parent) (place m) (inr (refl, omega arith)) b))
+      ls (climb-each ls (l .parent) (place l + 1) e (c .1)),
+)
 
 -- and ends before e
 climb-end : (ls : List Link) (p q e : ℕ) → Climb p (q + 1) e ls → p < e
@@ -104,9 +105,10 @@ module _ (n : ℕ) (ps : List ℕ) where
         orders : isOffset l ≡ false → isOffset m ≡ false → m .parent ≡ l .parent → Alike (redirected n ps m) (redirected n ps l) × Alike (redirected n ps l) (redirected n ps m)
         orders a b e =
             let (k, q, w) = order-numbers (ol .formed .size) l a (ol .formed .shape) in
-            let (k′, q′, w′) = order-numbers (om .formed .size) m b (om .formed .shape) in
-            (record { kind = k′ ∙ sym k; parent = e; position = q′ ∙ sym q; width = w′ ∙ sym w; child = λ o. true-false (sym o ∙ a) },
-            record { kind = k ∙ sym k′; parent = sym e; position = q ∙ sym q′; width = w ∙ sym w′; child = λ o. true-false (sym o ∙ b) })
+            let (k′, q′, w′) = order-numbers (om .formed .size) m b (om .formed .shape) in (
+              record { kind = k′ ∙ sym k; parent = e; position = q′ ∙ sym q; width = w′ ∙ sym w; child = λ o. true-false (sym o ∙ a) },
+              record { kind = k ∙ sym k′; parent = sym e; position = q ∙ sym q′; width = w ∙ sym w′; child = λ o. true-false (sym o ∙ b) },
+            )
 
         zero-kind : (x : Link) → isOffset x ≡ true → x .kind ≡ 0
         zero-kind x o = eqb-true (x .kind) 0 o

@@ -43,9 +43,11 @@ module _ (l m : Link) where
   before-is h =
       ⊎-elim inl
       (λ (a, b).
-      inr (a,
-      ⊎-elim inl (λ (c, d). inr (c, ⊎-elim inl (λ (e, f). inr (e, ltb-true (l .child) (m .child) f)) (first-less (l .position) (m .position) byChild d)))
-      (first-less (l .kind) (m .kind) byPosition b)))
+      inr (
+        a,
+        ⊎-elim inl (λ (c, d). inr (c, ⊎-elim inl (λ (e, f). inr (e, ltb-true (l .child) (m .child) f)) (first-less (l .position) (m .position) byChild d)))
+            (first-less (l .kind) (m .kind) byPosition b),
+      ))
       (first-less (l .parent) (m .parent) byKind h)
 
   pub is-before : Before l m → rowBefore l m ≡ true
@@ -54,9 +56,11 @@ module _ (l m : Link) where
       less-first (l .parent) (m .parent) byKind
       (⊎-elim inl
       (λ (a, b).
-      inr (a,
-      less-first (l .kind) (m .kind) byPosition
-      (⊎-elim inl (λ (c, d). inr (c, less-first (l .position) (m .position) byChild (⊎-elim inl (λ (e, f). inr (e, lt-ltb (l .child) (m .child) f)) d))) b)))
+      inr (
+        a,
+        less-first (l .kind) (m .kind) byPosition
+            (⊎-elim inl (λ (c, d). inr (c, less-first (l .position) (m .position) byChild (⊎-elim inl (λ (e, f). inr (e, lt-ltb (l .child) (m .child) f)) d))) b),
+      ))
       h)
 
   -- two offsets of one parent at one position
