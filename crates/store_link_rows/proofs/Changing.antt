@@ -3,12 +3,12 @@ use Prim.Native.Nat.{ℕ, _+_, _*_, _≤_, _<_}
 use mathlib.Core.Path.{_≡_, refl, sym, ap, ap₂, _∙_}
 use mathlib.Core.List.{List, [], _∷_, map}
 use native.Mathlib.Omega.{arith}
-use lib.ListN.{length, set}
-use lib.Seq.{set-getD}
+use lib.ListN.{length, getD, set}
+use lib.Seq.{set-getD, getD-set-other}
 use Rattle.folds.specs.Lists.{put}
 use Rattle.folds.proofs.Moved.{map-upto}
 use Rattle.folds.proofs.Put.{put-nil, put-put}
-use Rattle.store_rules.specs.Store.{Store, Link, perLink, rowChild, leadingTo, linkAt, linksOf}
+use Rattle.store_rules.specs.Store.{Store, Link, perLink, rowChild, rowKind, leadingTo, linkAt, linksOf}
 use Rattle.store_rules.specs.Appended.{numbersOf, rowNumbers}
 use Rattle.store_link_rows.specs.Rows.{segment, linkIn, row, changedRow}
 use Rattle.store_link_rows.proofs.Spans.{span-empty, span-back, flat-span}
@@ -46,8 +46,12 @@ module _ (f : Link → Link) where
     pub child-changed : (x : ℕ) → f (linkIn d k) ≡ leadingTo x (linkIn d k) → set d (perLink * k + rowChild) x ≡ put d (perLink * k) (changedRow f d k)
     unfolding changedRow
     child-changed x e =
-        let s : put d (perLink * k) (numbersOf (leadingTo x (linkIn d k))) ≡ set d (perLink * k + rowChild) x =
-        sym (put-numbers d k (leadingTo x (linkIn d k)) l) ∙ simp set-getD in
+        let out = set d (perLink * k + rowChild) x in
+        let same : getD out (perLink * k + rowKind) 0 ≡ getD d (perLink * k + rowKind) 0 = getD-set-other d (perLink * k + rowChild) (perLink * k + rowKind) x 0 (omega arith) in
+        let kind : set out (perLink * k + rowKind) (getD d (perLink * k + rowKind) 0) ≡ out =
+        ap (set out (perLink * k + rowKind)) (sym same) ∙ set-getD out (perLink * k + rowKind) 0 in
+        let s : put d (perLink * k) (numbersOf (leadingTo x (linkIn d k))) ≡ out =
+        sym (put-numbers d k (leadingTo x (linkIn d k)) l) ∙ simp set-getD kind in
         sym s ∙ ap (λ (y : Link). put d (perLink * k) (numbersOf y)) (sym e)
 
 -- ---- row by row

@@ -8,11 +8,13 @@ use Rattle.folds.specs.Folds.{flat}
 use Rattle.folds.specs.Lists.{put}
 use Rattle.folds.proofs.Folds.{flat-none, flat-more, flat-split, upto-same}
 use Rattle.folds.proofs.Put.{put-nil, put-put, put-below, length-put}
-use Rattle.store_rules.specs.Store.{Link, lent, perLink, rowParent, rowPosition, linkAt, linksOf}
+use Rattle.store_rules.specs.Store.{Link, lent, perLink, rowParent, linkAt, linksOf}
 use Rattle.store_rules.specs.Appended.{rowNumbers}
 use Rattle.store_rules.proofs.LinkRows.{rows-numbers}
+use Rattle.store_rules.proofs.LinksAscend.{place}
 use Rattle.store_reader.specs.declared.LinkRows.{LinkRows}
-use Rattle.store_reader.specs.Rows.{rowKey, keyOf, InOrder, FirstRow}
+use Rattle.store_reader.specs.Rows.{orders, rowPlace, rowKey, keyOf, InOrder, FirstRow}
+use Rattle.store_reader.proofs.Rows.{row-place}
 use Rattle.store_link_rows.specs.Copies.{inUse, Source, RowsRoom, Copied}
 use Rattle.store_link_rows.proofs.Links.{numbers-append}
 use Rattle.store_link_rows.proofs.RowLaws.{row-same, same-link}
@@ -30,8 +32,11 @@ module _ (ls out counts : List ℕ) (same : (i : ℕ) → i < perLink * getD cou
   unfolding linksOf
   in-use-same = upto-same (linkAt (lent [] [] out counts)) (linkAt (lent [] [] ls counts)) count link-same
 
+  place-same : (k : ℕ) → k < count → rowPlace out k ≡ rowPlace ls k
+  place-same k l = row-place (lent [] [] out counts) k ∙ ap place (link-same k l) ∙ sym (row-place (lent [] [] ls counts) k)
+
   key-same : (k : ℕ) → k < count → rowKey out k ≡ rowKey ls k
-  key-same k l = ap₂ (λ (p q : ℕ). keyOf p q) (same (perLink * k + rowParent) (omega arith)) (same (perLink * k + rowPosition) (omega arith))
+  key-same k l = ap₂ (λ (p q : ℕ). keyOf p q) (same (perLink * k + rowParent) (omega arith)) (place-same k l)
 
   first-same : (key r : ℕ) → FirstRow ls count key r → FirstRow out count key r
   first-same key r f =
@@ -45,6 +50,7 @@ module _ (ls out counts : List ℕ) (same : (i : ℕ) → i < perLink * getD cou
   order-same n o =
       record {
         room = omega (arith, o .room);
+        places = λ k h. omega (arith, o .places k h, place-same k h);
         rising = λ j k l h. omega (arith, o .rising j k l h, key-same j (omega arith), key-same k h);
       }
 
@@ -54,7 +60,7 @@ module _ (ls out counts : List ℕ) (same : (i : ℕ) → i < perLink * getD cou
         order = order-same n (s .order);
         rows-are = record {
           first = first-same (keyOf p 0) (rows .first) (s .rows-are .first);
-          after = first-same (keyOf (p + 1) 0) (rows .after) (s .rows-are .after);
+          after = first-same (keyOf p orders) (rows .after) (s .rows-are .after);
           rise = s .rows-are .rise;
         };
       }

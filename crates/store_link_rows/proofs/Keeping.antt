@@ -8,6 +8,7 @@ use Rattle.folds.specs.Lists.{put}
 use Rattle.store_rules.specs.Store.{Store, perLink, rowChild, linkAt, linksOf}
 use Rattle.store_rules.specs.Appended.{numbersOf, rowNumbers}
 use Rattle.store_rules.specs.Header.{ownChild, kept}
+use Rattle.store_rules.proofs.Shaped.{of-other}
 use Rattle.store_link_rows.specs.Rows.{segment, linkIn, positionIn, row, changedRow, keptRow}
 use Rattle.store_link_rows.proofs.Changing.{changed-long, changed-numbers, changed-is, not-changed, child-changed}
 
@@ -29,10 +30,15 @@ kept-is ls out own t v = changed-is (kept own t v) ls out
 -- a row of another table is as it was
 pub kept-other : (d own : List ℕ) (t v k : ℕ) → perLink * (k + 1) ≤ length d → (linkIn d k .parent ≡ t → ⊥) → d ≡ put d (perLink * k) (keptRow d own t v k)
 unfolding kept
-kept-other d own t v k l n = not-changed (kept own t v) d k l (rw (ne-eqb (linkIn d k .parent) t n))
+kept-other d own t v k l n = not-changed (kept own t v) d k l (rw (of-other t (linkIn d k) n))
 
--- a row of the kept table has another child
-pub kept-own : (d own : List ℕ) (t v k x : ℕ) → perLink * (k + 1) ≤ length d → linkIn d k .parent ≡ t
+-- and so is an order-only row
+pub kept-order : (d own : List ℕ) (t v k : ℕ) → perLink * (k + 1) ≤ length d → (linkIn d k .kind ≡ 0 → ⊥) → d ≡ put d (perLink * k) (keptRow d own t v k)
+unfolding kept
+kept-order d own t v k l n = not-changed (kept own t v) d k l (rw (ne-eqb (linkIn d k .kind) 0 n))
+
+-- an offset of the kept table has another child
+pub kept-own : (d own : List ℕ) (t v k x : ℕ) → perLink * (k + 1) ≤ length d → linkIn d k .parent ≡ t → linkIn d k .kind ≡ 0
     → x ≡ ownChild own v (positionIn d k) (linkIn d k .child) → set d (perLink * k + rowChild) x ≡ put d (perLink * k) (keptRow d own t v k)
 unfolding kept
-kept-own d own t v k x l e h = child-changed (kept own t v) d k l x (rw (eq-eqb (linkIn d k .parent) t e, h))
+kept-own d own t v k x l e z h = child-changed (kept own t v) d k l x (rw (eq-eqb (linkIn d k .kind) 0 z, eq-eqb (linkIn d k .parent) t e, h))

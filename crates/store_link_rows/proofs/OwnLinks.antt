@@ -6,15 +6,15 @@ use mathlib.Core.List.{List, [], _∷_, _++_, append-nil}
 use mathlib.Core.Logic.{_⊎_, inl, inr, ⊎-elim}
 use native.Mathlib.Omega.{arith}
 use lib.ListN.{length}
-use lib.Dec.{eqb}
 use Rattle.folds.specs.Folds.{upto}
 use Rattle.folds.specs.Lists.{sift}
 use Rattle.folds.proofs.Folds.{flat-none, length-upto, upto-cons, upto-same}
 use Rattle.folds.proofs.Picked.{picked-none, picked-same, sift-append, sift-upto}
 use Rattle.folds.proofs.InRange.{is-between, below-range, above-range}
 use Rattle.folds.proofs.TwoParts.{upto-split}
-use Rattle.store_rules.specs.Store.{Store, Link, linkAt, linksOf, offsetOf, parentOf, positionOf}
+use Rattle.store_rules.specs.Store.{Store, Link, linkAt, linksOf, offsetOf}
 use Rattle.store_rules.specs.SlotLinks.{linksFrom}
+use Rattle.store_rules.proofs.Sound.{Fits}
 use Rattle.store_reader.specs.declared.LinkRows.{LinkRows}
 use Rattle.store_reader.specs.Rows.{ParentRows}
 use Rattle.store_reader.proofs.Rows.{parent-rows}
@@ -38,17 +38,17 @@ between-next s lo hi l =
 pub between-none : (s : Store) (lo hi : ℕ) → hi ≤ lo → linksBetween s lo hi ≡ []
 between-none s lo hi l = let z : hi - lo ≡ 0 = omega arith in rw z (flat-none (λ i. linkAt s (lo + i) ∷ []))
 
-module _ (s : Store) (p : ℕ) {r : LinkRows} (rows : ParentRows (s .links) (s .linkCount) p r) (small : (k : ℕ) → positionOf s k < 4294967296) where
+module _ (s : Store) (f : Fits s) (p : ℕ) {r : LinkRows} (rows : ParentRows (s .links) (s .linkCount) p r) where
   -- link i of those from a on
   abbrev from : ℕ → ℕ → Link
   from a i = linkAt s (a + i)
 
-  own : (k : ℕ) → k < s .linkCount → r .first ≤ k → k < r .after → eqb (parentOf s k) p ≡ true
-  own k m a h = sym (parent-rows p (rows .first) (rows .after) k m (small k)) ∙ is-between (r .first) (r .after) k a h
+  own : (k : ℕ) → k < s .linkCount → r .first ≤ k → k < r .after → offsetOf p (linkAt s k) ≡ true
+  own k m a h = sym (parent-rows s f p rows k m) ∙ is-between (r .first) (r .after) k a h
 
-  other : (k : ℕ) → k < s .linkCount → (k < r .first) ⊎ (r .after ≤ k) → eqb (parentOf s k) p ≡ false
+  other : (k : ℕ) → k < s .linkCount → (k < r .first) ⊎ (r .after ≤ k) → offsetOf p (linkAt s k) ≡ false
   other k m out =
-      sym (parent-rows p (rows .first) (rows .after) k m (small k))
+      sym (parent-rows s f p rows k m)
       ∙ ⊎-elim (below-range (r .first) (r .after) k) (above-range (r .first) (r .after) k) out
 
   pub own-links : sift (offsetOf p) (linksOf s) ≡ linksBetween s (r .first) (r .after)

@@ -1,13 +1,13 @@
 -- What a row is after a write. Assumes nothing.
 use mathlib.Core.Path.{_≡_, refl, sym, ap, ap₂, _∙_}
-use mathlib.Core.List.{List}
+use mathlib.Core.List.{List, [], _∷_}
 use Prim.Native.Nat.{ℕ, zero, suc, _+_, _-_, _*_, _≤_, _<_}
 use native.Mathlib.Omega.{arith}
 use lib.ListN.{length, getD, set}
 use lib.Seq.{set-getD}
 use Rattle.folds.specs.Lists.{put}
-use Rattle.folds.proofs.Put.{put-nil, put-put, put-below, put-inside, put-above, put-four, both-puts}
-use Rattle.store_rules.specs.Store.{Link, perLink, rowParent, rowPosition, rowWidth, rowChild, placedAt}
+use Rattle.folds.proofs.Put.{put-nil, put-put, put-below, put-inside, put-above, put-set, put-four, both-puts}
+use Rattle.store_rules.specs.Store.{Link, perLink, rowParent, rowPosition, rowWidth, rowChild, rowKind, placedAt}
 use Rattle.store_rules.specs.Appended.{numbersOf}
 use Rattle.store_link_rows.specs.Rows.{seg, segment, linkIn, row, rows, placedRow}
 use Rattle.store_link_rows.proofs.Spans.{seg-ext, length-seg, seg-at, span-empty, span-back}
@@ -24,6 +24,7 @@ row-same d e k h =
     let q = h (perLink * k + rowPosition) (omega arith) (omega arith) in
     let w = h (perLink * k + rowWidth) (omega arith) (omega arith) in
     let c = h (perLink * k + rowChild) (omega arith) (omega arith) in
+    let d = h (perLink * k + rowKind) (omega arith) (omega arith) in
     cc
 
 module _ (d : List ℕ) (b : ℕ) (xs : List ℕ) (fits : b ≤ length d) where
@@ -42,6 +43,7 @@ same-link d e i k h j =
       position = ap (λ (l : List ℕ). getD l rowPosition 0) h j;
       width = ap (λ (l : List ℕ). getD l rowWidth 0) h j;
       child = ap (λ (l : List ℕ). getD l rowChild 0) h j;
+      kind = ap (λ (l : List ℕ). getD l rowKind 0) h j;
     }
 
 -- and stay the same in another place
@@ -51,11 +53,14 @@ placed-same d e p q i k h = ap (λ (l : Link). numbersOf (placedAt p q l)) (same
 
 -- a link is written number by number
 pub put-numbers : (d : List ℕ) (k : ℕ) (l : Link) → perLink * (k + 1) ≤ length d
-    → set (set (set (set d (perLink * k + rowParent) (l .parent)) (perLink * k + rowPosition) (l .position)) (perLink * k + rowWidth) (l .width)) (perLink * k + rowChild) (l .child)
+    → set (set (set (set (set d (perLink * k + rowParent) (l .parent)) (perLink * k + rowPosition) (l .position)) (perLink * k + rowWidth) (l .width))
+    (perLink * k + rowChild) (l .child)) (perLink * k + rowKind) (l .kind)
     ≡ put d (perLink * k) (numbersOf l)
 put-numbers d k l room =
     let z : perLink * k + rowParent ≡ perLink * k = omega arith in
-    rw z (put-four d (perLink * k) (l .parent) (l .position) (l .width) (l .child) (omega arith))
+    rw z
+    (ap (λ (o : List ℕ). set o (perLink * k + rowKind) (l .kind)) (put-four d (perLink * k) (l .parent) (l .position) (l .width) (l .child) (omega arith))
+    ∙ put-set d (perLink * k) (l .parent ∷ l .position ∷ l .width ∷ l .child ∷ []) (perLink * k + rowKind) (l .kind) refl (omega arith))
 
 -- a row that was read, written in another place
 pub row-moved : (d : List ℕ) (p q i k : ℕ) {l : Link} {o : List ℕ} → l ≡ linkIn d i → o ≡ put d (perLink * k) (numbersOf (placedAt p q l))
@@ -104,6 +109,7 @@ module _ (ls : List ℕ) (g : ℕ → ℕ) where
       let q : getD o (perLink * k + rowPosition) 0 ≡ getD ls (perLink * g k + rowPosition) 0 = span-at f n d lo hi k rowPosition room l h (omega arith) in
       let w : getD o (perLink * k + rowWidth) 0 ≡ getD ls (perLink * g k + rowWidth) 0 = span-at f n d lo hi k rowWidth room l h (omega arith) in
       let c : getD o (perLink * k + rowChild) 0 ≡ getD ls (perLink * g k + rowChild) 0 = span-at f n d lo hi k rowChild room l h (omega arith) in
+      let z : getD o (perLink * k + rowKind) 0 ≡ getD ls (perLink * g k + rowKind) 0 = span-at f n d lo hi k rowKind room l h (omega arith) in
       cc
 
 -- a row of rows that were written, at other numbers than their own

@@ -1,4 +1,4 @@
--- Link rows as numbers: "parent, position, width, child". Assumes nothing.
+-- Link rows as numbers: "parent, position, width, child", and "kind". Assumes nothing.
 use Prim.Native.Nat.{ℕ, _+_, _-_, _≤_, _<_}
 use mathlib.Core.List.{List, []}
 use Rattle.folds.specs.Folds.{flat}
@@ -17,7 +17,7 @@ segment f lo hi = seg f lo (hi - lo)
 
 -- a row that the code holds, as a link
 abbrev pub linkOf : Row → Link
-linkOf r = record { parent = r .parent; position = r .position; width = r .width; child = r .child }
+linkOf r = record { parent = r .parent; position = r .position; width = r .width; child = r .child; kind = r .kind }
 
 -- row k as a link
 abbrev pub linkIn : List ℕ → ℕ → Link

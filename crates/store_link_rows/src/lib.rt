@@ -1,5 +1,6 @@
 // Link rows read, written, moved, exchanged, reversed and rotated in place; those of a header, and those that stay where a table is split.
 use store_reader::CHILD;
+use store_reader::KIND;
 use store_reader::PARENT;
 use store_reader::PER_LINK;
 use store_reader::POSITION;
@@ -21,6 +22,7 @@ struct Row {
     position: u32,
     width: u32,
     child: u32,
+    kind: u32,
 }
 
 // Row k.
@@ -34,6 +36,7 @@ fn row_at(links: &[u32], k: usize) -> Row
         position: links[at + POSITION],
         width: links[at + WIDTH],
         child: links[at + CHILD],
+        kind: links[at + KIND],
     }
 }
 
@@ -47,6 +50,7 @@ fn put_row(links: &mut [u32], k: usize, row: Row)
     links[at + POSITION] = row.position;
     links[at + WIDTH] = row.width;
     links[at + CHILD] = row.child;
+    links[at + KIND] = row.kind;
 }
 
 // Writes a new link as row k.
@@ -62,6 +66,7 @@ pub fn put_link(links: &mut [u32], k: usize, parent: u32, position: u32, child: 
             position,
             width: 2,
             child,
+            kind: 0,
         },
     );
 }
@@ -80,6 +85,7 @@ pub fn move_row(links: &mut [u32], i: usize, k: usize, parent: u32, position: u3
             position,
             width: row.width,
             child: row.child,
+            kind: row.kind,
         },
     );
 }
@@ -158,15 +164,19 @@ pub fn put_header(links: &mut [u32], k: usize, own: &[u32], heads: &[u32], table
     }
 }
 
-// Row k, where it is the kept table's, leads to the kept table's own new objects, of which `first` is the first.
+// Row k, where it is an offset of the kept table, leads to the kept table's own new objects, of which `first` is the first.
 fn keep_row(links: &mut [u32], k: usize, own: &[u32], table: u32, first: u32)
     requires { ⌜ (perLink * (k + 1) ≤ length (now links)) × (first + length (now own) ≤ 4294967296) ⌝ }
     ensures { λ _. ⌜ left links ≡ put (came links) (perLink * k) (keptRow (came links) (came own) table first k) ⌝ }
 {
     let at = PER_LINK * k;
-    if links[at + PARENT] == table {
-        links[at + CHILD] = own_child(own, links[at + POSITION], links[at + CHILD], first);
+    if links[at + PARENT] != table {
+        return;
     }
+    if links[at + KIND] != 0 {
+        return;
+    }
+    links[at + CHILD] = own_child(own, links[at + POSITION], links[at + CHILD], first);
 }
 
 // The same of the first `count` rows.

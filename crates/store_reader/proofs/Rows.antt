@@ -34,27 +34,27 @@ module _ (l : List ℕ) (k : ℕ) where
 
 -- ---- the rows of a sound store
 
-module _ (s : Store) (f : Fits s) where
-  -- a row's place is its link's
-  row-place : (k : ℕ) → rowPlace (s .links) k ≡ place (linkAt s k)
-  unfolding rowPlace place
-  row-place k = refl
+-- a row's place is its link's
+pub row-place : (s : Store) (k : ℕ) → rowPlace (s .links) k ≡ place (linkAt s k)
+unfolding rowPlace place
+row-place s k = refl
 
+module _ (s : Store) (f : Fits s) where
   -- an offset stands before all order-only links
   pub offset-place : (k : ℕ) → k < s .linkCount → isOffset (linkAt s k) ≡ true → rowPlace (s .links) k < orders
   offset-place k h o =
       let r = f .link k h in
-      omega (arith, row-place k, place-offset (linkAt s k) o, offset-inside (sizeOf s (parentOf s k)) (linkAt s k) o (r .shape), size-most s f (parentOf s k) (r .parentUsed))
+      omega (arith, row-place s k, place-offset (linkAt s k) o, offset-inside (sizeOf s (parentOf s k)) (linkAt s k) o (r .shape), size-most s f (parentOf s k) (r .parentUsed))
 
   pub place-most : (k : ℕ) → k < s .linkCount → rowPlace (s .links) k < 4294967296
   place-most k h =
       by-test (isOffset (linkAt s k)) (λ o. omega (arith, offset-place k h o))
-      (λ o. omega (arith, row-place k, place-order (linkAt s k) o, f .link k h .childUsed, f .objectsMost))
+      (λ o. omega (arith, row-place s k, place-order (linkAt s k) o, f .link k h .childUsed, f .objectsMost))
 
   keys-rise : (j k : ℕ) → j < k → k < s .linkCount → rowKey (s .links) j < rowKey (s .links) k
   keys-rise j k h l =
-      let a = row-place j in
-      let b = row-place k in
+      let a = row-place s j in
+      let b = row-place s k in
       let c = place-most j (omega arith) in
       ⊎-elim (λ d. omega arith) (λ (d, e). omega arith) (later s f j k h l)
 
@@ -153,9 +153,9 @@ module _ (s : Store) (f : Fits s) where
       let q = rowPlace (s .links) k in
       rows-between p a b first next (omega arith) k used (place-most s f k used)
       ∙ by-test (isOffset (linkAt s k))
-      (λ o. rw (o, row-place s f k ∙ place-offset (linkAt s k) o))
+      (λ o. rw (o, row-place s k ∙ place-offset (linkAt s k) o))
       (λ o.
-      let behind : orders ≤ q = omega (arith, row-place s f k, place-order (linkAt s k) o) in
+      let behind : orders ≤ q = omega (arith, row-place s k, place-order (linkAt s k) o) in
       rw o (and-second (eqb (parentOf s k) p && leb a q) (ltb q b) (le-ltb q b (omega arith))))
 
   -- the same for all offsets of p
@@ -165,7 +165,7 @@ module _ (s : Store) (f : Fits s) where
       span-rows p 0 orders (rows .first) (rows .after) (omega arith) k used
       ∙ by-test (isOffset (linkAt s k))
       (λ o.
-      let below : positionOf s k < orders = omega (arith, offset-place s f k used o, row-place s f k, place-offset (linkAt s k) o) in
+      let below : positionOf s k < orders = omega (arith, offset-place s f k used o, row-place s k, place-offset (linkAt s k) o) in
       rw (o, le-leb 0 (positionOf s k) (omega arith), lt-ltb (positionOf s k) orders below) (and-true (eqb (parentOf s k) p)))
       (λ o. rw o)
     where

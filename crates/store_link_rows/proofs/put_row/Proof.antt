@@ -16,6 +16,9 @@ slice-write-links-3 c = simp length-set (omega arith)
 slice-write-links-4 : tie.Need-slice-write-links-4
 slice-write-links-4 c = simp length-set (omega arith)
 
+slice-write-links-5 : tie.Need-slice-write-links-5
+slice-write-links-5 c = simp length-set (omega arith)
+
 returns : tie.Need-returns
 returns c = put-numbers (c .args .links .now) (c .args .k) (linkOf (c .args .row)) (c .pre)
 
@@ -36,5 +39,8 @@ put-row-spec =
     (λ c. search needs)
     (λ c. search needs)
     slice-write-links-4
+    (λ c. search needs)
+    (λ c. search needs)
+    slice-write-links-5
     (λ c. search needs)
     returns)
