@@ -95,8 +95,7 @@ module _ {s : Store} {d o : List ℕ} (fits : Fits s) (b : Behind s d o) where
       record {
         parentUsed = f .parentUsed;
         childUsed = f .childUsed;
-        wide = f .wide;
-        inside = omega (arith, f .inside, same-size (parentOf s k) (f .parentUsed));
+        shape = rw (same-size (parentOf s k) (f .parentUsed)) (f .shape);
         rising = same-ascends k ∙ f .rising;
       }
 

@@ -11,15 +11,17 @@ use borrow.Author.Tests.{leb-true, ltb-true, eqb-true, eqb-false, le-leb, lt-ltb
 use Rattle.folds.proofs.Agree.{both-ways}
 use Rattle.folds.proofs.Joined.{or-either, or-second}
 use Rattle.folds.proofs.Tests.{and-both, and-intro, and-first, and-second, by-test, either, true-false}
-use Rattle.store_rules.specs.Store.{Store, lent, linkAt, parentOf, positionOf, sizeOf, offsetOf}
+use Rattle.store_rules.specs.Store.{Store, lent, linkAt, parentOf, positionOf, kindOf, sizeOf, offsetOf}
 use Rattle.store_rules.specs.Reach.{marked, reached, onCycle, Reach}
 use Rattle.store_rules.proofs.Reached.{reached-only, reached-all}
 use Rattle.store_rules.proofs.Reaching.{reached-bytes, reached-more, reached-same, reached-none}
-use Rattle.store_rules.proofs.Sound.{Fits, size-most}
-use Rattle.store_reader.specs.Rows.{keyOf, rowKey, FirstRow}
-use Rattle.store_reader.proofs.Rows.{position-most, rows-rise}
-use Rattle.store_walk.specs.Marks.{between, noRow, alsoBetween, ownBefore, Back, Marks, Walked, Begun}
-use Rattle.store_walk.proofs.Items.{items, ItemRows, item-rows}
+use Rattle.store_rules.proofs.LinksAscend.{place-offset}
+use Rattle.store_rules.proofs.Shaped.{of-offset, of-parent, of-other, offset-inside}
+use Rattle.store_rules.proofs.Sound.{Fits}
+use Rattle.store_reader.specs.Rows.{orders, keyOf, FirstRow}
+use Rattle.store_reader.proofs.Rows.{row-place, span-rows, rows-rise}
+use Rattle.store_walk.specs.Marks.{between, Offsets, noRow, alsoBetween, ownBefore, Back, Marks, Walked, Begun}
+use Rattle.store_walk.proofs.Items.{span-own, items, ItemRows, item-rows}
 use Rattle.store_walk.proofs.Marks.{stamp-below, marks-after, marks-next, marks-bytes}
 
 -- what can be reached from two sorts of rows can be reached from one of them
@@ -87,13 +89,12 @@ module _ {s : Store} {t : ℕ} {at : ℕ → ℕ} {i lo hi : ℕ} (f : Fits s) (
   item-earlier a k h x =
       let (p, q) = and-both (offsetOf t (linkAt s k) && leb (at a) (positionOf s k)) (ltb (positionOf s k) (at i)) x in
       let own = and-both (offsetOf t (linkAt s k)) (leb (at a) (positionOf s k)) p .0 in
-      let below : lo ≤ k → ⊥ = λ l. omega (arith, r .first .above k l h, eqb-true (parentOf s k) t own, ltb-true (positionOf s k) (at i) q) in
+      let below : lo ≤ k → ⊥ = λ l. omega (arith, r .first .above k l h, of-parent t (linkAt s k) own, row-place s k, place-offset (linkAt s k) (of-offset t (linkAt s k) own), ltb-true (positionOf s k) (at i) q) in
       and-intro (offsetOf t (linkAt s k)) (ltb k lo) own (lt-ltb k lo (omega arith))
 
   item-own : (k : ℕ) → k < s .linkCount → between lo hi k ≡ true → offsetOf t (linkAt s k) ≡ true
   item-own k h x =
-      let item = sym (item-rows f r k h) ∙ x in
-      and-both (offsetOf t (linkAt s k)) (leb (at i) (positionOf s k)) (and-both (offsetOf t (linkAt s k) && leb (at i) (positionOf s k)) (ltb (positionOf s k) (at (i + 1))) item .0) .0
+      span-own t (at i) (at (i + 1)) (linkAt s k) (sym (item-rows f r k h) ∙ x)
 
   module _ {e : ℕ} {w w′ : List ℕ} {total : ℕ} (used : t < s .objectCount) (begun : 0 < e) (a : ℕ) (room : s .objectCount ≤ length w) (rise : lo ≤ hi)
       (d : Walked s (items s t at a i) lo hi e w w′ total) where
@@ -115,20 +116,23 @@ module _ {s : Store} {t lo : ℕ} {w : List ℕ} (f : Fits s) (v : Marks s noRow
     where
       none : (k : ℕ) → k < s .linkCount → ownBefore s t lo k ≡ false
       none k h =
-          ⊎-elim (λ (l : k < lo). and-first (offsetOf t (linkAt s k)) (ltb k lo) (ne-eqb (parentOf s k) t (omega (arith, first .below k l))))
+          ⊎-elim (λ (l : k < lo). and-first (offsetOf t (linkAt s k)) (ltb k lo) (of-other t (linkAt s k) (omega (arith, first .below k l))))
           (λ (l : lo ≤ k). and-second (offsetOf t (linkAt s k)) (ltb k lo) (le-ltb k lo l)) (either k lo)
 
-  -- the rows before position q
-  pub begun : {q hi : ℕ} {w′ : List ℕ} {total : ℕ} → q ≤ 4294967296 → FirstRow (s .links) (s .linkCount) (keyOf t q) hi → Walked s noRow lo hi 1 w w′ total → Begun s t q w′
-  begun {q} {hi} {w′} short next d = record { marks = marks-next f (marks-after f v d) (λ k h. refl); back = λ row g. subst (λ (x : ℕ). Back s t x w′) (same row g) here }
-    where
-      own : (k : ℕ) → k < s .linkCount → between lo hi k ≡ true → offsetOf t (linkAt s k) ≡ true
-      own k h x =
-          let (a, b) = and-both (leb lo k) (ltb k hi) x in
-          eq-eqb (parentOf s k) t (omega (arith, position-most s f k h, first .above k (leb-true lo k a) h, next .below k (ltb-true k hi b)))
+  -- the rows before position q are the table's offsets there
+  span : {q hi : ℕ} → q ≤ orders → FirstRow (s .links) (s .linkCount) (keyOf t q) hi → (k : ℕ) → k < s .linkCount → between lo hi k ≡ true → offsetOf t (linkAt s k) ≡ true
+  span {q} short next k h x = span-own t 0 q (linkAt s k) (sym (span-rows s f t 0 q first next short k h) ∙ x)
 
+  pub begun-offsets : {q hi : ℕ} → q ≤ orders → FirstRow (s .links) (s .linkCount) (keyOf t q) hi → Offsets (s .links) lo hi
+  begun-offsets {q} {hi} short next k a b =
+      eqb-true (kindOf s k) 0 (of-offset t (linkAt s k) (span short next k (omega (arith, next .within)) (and-intro (leb lo k) (ltb k hi) (le-leb lo k a) (lt-ltb k hi b))))
+
+  -- they are walked
+  pub begun : {q hi : ℕ} {w′ : List ℕ} {total : ℕ} → q ≤ orders → FirstRow (s .links) (s .linkCount) (keyOf t q) hi → Walked s noRow lo hi 1 w w′ total → Begun s t q w′
+  begun {q} {hi} {w′} short next d = record { marks = marks-next f (marks-after f v d) (λ k h. refl); back = λ row g. subst (λ (x : ℕ). Back s t x w′) (same row g) here; next = hi; next-is = next }
+    where
       here : Back s t hi w′
-      here = back-more f used (omega arith) (omega (arith, v .room)) (λ k h x. true-false (sym x)) own (rows-rise first next (omega arith)) d none-back
+      here = back-more f used (omega arith) (omega (arith, v .room)) (λ k h x. true-false (sym x)) (span short next) (rows-rise first next (omega arith)) d none-back
 
       same : (row : ℕ) → FirstRow (s .links) (s .linkCount) (keyOf t q) row → hi ≡ row
       same row g = omega (arith, rows-rise next g (omega arith), rows-rise g next (omega arith))
@@ -142,34 +146,20 @@ back-all {s} {t} {row} w f used all b = b ∙ reached-same s f (ownBefore s t ro
     same k h = by-test (offsetOf t (linkAt s k)) (λ x. rw x (lt-ltb k row (all k h x))) (λ x. rw x)
 
 -- a walk that begins with the table's links before position q is of all of them, where none stands behind
-module _ {s : Store} {t q : ℕ} {w : List ℕ} (f : Fits s) (used : t < s .objectCount) (most : q < 4294967296) (whole : sizeOf s t ≤ q) (d : Begun s t q w) where
-  abbrev end : ℕ
-  end = getD w (s .objectCount + t) 0
-
-  ends : FirstRow (s .links) (s .linkCount) (keyOf (t + 1) 0) end
-  ends = d .marks .ends t used
-
-  -- a link stands within its parent's bytes
-  inside : (k : ℕ) → k < s .linkCount → (positionOf s k + 2 ≤ sizeOf s (parentOf s k)) × (sizeOf s (parentOf s k) ≤ 16777216)
-  inside k h = (f .link k h .inside, size-most s f (parentOf s k) (f .link k h .parentUsed))
-
-  all : (k : ℕ) → k < s .linkCount → offsetOf t (linkAt s k) ≡ true → k < end
+module _ {s : Store} {t q : ℕ} {w : List ℕ} (f : Fits s) (used : t < s .objectCount) (whole : sizeOf s t ≤ q) (d : Begun s t q w) where
+  -- an offset stands within its parent's bytes
+  all : (k : ℕ) → k < s .linkCount → offsetOf t (linkAt s k) ≡ true → k < d .next
   all k h own =
-      let parent : parentOf s k ≡ t = eqb-true (parentOf s k) t own in
-      let past : end ≤ k → ⊥ = λ z. omega (arith, ends .above k z h, inside k h .0, inside k h .1) in
+      let o = of-offset t (linkAt s k) own in
+      let parent : parentOf s k ≡ t = of-parent t (linkAt s k) own in
+      let inside = offset-inside (sizeOf s (parentOf s k)) (linkAt s k) o (f .link k h .shape) in
+      let past : d .next ≤ k → ⊥ = λ z. omega (arith, d .next-is .above k z h, inside, ap (sizeOf s) parent, row-place s k, place-offset (linkAt s k) o) in
       omega arith
 
-  below : (k : ℕ) → k < end → rowKey (s .links) k < keyOf t q
-  below k g =
-      let h : k < s .linkCount = omega (arith, ends .within) in
-      ⊎-elim (λ lt. omega (arith, inside k h .0, inside k h .1))
-      (λ ge. let parent : parentOf s k ≡ t = omega (arith, ends .below k g) in omega (arith, inside k h .0, ap (sizeOf s) parent))
-      (either (parentOf s k) t)
-
   pub begun-whole : ltb 0 (getD w t 0) ≡ onCycle s t
-  begun-whole = back-all w f used all (d .back end (record { within = ends .within; below = below; above = λ k g h. omega (arith, ends .above k g h) }))
+  begun-whole = back-all w f used all (d .back (d .next) (d .next-is))
 
 -- the bytes are of no matter
 pub begun-bytes : (b b′ o l c : List ℕ) {t q : ℕ} {w : List ℕ} → Begun (lent b o l c) t q w → Begun (lent b′ o l c) t q w
 begun-bytes b b′ o l c {t} {q} d =
-    record { marks = marks-bytes b b′ o l c (d .marks); back = λ row f. d .back row f ∙ ap (λ (x : List ℕ). marked x t) (reached-bytes b b′ o l c (ownBefore (lent b o l c) t row)) }
+    record { marks = marks-bytes b b′ o l c (d .marks); back = λ row f. d .back row f ∙ ap (λ (x : List ℕ). marked x t) (reached-bytes b b′ o l c (ownBefore (lent b o l c) t row)); next = d .next; next-is = d .next-is }

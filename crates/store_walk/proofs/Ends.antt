@@ -9,7 +9,7 @@ use native.Mathlib.Omega.{arith}
 use lib.ListN.{length, getD, set, length-set, replicate, length-replicate, getD-replicate}
 use lib.Seq.{getD-set-same, getD-set-other}
 use Rattle.folds.specs.Folds.{before}
-use Rattle.store_rules.specs.Store.{perLink, rowParent, rowPosition}
+use Rattle.store_rules.specs.Store.{perLink, rowParent}
 use Rattle.store_reader.specs.Rows.{keyOf, rowKey, InOrder, FirstRow}
 use Rattle.store_walk.specs.Marks.{Blank, LastOf, Lasts}
 
@@ -90,17 +90,17 @@ lasts-all {l} {c} {w₀} {w} {k} v h =
 -- ---- one object after another: where its rows end
 
 -- where the last of object i's rows is known, so is where the next object's start
-module _ {l : List ℕ} {m : ℕ} (ordered : InOrder l m) (short : (k : ℕ) → k < m → getD l (perLink * k + rowPosition) 0 < 4294967296) {i end v : ℕ} (s : FirstRow l m (keyOf i 0) end) (f : LastOf l m i v) where
+module _ {l : List ℕ} {m : ℕ} (ordered : InOrder l m) {i end v : ℕ} (s : FirstRow l m (keyOf i 0) end) (f : LastOf l m i v) where
   -- rows at or past this object's, of another one
   past : (k : ℕ) → k < m → keyOf i 0 ≤ rowKey l k → (getD l (perLink * k + rowParent) 0 ≡ i → ⊥) → keyOf (i + 1) 0 ≤ rowKey l k
-  past k h a d = omega (arith, short k h)
+  past k h a d = omega (arith, ordered .places k h)
 
   pub end-moves : end < v → FirstRow l m (keyOf (i + 1) 0) v
   end-moves g = ⊎-elim (λ z. absurd (omega arith)) (λ (z : (v ≤ m) × (getD l (perLink * (v - 1) + rowParent) 0 ≡ i)). at (z .0) (z .1)) (f .last)
     where
       at : v ≤ m → getD l (perLink * (v - 1) + rowParent) 0 ≡ i → FirstRow l m (keyOf (i + 1) 0) v
       at a q =
-          let own : rowKey l (v - 1) < keyOf (i + 1) 0 = omega (arith, short (v - 1) (omega arith)) in
+          let own : rowKey l (v - 1) < keyOf (i + 1) 0 = omega (arith, ordered .places (v - 1) (omega arith)) in
           record {
             within = a;
             below = λ k h. ⊎-elim (λ e. rw e own) (λ (b : k < v - 1). omega (arith, ordered .rising k (v - 1) b (omega arith))) (eq-or-lt-of-le (omega arith));

@@ -13,14 +13,15 @@ use borrow.Author.Tests.{leb-true, ltb-true, eqb-true, eq-eqb, ne-eqb}
 use Rattle.folds.proofs.Tests.{and-both, cond-has, by-test, true-false, either}
 use Rattle.folds.proofs.Joined.{or-either, or-first, or-second}
 use Rattle.folds.proofs.Tally.{tally-same, tally-le}
-use Rattle.store_rules.specs.Store.{Store, lent, sizeOf}
+use Rattle.store_rules.specs.Store.{Store, lent, linkAt, parentOf, kindOf, sizeOf}
 use Rattle.store_rules.specs.Reach.{marked, reached, reachSize, Reach}
 use Rattle.store_rules.proofs.Reached.{reached-only, reached-all}
 use Rattle.store_rules.proofs.Reaching.{reach-all, reach-more, reached-bytes, reached-more, reached-same, reached-none, size-bytes}
+use Rattle.store_rules.proofs.Shaped.{is-of}
 use Rattle.store_rules.proofs.Sound.{Fits, sizes-most}
 use Rattle.store_reader.specs.Rows.{keyOf, FirstRow}
-use Rattle.store_walk.specs.Marks.{between, noRow, alsoBetween, Marks, stamp, Walked}
-use Rattle.store_walk.proofs.Turns.{graph, parentAtRow, childAtRow, sizeAt, Has, has, Spread}
+use Rattle.store_walk.specs.Marks.{between, Offsets, noRow, alsoBetween, Marks, stamp, Walked}
+use Rattle.store_walk.proofs.Turns.{graph, parentAtRow, childAtRow, IsOffset, sizeAt, Has, has, Spread}
 
 -- ---- the scratch with some marks more
 
@@ -63,9 +64,9 @@ module _ {s : Store} {from : ℕ → Bool} {e : ℕ} {w : List ℕ} (f : Fits s)
   reach-marked : (i : ℕ) → i < s .objectCount → Reach s from i → Has e w i
   reach-marked i h r = eqb-true (getD w i 0) e (v .seen i h ∙ reached-all s from f r)
 
-  -- so that rows from marked objects lead to marked ones
-  pub marks-closed : (k : ℕ) → k < s .linkCount → Has e w (parentAtRow (s .links) k) → Has e w (childAtRow (s .links) k)
-  marks-closed k h t = reach-marked (childAtRow (s .links) k) (f .link k h .childUsed) (Reach.step (marked-reach (parentAtRow (s .links) k) (f .link k h .parentUsed) t) k h refl refl)
+  -- so that offsets of marked objects lead to marked ones
+  pub marks-closed : (k : ℕ) → k < s .linkCount → IsOffset (s .links) k → Has e w (parentAtRow (s .links) k) → Has e w (childAtRow (s .links) k)
+  marks-closed k h z t = reach-marked (childAtRow (s .links) k) (f .link k h .childUsed) (Reach.step (marked-reach (parentAtRow (s .links) k) (f .link k h .parentUsed) t) k h (is-of (parentOf s k) (linkAt s k) (eq-eqb (kindOf s k) 0 z) refl) refl)
 
 -- ---- after a walk
 
@@ -74,7 +75,7 @@ reach-of : {s : Store} {from : ℕ → Bool} {i : ℕ} → Reach (graph (s .link
 reach-of (Reach.seed k h a e) = Reach.seed k h a e
 reach-of (Reach.step r k h p e) = Reach.step (reach-of r) k h p e
 
-module _ {s : Store} {from : ℕ → Bool} {lo hi e : ℕ} {w w′ : List ℕ} {total : ℕ} (f : Fits s) (v : Marks s from e w) (d : Spread (s .objects) (s .links) (s .objectCount) (s .linkCount) lo hi e w w′ total) where
+module _ {s : Store} {from : ℕ → Bool} {lo hi e : ℕ} {w w′ : List ℕ} {total : ℕ} (f : Fits s) (v : Marks s from e w) (d : Spread (s .objects) (s .links) (s .objectCount) (s .linkCount) lo hi e w w′ total) (offsets : Offsets (s .links) lo hi) where
   kept : (i : ℕ) → i < s .objectCount → Has e w i → Has e w′ i
   kept i h t = ⊎-elim (λ q. q ∙ t) (λ q. q) (d .other i h)
 
@@ -87,8 +88,8 @@ module _ {s : Store} {from : ℕ → Bool} {lo hi e : ℕ} {w w′ : List ℕ} {
   reach-marks r =
       reach-all (Has e w′)
       (λ k l a. ⊎-elim (λ b. kept (childAtRow (s .links) k) (f .link k l .childUsed) (reach-marked f v (childAtRow (s .links) k) (f .link k l .childUsed) (Reach.seed k l b refl)))
-      (λ b. let (p, q) = and-both (leb lo k) (ltb k hi) b in d .seeds k (leb-true lo k p) (ltb-true k hi q)) (or-either (from k) (between lo hi k) a))
-      (d .closed) r
+      (λ b. let (p, q) = and-both (leb lo k) (ltb k hi) b in let x = leb-true lo k p in let y = ltb-true k hi q in d .seeds k x y (offsets k x y)) (or-either (from k) (between lo hi k) a))
+      (λ k l o. d .closed k l (eqb-true (kindOf s k) 0 o)) r
 
   -- what has the mark now
   seen-now : (i : ℕ) → i < s .objectCount → has e w′ i ≡ marked (reached s (alsoBetween from lo hi)) i

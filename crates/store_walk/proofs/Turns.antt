@@ -14,11 +14,12 @@ use borrow.Author.Tests.{le-leb, lt-leb, le-ltb, lt-ltb, eq-eqb, ne-eqb}
 use Rattle.folds.specs.Folds.{sum, before}
 use Rattle.folds.proofs.Tests.{and-intro, either}
 use Rattle.folds.proofs.Tally.{tally, count, tally-same, tally-one, tally-le}
-use Rattle.store_rules.specs.Store.{Store, perLink, rowParent, rowPosition, rowChild}
+use Rattle.store_rules.specs.Store.{Store, perLink, rowParent, rowChild, rowKind, linkAt}
 use Rattle.store_rules.specs.Reach.{Reach}
+use Rattle.store_rules.proofs.Shaped.{is-of}
 use Rattle.store_rules.proofs.Sound.{Fits}
-use Rattle.store_reader.specs.Rows.{keyOf, FirstRow}
-use Rattle.store_reader.proofs.Rows.{position-most}
+use Rattle.store_reader.specs.Rows.{keyOf, rowPlace, FirstRow}
+use Rattle.store_reader.proofs.Rows.{place-most}
 use Rattle.store_walk.specs.Marks.{between}
 use Rattle.store_walk.proofs.Ends.{zero-or, rows-start}
 use Rattle.store_walk.proofs.Stack.{In, Stacked, Popped, stack-apart, stack-push, stack-pop, stack-empty}
@@ -33,6 +34,10 @@ parentAtRow l k = getD l (perLink * k + rowParent) 0
 
 abbrev pub childAtRow : List ℕ → ℕ → ℕ
 childAtRow l k = getD l (perLink * k + rowChild) 0
+
+-- row k is an offset
+abbrev pub IsOffset : List ℕ → ℕ → Type 0
+IsOffset l k = getD l (perLink * k + rowKind) 0 ≡ 0
 
 abbrev pub sizeAt : List ℕ → ℕ → ℕ
 sizeAt o i = getD o (2 * i + 1) 0 - getD o (2 * i) 0
@@ -63,21 +68,21 @@ unread e w i = not (eqb (getD w i 0) e)
 abbrev EndsIn : List ℕ → ℕ → ℕ → List ℕ → Type 0
 EndsIn l m n w = (i : ℕ) → i < n → FirstRow l m (keyOf (i + 1) 0) (getD w (n + i) 0)
 
--- m link rows name objects below n, at positions of 32 bits
+-- m link rows name objects below n, at places of 32 bits
 pub record Used (l : List ℕ) (m n : ℕ) : Type 0 where
   pub parents : (k : ℕ) → k < m → parentAtRow l k < n
   pub children : (k : ℕ) → k < m → childAtRow l k < n
-  pub short : (k : ℕ) → k < m → getD l (perLink * k + rowPosition) 0 < 4294967296
+  pub short : (k : ℕ) → k < m → rowPlace l k < 4294967296
 
 pub used : (s : Store) → Fits s → Used (s .links) (s .linkCount) (s .objectCount)
-used s f = record { parents = λ k h. f .link k h .parentUsed; children = λ k h. f .link k h .childUsed; short = λ k h. omega (arith, position-most s f k h) }
+used s f = record { parents = λ k h. f .link k h .parentUsed; children = λ k h. f .link k h .childUsed; short = place-most s f }
 
 -- what can be reached is an object
 pub reach-used : {l : List ℕ} {m n i : ℕ} {from : ℕ → Bool} → Used l m n → Reach (graph l m) from i → i < n
 reach-used u (Reach.seed k h a e) = rw e at (u .children k h)
 reach-used u (Reach.step r k h p e) = rw e at (u .children k h)
 
--- at each turn: found are objects that had the mark or can be reached, each row from an object that has the mark leads to one that was found or
+-- at each turn: found are objects that had the mark or can be reached, each offset from an object that has the mark leads to one that was found or
 -- is still to come, the rest of the scratch is as it came, and the sum is the length of what was found
 pub record Inv (o l : List ℕ) (n m lo hi e : ℕ) (w₀ w : List ℕ) (total row stop top : ℕ) : Type 0 where
   pub long : length w ≡ length w₀
@@ -88,9 +93,9 @@ pub record Inv (o l : List ℕ) (n m lo hi e : ℕ) (w₀ w : List ℕ) (total r
   pub reaches : (i : ℕ) → In i stack → Reach (graph l m) (between lo hi) i
   pub other : (i : ℕ) → i < n → (getD w i 0 ≡ getD w₀ i 0) ⊎ Found e w i
   pub only : (i : ℕ) → i < n → Found e w i → Has e w₀ i ⊎ Reach (graph l m) (between lo hi) i
-  pub current : (k : ℕ) → row ≤ k → k < stop → Reach (graph l m) (between lo hi) (childAtRow l k)
-  pub seeds : (k : ℕ) → lo ≤ k → k < hi → Found e w (childAtRow l k) ⊎ Ahead row stop k
-  pub pending : (k : ℕ) → k < m → Has e w (parentAtRow l k) → Found e w (childAtRow l k) ⊎ Ahead row stop k
+  pub current : (k : ℕ) → row ≤ k → k < stop → IsOffset l k → Reach (graph l m) (between lo hi) (childAtRow l k)
+  pub seeds : (k : ℕ) → lo ≤ k → k < hi → IsOffset l k → Found e w (childAtRow l k) ⊎ Ahead row stop k
+  pub pending : (k : ℕ) → k < m → IsOffset l k → Has e w (parentAtRow l k) → Found e w (childAtRow l k) ⊎ Ahead row stop k
   pub outside : (i : ℕ) → n ≤ i → getD w i 0 ≡ getD w₀ i 0
   pub total-is : total + tally (sizeAt o) (found e w₀) n ≡ tally (sizeAt o) (found e w) n
 
@@ -99,8 +104,8 @@ pub record Spread (o l : List ℕ) (n m lo hi e : ℕ) (w₀ w : List ℕ) (tota
   pub long : length w ≡ length w₀
   pub other : (i : ℕ) → i < n → (getD w i 0 ≡ getD w₀ i 0) ⊎ Has e w i
   pub only : (i : ℕ) → i < n → Has e w i → Has e w₀ i ⊎ Reach (graph l m) (between lo hi) i
-  pub seeds : (k : ℕ) → lo ≤ k → k < hi → Has e w (childAtRow l k)
-  pub closed : (k : ℕ) → k < m → Has e w (parentAtRow l k) → Has e w (childAtRow l k)
+  pub seeds : (k : ℕ) → lo ≤ k → k < hi → IsOffset l k → Has e w (childAtRow l k)
+  pub closed : (k : ℕ) → k < m → IsOffset l k → Has e w (parentAtRow l k) → Has e w (childAtRow l k)
   pub outside : (i : ℕ) → n ≤ i → getD w i 0 ≡ getD w₀ i 0
   pub total-is : total + tally (sizeAt o) (has e w₀) n ≡ tally (sizeAt o) (has e w) n
 
@@ -125,7 +130,7 @@ module _ {l : List ℕ} {m n x row stop : ℕ} (u : Used l m n) (f : FirstRow l 
       omega arith
 
 module _ {o l : List ℕ} {n m lo hi e : ℕ} {w₀ : List ℕ} (latest : (i : ℕ) → i < n → getD w₀ i 0 ≤ e) where
-  pub start : hi ≤ m → ((k : ℕ) → k < m → Has e w₀ (parentAtRow l k) → Has e w₀ (childAtRow l k)) → Inv o l n m lo hi e w₀ w₀ 0 lo hi 0
+  pub start : hi ≤ m → ((k : ℕ) → k < m → IsOffset l k → Has e w₀ (parentAtRow l k) → Has e w₀ (childAtRow l k)) → Inv o l n m lo hi e w₀ w₀ 0 lo hi 0
   unfolding In Stacked
   start h closed = record {
     long = refl;
@@ -136,16 +141,16 @@ module _ {o l : List ℕ} {n m lo hi e : ℕ} {w₀ : List ℕ} (latest : (i : �
     reaches = λ i z. absurd z;
     other = λ i _. inl refl;
     only = λ i a f. inl (omega (arith, latest i a));
-    current = λ k a b. Reach.seed k (omega arith) (and-intro (leb lo k) (ltb k hi) (le-leb lo k a) (lt-ltb k hi b)) refl;
-    seeds = λ k a b. inr (a, b);
-    pending = λ k a t. inl (omega (arith, closed k a t));
+    current = λ k a b z. Reach.seed k (omega arith) (and-intro (leb lo k) (ltb k hi) (le-leb lo k a) (lt-ltb k hi b)) refl;
+    seeds = λ k a b z. inr (a, b);
+    pending = λ k a z t. inl (omega (arith, closed k a z t));
     outside = λ i a. refl;
     total-is = omega arith;
   }
 
   module _ {w : List ℕ} {total row stop top : ℕ} (v : Inv o l n m lo hi e w₀ w total row stop top) where
-    -- a row whose child was found
-    pub skip : Found e w (childAtRow l row) → Inv o l n m lo hi e w₀ w total (row + 1) stop top
+    -- a row whose child was found, or that is no offset
+    pub skip : (IsOffset l row → Found e w (childAtRow l row)) → Inv o l n m lo hi e w₀ w total (row + 1) stop top
     skip t = record {
       long = v .long;
       stop-le = v .stop-le;
@@ -155,15 +160,15 @@ module _ {o l : List ℕ} {n m lo hi e : ℕ} {w₀ : List ℕ} (latest : (i : �
       reaches = v .reaches;
       other = v .other;
       only = v .only;
-      current = λ k a b. v .current k (omega arith) b;
-      seeds = λ k a b. ⊎-elim inl (past k) (v .seeds k a b);
-      pending = λ k a p. ⊎-elim inl (past k) (v .pending k a p);
+      current = λ k a b z. v .current k (omega arith) b z;
+      seeds = λ k a b z. ⊎-elim inl (past k z) (v .seeds k a b z);
+      pending = λ k a z p. ⊎-elim inl (past k z) (v .pending k a z p);
       outside = v .outside;
       total-is = v .total-is;
     }
       where
-        past : (k : ℕ) → Ahead row stop k → Found e w (childAtRow l k) ⊎ Ahead (row + 1) stop k
-        past k a = ⊎-elim (λ q. inl (rw (← q) t)) (λ b. inr (omega arith)) (eq-or-lt-of-le (a .0))
+        past : (k : ℕ) → IsOffset l k → Ahead row stop k → Found e w (childAtRow l k) ⊎ Ahead (row + 1) stop k
+        past k z a = ⊎-elim (λ q. inl (subst (λ (x : ℕ). IsOffset l x → Found e w (childAtRow l x)) q t z)) (λ b. inr (omega arith)) (eq-or-lt-of-le (a .0))
 
     -- an object that can be reached and was not found gets the mark, or a number above it
     module _ {c x : ℕ} (big : 2 * n ≤ length w₀) (c< : c < n) (rc : Reach (graph l m) (between lo hi) c) (low : getD w c 0 < e) (high : e ≤ x) where
@@ -193,9 +198,9 @@ module _ {o l : List ℕ} {n m lo hi e : ℕ} {w₀ : List ℕ} (latest : (i : �
         other = λ i a. ⊎-elim (λ q. inr (rw q (omega (arith, here)))) (λ q. ⊎-elim (λ z. inl (q ∙ z)) (λ t. inr (more i t)) (v .other i a)) (at i);
         only = λ i a t. ⊎-elim (λ q. inr (rw q rc)) (λ q. v .only i a (omega arith)) (at i);
         current = v .current;
-        seeds = λ k a b. ⊎-elim (λ t. inl (more (childAtRow l k) t)) inr (v .seeds k a b);
-        pending = λ k a t. ⊎-elim (λ q. absurd (none k a q (sym here ∙ ap (λ (i : ℕ). getD marked i 0) (sym q) ∙ t)))
-            (λ q. ⊎-elim (λ p. inl (more (childAtRow l k) p)) inr (v .pending k a (sym q ∙ t))) (at (parentAtRow l k));
+        seeds = λ k a b z. ⊎-elim (λ t. inl (more (childAtRow l k) t)) inr (v .seeds k a b z);
+        pending = λ k a z t. ⊎-elim (λ q. absurd (none k a q (sym here ∙ ap (λ (i : ℕ). getD marked i 0) (sym q) ∙ t)))
+            (λ q. ⊎-elim (λ p. inl (more (childAtRow l k) p)) inr (v .pending k a z (sym q ∙ t))) (at (parentAtRow l k));
         outside = λ i a. getD-set-other w c i x 0 (omega arith) ∙ v .outside i a;
         total-is = omega (arith, grown, v .total-is);
       }
@@ -254,12 +259,12 @@ module _ {o l : List ℕ} {n m lo hi e : ℕ} {w₀ : List ℕ} (latest : (i : �
     top-few u = ⊎-elim (λ q. omega arith) (λ h. omega (arith, reach-used u (v .reaches (top - 1) (stack-pop e w top (v .stack) h (v .stacked) .is-in)))) (zero-or top)
 
     -- a row whose child was not found
-    module _ (u : Used l m n) (big : 2 * n ≤ length w₀) (h : row < stop) (low : getD w (childAtRow l row) 0 < e) where
+    module _ (u : Used l m n) (big : 2 * n ≤ length w₀) (h : row < stop) (z : IsOffset l row) (low : getD w (childAtRow l row) 0 < e) where
       child< : childAtRow l row < n
       child< = u .children row (omega (arith, v .stop-le))
 
       pub push-unread : count (unread e (set w (childAtRow l row) (e + 1 + top))) n ≡ count (unread e w) n
-      push-unread = high-unread big child< (v .current row (omega arith) h) low (omega arith) (omega arith)
+      push-unread = high-unread big child< (v .current row (omega arith) h z) low (omega arith) (omega arith)
 
     -- the last of the stack leaves it and gets the mark, and its rows are walked
     module _ (u : Used l m n) (big : 2 * n ≤ length w₀) (some : 0 < top) where
@@ -305,10 +310,10 @@ module _ {o l : List ℕ} {n m lo hi e : ℕ} {w₀ : List ℕ} (latest : (i : �
         reaches = λ i z. v .reaches i (p .fewer i z);
         other = λ i a. ⊎-elim (λ q. inr (rw q (omega (arith, at-top)))) (λ q. ⊎-elim (λ z. inl (q ∙ z)) (λ t. inr (kept i t)) (v .other i a)) (apart i);
         only = λ i a t. v .only i a (was i t);
-        current = λ k a b. let (d, q) = of-parent u f g k a b in Reach.step top-reached k d q refl;
-        seeds = λ k a b. ⊎-elim (λ t. inl (kept (childAtRow l k) t)) (λ z. absurd (omega arith)) (v .seeds k a b);
-        pending = λ k a t. ⊎-elim (λ q. inr (parent-in u f g k a (sym q)))
-            (λ q. ⊎-elim (λ z. inl (kept (childAtRow l k) z)) (λ z. absurd (omega arith)) (v .pending k a (sym q ∙ t))) (apart (parentAtRow l k));
+        current = λ k a b z. let (d, q) = of-parent u f g k a b in Reach.step top-reached k d (is-of (top - 1) (linkAt (graph l m) k) (eq-eqb _ 0 z) q) refl;
+        seeds = λ k a b z. ⊎-elim (λ t. inl (kept (childAtRow l k) t)) (λ y. absurd (omega arith)) (v .seeds k a b z);
+        pending = λ k a z t. ⊎-elim (λ q. inr (parent-in u f g k a (sym q)))
+            (λ q. ⊎-elim (λ y. inl (kept (childAtRow l k) y)) (λ y. absurd (omega arith)) (v .pending k a z (sym q ∙ t))) (apart (parentAtRow l k));
         outside = λ i a. getD-set-other w (top - 1) i e 0 (omega (arith, top-used)) ∙ v .outside i a;
         total-is = omega (arith, v .total-is, tally-same (sizeAt o) (found e popped) (found e w) n same);
       }
@@ -329,8 +334,8 @@ module _ {o l : List ℕ} {n m lo hi e : ℕ} {w₀ : List ℕ} (latest : (i : �
       long = v .long;
       other = λ i a. ⊎-elim inl (λ t. inr (settled i a t)) (v .other i a);
       only = λ i a t. v .only i a (omega arith);
-      seeds = λ k a b. ⊎-elim (λ t. settled (childAtRow l k) (u .children k (omega arith)) t) (λ z. absurd (omega arith)) (v .seeds k a b);
-      closed = λ k a t. ⊎-elim (λ z. settled (childAtRow l k) (u .children k a) z) (λ z. absurd (omega arith)) (v .pending k a t);
+      seeds = λ k a b z. ⊎-elim (λ t. settled (childAtRow l k) (u .children k (omega arith)) t) (λ y. absurd (omega arith)) (v .seeds k a b z);
+      closed = λ k a z t. ⊎-elim (λ y. settled (childAtRow l k) (u .children k a) y) (λ y. absurd (omega arith)) (v .pending k a z t);
       outside = v .outside;
       total-is = omega (arith, v .total-is, tally-same (sizeAt o) (found e w₀) (has e w₀) n at-first, tally-same (sizeAt o) (found e w) (has e w) n at-last);
     }
@@ -354,15 +359,15 @@ module _ {o l : List ℕ} {n m lo hi e : ℕ} {w₀ : List ℕ} (latest : (i : �
     pub total-most : sum (sizeAt o) n ≤ 16777216 → total ≤ 16777216
     total-most h = omega (arith, v .total-is, tally-le (sizeAt o) (found e w) n)
 
-  pub push : {w : List ℕ} {total row stop top : ℕ} → Inv o l n m lo hi e w₀ w total row stop top → Used l m n → 2 * n ≤ length w₀ → row < stop → getD w (childAtRow l row) 0 < e
+  pub push : {w : List ℕ} {total row stop top : ℕ} → Inv o l n m lo hi e w₀ w total row stop top → Used l m n → 2 * n ≤ length w₀ → row < stop → IsOffset l row → getD w (childAtRow l row) 0 < e
       → Inv o l n m lo hi e w₀ (set w (childAtRow l row) (e + 1 + top)) (total + sizeAt o (childAtRow l row)) (row + 1) stop (childAtRow l row + 1)
-  push {w} {row = row} {top = top} v u big h low =
-      let c< : childAtRow l row < n = child< v u big h low in
-      skip (stack-mark v big c< (v .current row (omega arith) h) low)
-      (omega (arith, getD-set-same w (childAtRow l row) (e + 1 + top) 0 (omega (arith, v .long))))
+  push {w} {row = row} {top = top} v u big h z low =
+      let c< : childAtRow l row < n = child< v u big h z low in
+      skip (stack-mark v big c< (v .current row (omega arith) h z) low)
+      (λ _. omega (arith, getD-set-same w (childAtRow l row) (e + 1 + top) 0 (omega (arith, v .long))))
 
   -- a row whose child has no rows, found or not
-  module _ {w : List ℕ} {total row stop top : ℕ} (v : Inv o l n m lo hi e w₀ w total row stop top) (u : Used l m n) (big : 2 * n ≤ length w₀) (h : row < stop) where
+  module _ {w : List ℕ} {total row stop top : ℕ} (v : Inv o l n m lo hi e w₀ w total row stop top) (u : Used l m n) (big : 2 * n ≤ length w₀) (h : row < stop) (z : IsOffset l row) where
     abbrev c : ℕ
     c = childAtRow l row
 
@@ -372,13 +377,13 @@ module _ {o l : List ℕ} {n m lo hi e : ℕ} {w₀ : List ℕ} (latest : (i : �
     pub leaf : ((k : ℕ) → k < m → parentAtRow l k ≡ c → ⊥) → Inv o l n m lo hi e w₀ (set w c (max (getD w c 0) e)) (total + cond (ltb (getD w c 0) e) (sizeAt o c) 0) (row + 1) stop top
     leaf none =
         by-found e w c (sizeAt o c) (λ w′ x. Inv o l n m lo hi e w₀ w′ (total + x) (row + 1) stop top)
-        (λ low. skip (leaf-mark v big leaf-used (v .current row (omega arith) h) low none) (omega (arith, getD-set-same w c e 0 (omega (arith, v .long, leaf-used)))))
-        (λ t. let z : total + 0 ≡ total = omega arith in rw z (skip v t))
+        (λ low. skip (leaf-mark v big leaf-used (v .current row (omega arith) h z) low none) (λ _. omega (arith, getD-set-same w c e 0 (omega (arith, v .long, leaf-used)))))
+        (λ t. let y : total + 0 ≡ total = omega arith in rw y (skip v (λ _. t)))
 
     pub leaf-unread : count (unread e (set w c (max (getD w c 0) e))) n ≤ count (unread e w) n
     leaf-unread =
         by-found e w c (sizeAt o c) (λ w′ x. count (unread e w′) n ≤ count (unread e w) n)
-        (λ low. omega (arith, mark-unread v big leaf-used (v .current row (omega arith) h) low (omega arith) refl))
+        (λ low. omega (arith, mark-unread v big leaf-used (v .current row (omega arith) h z) low (omega arith) refl))
         (λ t. omega arith)
 
 -- the measure falls with a row

@@ -8,13 +8,17 @@ use mathlib.Core.Path.{_≡_}
 use lib.Dec.{leb, ltb, eqb}
 use lib.ListN.{length, getD, set}
 use Rattle.folds.specs.Lists.{among}
-use Rattle.store_rules.specs.Store.{Store, lent, perLink, rowParent, linkAt, positionOf, sound, offsetOf}
+use Rattle.store_rules.specs.Store.{Store, lent, perLink, rowParent, rowKind, linkAt, positionOf, sound, offsetOf}
 use Rattle.store_rules.specs.Reach.{marked, reached, reachSize}
 use Rattle.store_reader.specs.Rows.{keyOf, FirstRow}
 
 -- row k is one of those from lo up to hi, hi left out
 abbrev pub between : ℕ → ℕ → ℕ → Bool
 between lo hi k = leb lo k && ltb k hi
+
+-- the rows from lo up to hi are offsets
+abbrev pub Offsets : List ℕ → ℕ → ℕ → Type 0
+Offsets l lo hi = (k : ℕ) → lo ≤ k → k < hi → getD l (perLink * k + rowKind) 0 ≡ 0
 
 -- no row
 abbrev pub noRow : ℕ → Bool
@@ -98,3 +102,6 @@ Back s t row w = ltb 0 (getD w t 0) ≡ marked (reached s (ownBefore s t row)) t
 pub record Begun (s : Store) (t q : ℕ) (w : List ℕ) : Type 0 where
   pub marks : Marks s noRow 2 w
   pub back : (row : ℕ) → FirstRow (s .links) (s .linkCount) (keyOf t q) row → Back s t row w
+  -- the first row that was not walked
+  pub next : ℕ
+  pub next-is : FirstRow (s .links) (s .linkCount) (keyOf t q) next

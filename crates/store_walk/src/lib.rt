@@ -10,7 +10,8 @@ ghost use lib.Dec.{ltb, eqb};
 ghost use Rattle.folds.specs.Folds.{before};
 ghost use Rattle.store_rules.specs.Store.{lent, sound};
 ghost use Rattle.folds.specs.Moments.{came, left};
-ghost use Rattle.store_walk.specs.Marks.{noRow, Blank, Lasts, Prepared, WalkReady, Walks, Begun};
+ghost use Rattle.store_reader.specs.Rows.{orders};
+ghost use Rattle.store_walk.specs.Marks.{noRow, Offsets, Blank, Lasts, Prepared, WalkReady, Walks, Begun};
 
 // Prepares the scratch, which may hold anything: no object has a mark, and the row where each object's rows end is at hand.
 pub fn prepare(links: &[u32], counts: [u32; 3], walk: &mut [u32])
@@ -89,8 +90,8 @@ fn later(mark: u32, epoch: u32) -> u32
     if mark < epoch { epoch } else { mark }
 }
 
-// The length of all objects that can be reached from the children of the link rows `lo` up to `hi` and have not the mark `epoch` yet; each is
-// counted once. Those whose rows are still to come are a stack: `top` is one more than the last of them, 0 where there is none, and each has
+// The length of all objects that can be reached, along offsets, from the children of the link rows `lo` up to `hi` and have not the mark `epoch` yet; each is
+// counted once, and order-only rows are passed over. Those whose rows are still to come are a stack: `top` is one more than the last of them, 0 where there is none, and each has
 // in the place of its mark one more than the epoch and the `top` that it found. An object with no rows gets its mark at once.
 pub fn subgraph_size(
     objects: &[u32],
@@ -101,7 +102,7 @@ pub fn subgraph_size(
     epoch: u32,
     walk: &mut [u32],
 ) -> u64
-    requires { ⌜ (hi ≤ getD counts 2 0) × ((from : ℕ → Bool) × WalkReady (now objects) (now links) counts from epoch (now walk)) ⌝ }
+    requires { ⌜ (hi ≤ getD counts 2 0) × ((from : ℕ → Bool) × WalkReady (now objects) (now links) counts from epoch (now walk)) × Offsets (now links) lo hi ⌝ }
     ensures { λ r. ⌜ Walks (came objects) (came links) counts lo hi epoch (came walk) (left walk) r ⌝ }
 {
     let mut sum: u64 = 0;
@@ -110,19 +111,22 @@ pub fn subgraph_size(
     let mut top: u32 = 0;
     loop {
         if row < stop {
+            let kind = links[store_reader::PER_LINK * row + store_reader::KIND];
             let child = links[store_reader::PER_LINK * row + store_reader::CHILD];
             let c = child as usize;
             row += 1;
             let mark = walk[c];
             let n = counts[1] as usize;
-            if has_no_rows(walk, n, c) {
-                let size = store_reader::size_of(objects, c);
-                sum += added(size, mark, epoch) as u64;
-                walk[c] = later(mark, epoch);
-            } else if mark < epoch {
-                walk[c] = epoch + 1 + top;
-                top = child + 1;
-                sum += store_reader::size_of(objects, c) as u64;
+            if kind == 0 {
+                if has_no_rows(walk, n, c) {
+                    let size = store_reader::size_of(objects, c);
+                    sum += added(size, mark, epoch) as u64;
+                    walk[c] = later(mark, epoch);
+                } else if mark < epoch {
+                    walk[c] = epoch + 1 + top;
+                    top = child + 1;
+                    sum += store_reader::size_of(objects, c) as u64;
+                }
             }
         } else {
             if top == 0 {
@@ -148,7 +152,7 @@ fn walk_before(
     end: u32,
     walk: &mut [u32],
 )
-    requires { ⌜ (table < getD counts 1 0) × WalkReady (now objects) (now links) counts noRow 1 (now walk) ⌝ }
+    requires { ⌜ (table < getD counts 1 0) × WalkReady (now objects) (now links) counts noRow 1 (now walk) × (end ≤ orders) ⌝ }
     ensures { λ _. ⌜ ((b : List ℕ) → Begun (lent b (came objects) (came links) counts) table end (left walk)) ⌝ }
 {
     let n = counts[1] as usize;
@@ -168,7 +172,7 @@ pub fn begin_walk(
     walk: &mut [u32],
 )
     requires { ⌜ ((b : List ℕ) × (sound (lent b (now objects) (now links) counts) ≡ true)) ⌝ }
-    requires { ⌜ (table < getD counts 1 0) × (2 * getD counts 1 0 ≤ length (now walk)) ⌝ }
+    requires { ⌜ (table < getD counts 1 0) × (2 * getD counts 1 0 ≤ length (now walk)) × (end ≤ orders) ⌝ }
     ensures { λ _. ⌜ ((b : List ℕ) → Begun (lent b (came objects) (came links) counts) table end (left walk)) ⌝ }
 {
     prepare(links, counts, walk);

@@ -15,7 +15,7 @@ walk-before-requires c κs =
     let prepared = c .before .before .before in
     let start = prepared .before .before .before .before .before in
     let (b, is-sound) = start .pre .0 in
-    (start .pre .1 .0, record { bytes = b; is-sound = is-sound; marks = prepared .prepare .ensures b (now (start .args .objects)) is-sound; early = omega arith })
+    (start .pre .1 .0, record { bytes = b; is-sound = is-sound; marks = prepared .prepare .ensures b (now (start .args .objects)) is-sound; early = omega arith }, start .pre .1 .2)
 
 pub begin-walk-spec : {M : Type 1} → statement M
 begin-walk-spec = tie.close (tie.spec prepare-requires walk-before-requires (λ c. search needs) (λ c. search needs))

@@ -1,15 +1,15 @@
 -- `store_walk::row_ends` meets its contract: an object's rows end behind its last one, or where they start. Assumes nothing.
-use Prim.Native.Nat.{ℕ, _+_, _-_, _*_, _<_}
+use Prim.Native.Nat.{_+_, _-_}
 use mathlib.Core.Logic.{⊎-elim}
 use mathlib.Core.Path.{sym, subst, _∙_}
 use native.Mathlib.Omega.{arith}
 use lib.ListN.{getD}
 use denote.Ref.{now}
 use borrow.Author.Needs.{needs}
-use Rattle.store_rules.specs.Store.{lent, perLink, rowPosition}
+use Rattle.store_rules.specs.Store.{lent}
 use Rattle.store_rules.proofs.Sound.{Fits, sound-fits}
 use Rattle.store_reader.specs.Rows.{keyOf, FirstRow}
-use Rattle.store_reader.proofs.Rows.{in-order, position-most}
+use Rattle.store_reader.proofs.Rows.{in-order}
 use Rattle.store_walk.specs.Marks.{LastOf}
 use Rattle.store_walk.proofs.Ends.{Ended, none-ended, ended-more, end-moves, end-stays}
 use Rattle.store_walk.proofs.Marks.{marks-fresh}
@@ -43,10 +43,9 @@ next c =
     let h = c .before .before .loop-test .taken in
     let v = a .loop .inv in
     let last : LastOf l m i (getD (a .loop .walk) (n + i) 0) = subst (LastOf l m i) (sym (v .rest i (omega arith) h)) (s .pre .1 .lasts i h) in
-    let short : (k : ℕ) → k < m → getD l (perLink * k + rowPosition) 0 < 4294967296 = λ k g. omega (arith, position-most x (fit s) k g) in
     ⊎-elim
-    (λ t. subst (FirstRow l m (keyOf (i + 1) 0)) (sym (t .1)) (end-moves (in-order x (fit s)) short (v .start) last (t .0 .taken)))
-    (λ t. subst (FirstRow l m (keyOf (i + 1) 0)) (sym (t .1)) (end-stays (in-order x (fit s)) short (v .start) last (t .0 .left)))
+    (λ t. subst (FirstRow l m (keyOf (i + 1) 0)) (sym (t .1)) (end-moves (in-order x (fit s)) (v .start) last (t .0 .taken)))
+    (λ t. subst (FirstRow l m (keyOf (i + 1) 0)) (sym (t .1)) (end-stays (in-order x (fit s)) (v .start) last (t .0 .left)))
     (c .if1 .came)
 
 loop-holds : tie.Need-loop-holds Inv-loop μ-loop

@@ -16,7 +16,7 @@ use Rattle.store_rules.proofs.Sound.{Fits, sound-fits, sizes-most}
 use Rattle.store_reader.specs.Rows.{keyOf, FirstRow}
 use Rattle.store_walk.proofs.Ends.{rows-start}
 use Rattle.store_walk.proofs.Marks.{marks-closed, walked, marks-bytes, walked-bytes}
-use Rattle.store_walk.proofs.Turns.{Inv, Used, used, childAtRow, sizeAt, unread, start, skip, rowless, leaf, leaf-unread, push, push-unread}
+use Rattle.store_walk.proofs.Turns.{Inv, Used, used, childAtRow, IsOffset, sizeAt, unread, start, skip, rowless, leaf, leaf-unread, push, push-unread}
 use Rattle.store_walk.proofs.Turns.{pop, pop-ends, pop-unread, top-used, top-high, top-few, done, total-most, falls, falls-row}
 use Rattle.store_walk.proofs.subgraph_size.Statement.{statement}
 use Rattle.store_walk.proofs.subgraph_size.Tie as tie
@@ -44,10 +44,14 @@ child c = use-of (begin (c .before)) .children (c .before .loop .row) (omega ari
 
 -- the row's start, from where it is known whether its child has rows
 abbrev then1 : tie.After-has-no-rows Inv-loop μ-loop → tie.Then1 Inv-loop μ-loop
-then1 c = c .before .before .before .before
+then1 c = c .before .before .before .before .before .before
+
+-- and that the row is an offset
+abbrev own : (c : tie.After-has-no-rows Inv-loop μ-loop) → IsOffset (now (begin (then1 c .before) .args .links)) (then1 c .before .loop .row)
+own c = c .before .before .if2 .taken
 
 -- what holds once the row's child, which has no rows, has the mark
-marked : (c : tie.Then2 Inv-loop μ-loop) → (let a = then1 (c .before) .before in let x = begin a .args in let d = childAtRow (now (x .links)) (a .loop .row) in
+marked : (c : tie.Then3 Inv-loop μ-loop) → (let a = then1 (c .before) .before in let x = begin a .args in let d = childAtRow (now (x .links)) (a .loop .row) in
     Inv (now (x .objects)) (now (x .links)) (getD (x .t3) 1 0) (getD (x .t3) 2 0) (x .lo) (x .hi) (x .epoch) (now (x .walk))
     (set (a .loop .walk) d (max (getD (a .loop .walk) d 0) (x .epoch))) (a .loop .sum + cond (ltb (getD (a .loop .walk) d 0) (x .epoch)) (sizeAt (now (x .objects)) d) 0)
     (a .loop .row + 1) (a .loop .stop) (a .loop .top))
@@ -56,8 +60,8 @@ marked c =
     let a = t .before in
     let s = begin a in
     let m = s .pre .1 .1 .marks in
-    leaf (m .latest) (a .loop .inv) (use-of s) (m .room) (t .if1 .taken)
-    (rowless (m .latest) (a .loop .inv) (use-of s) (m .ends) (child t) (eqb-true _ _ (rw (c .before .has-no-rows .ensures) at (c .if2 .taken))))
+    leaf (m .latest) (a .loop .inv) (use-of s) (m .room) (t .if1 .taken) (own (c .before))
+    (rowless (m .latest) (a .loop .inv) (use-of s) (m .ends) (child t) (eqb-true _ _ (rw (c .before .has-no-rows .ensures) at (c .if3 .taken))))
 
 -- and what it adds
 adds : (c : tie.After-added Inv-loop μ-loop) → (let a = then1 (c .before .before .before) .before in let x = begin a .args in let d = childAtRow (now (x .links)) (a .loop .row) in
@@ -65,14 +69,14 @@ adds : (c : tie.After-added Inv-loop μ-loop) → (let a = then1 (c .before .bef
 adds c = rw (c .before .size-of .ensures) at (c .added .ensures)
 
 -- what holds once the row's child, which was not found yet, stands in the stack
-entered : (c : tie.Then3 Inv-loop μ-loop) → (let a = then1 (c .before .before) .before in let x = begin a .args in let d = childAtRow (now (x .links)) (a .loop .row) in
+entered : (c : tie.Then4 Inv-loop μ-loop) → (let a = then1 (c .before .before) .before in let x = begin a .args in let d = childAtRow (now (x .links)) (a .loop .row) in
     Inv (now (x .objects)) (now (x .links)) (getD (x .t3) 1 0) (getD (x .t3) 2 0) (x .lo) (x .hi) (x .epoch) (now (x .walk))
     (set (a .loop .walk) d (x .epoch + 1 + a .loop .top)) (a .loop .sum + sizeAt (now (x .objects)) d) (a .loop .row + 1) (a .loop .stop) (d + 1))
 entered c =
     let t = then1 (c .before .before) in
     let a = t .before in
     let s = begin a in
-    push (s .pre .1 .1 .marks .latest) (a .loop .inv) (use-of s) (s .pre .1 .1 .marks .room) (t .if1 .taken) (c .if3 .taken)
+    push (s .pre .1 .1 .marks .latest) (a .loop .inv) (use-of s) (s .pre .1 .1 .marks .room) (t .if1 .taken) (own (c .before .before)) (c .if4 .taken)
 
 -- what its length is read from
 sized : (t : tie.Then1 Inv-loop μ-loop) → (let x = begin (t .before) .args in let o = now (x .objects) in let d = childAtRow (now (x .links)) (t .before .loop .row) in
@@ -87,20 +91,20 @@ sizes : (s : tie.Start Inv-loop μ-loop) → sum (sizeAt (now (s .args .objects)
 sizes s = sizes-most (lent (s .pre .1 .1 .bytes) (now (s .args .objects)) (now (s .args .links)) (s .args .t3)) (fit s)
 
 -- the stack's last object
-parent-used : (c : tie.Else4 Inv-loop μ-loop) → (let a = c .before .before in a .loop .top - 1 < getD (begin a .args .t3) 1 0)
+parent-used : (c : tie.Else5 Inv-loop μ-loop) → (let a = c .before .before in a .loop .top - 1 < getD (begin a .args .t3) 1 0)
 parent-used c =
     let a = c .before .before in
     let m = begin a .pre .1 .1 .marks in
     top-used (m .latest) (a .loop .inv) (use-of (begin a)) (m .room) (omega arith)
 
-parent-high : (c : tie.Else4 Inv-loop μ-loop) → (let a = c .before .before in begin a .args .epoch < getD (a .loop .walk) (a .loop .top - 1) 0)
+parent-high : (c : tie.Else5 Inv-loop μ-loop) → (let a = c .before .before in begin a .args .epoch < getD (a .loop .walk) (a .loop .top - 1) 0)
 parent-high c =
     let a = c .before .before in
     let m = begin a .pre .1 .1 .marks in
     top-high (m .latest) (a .loop .inv) (use-of (begin a)) (m .room) (omega arith)
 
 -- its rows end where the scratch says, with its own mark set
-ends : (c : tie.Else4 Inv-loop μ-loop) → (let a = c .before .before in let x = begin a .args in
+ends : (c : tie.Else5 Inv-loop μ-loop) → (let a = c .before .before in let x = begin a .args in
     (i : ℕ) → i < getD (x .t3) 1 0 → FirstRow (now (x .links)) (getD (x .t3) 2 0) (keyOf (i + 1) 0) (getD (set (a .loop .walk) (a .loop .top - 1) (x .epoch)) (getD (x .t3) 1 0 + i) 0))
 ends c =
     let a = c .before .before in
@@ -122,33 +126,45 @@ loop-holds c =
     let s = c .before .before .before in
     start (s .pre .1 .1 .marks .latest) (s .pre .0) (marks-closed (fit s) (s .pre .1 .1 .marks))
 
+mul-kind : tie.Need-mul-kind Inv-loop μ-loop
+mul-kind c = omega (arith, fit (begin (c .before)) .linksMost)
+
+add-kind : tie.Need-add-kind Inv-loop μ-loop
+add-kind c = omega (arith, fit (begin (c .before)) .linksMost)
+
+mul-kind-2 : tie.Need-mul-kind-2 Inv-loop μ-loop
+mul-kind-2 c = omega (arith, fit (begin (c .before)) .linksMost)
+
+shared-slice-read-kind : tie.Need-shared-slice-read-kind Inv-loop μ-loop
+shared-slice-read-kind c = omega (arith, fit (begin (c .before .before)) .linksIn)
+
 mul-child : tie.Need-mul-child Inv-loop μ-loop
-mul-child c = omega (arith, fit (begin (c .before)) .linksMost)
+mul-child c = omega (arith, fit (begin (c .before .before)) .linksMost)
 
 add-child : tie.Need-add-child Inv-loop μ-loop
-add-child c = omega (arith, fit (begin (c .before)) .linksMost)
+add-child c = omega (arith, fit (begin (c .before .before)) .linksMost)
 
 mul-child-2 : tie.Need-mul-child-2 Inv-loop μ-loop
-mul-child-2 c = omega (arith, fit (begin (c .before)) .linksMost)
+mul-child-2 c = omega (arith, fit (begin (c .before .before)) .linksMost)
 
 shared-slice-read-child : tie.Need-shared-slice-read-child Inv-loop μ-loop
-shared-slice-read-child c = omega (arith, fit (begin (c .before .before)) .linksIn)
+shared-slice-read-child c = omega (arith, fit (begin (c .before .before .before)) .linksIn)
 
 cast-c : tie.Need-cast-c Inv-loop μ-loop
-cast-c c = omega (arith, child (c .before))
+cast-c c = omega (arith, child (c .before .before))
 
 add-row : tie.Need-add-row Inv-loop μ-loop
-add-row c = omega (arith, fit (begin (c .before .before)) .linksMost)
+add-row c = omega (arith, fit (begin (c .before .before .before)) .linksMost)
 
 mul-mark : tie.Need-mul-mark Inv-loop μ-loop
-mul-mark c = omega (arith, child (c .before), fit (begin (c .before .before)) .objectsMost)
+mul-mark c = omega (arith, child (c .before .before), fit (begin (c .before .before .before)) .objectsMost)
 
 slice-read-mark : tie.Need-slice-read-mark Inv-loop μ-loop
-slice-read-mark c = omega (arith, child (c .before .before))
+slice-read-mark c = omega (arith, child (c .before .before .before))
 
 has-no-rows-requires : tie.Need-has-no-rows-requires Inv-loop μ-loop
 has-no-rows-requires c κs =
-    let t = c .before .before .before in
+    let t = c .before .before .before .before .before in
     let a = t .before in
     let s = begin a in
     (omega (arith, child t, a .loop .inv .long, s .pre .1 .1 .marks .room), omega (arith, child t, fit s .objectsMost))
@@ -177,7 +193,7 @@ loop-less c =
     let x = begin a .args in
     let p = begin a .pre .1 .1 .marks in
     rw (c .later .ensures)
-    (falls-row (getD (x .t3) 2 0) _ _ (a .loop .row) (a .loop .stop) (leaf-unread (p .latest) (a .loop .inv) (use-of (begin a)) (p .room) (t .if1 .taken)) (t .if1 .taken))
+    (falls-row (getD (x .t3) 2 0) _ _ (a .loop .row) (a .loop .stop) (leaf-unread (p .latest) (a .loop .inv) (use-of (begin a)) (p .room) (t .if1 .taken) (own (c .before .before .before .before))) (t .if1 .taken))
 
 loop-again : tie.Need-loop-again Inv-loop μ-loop
 loop-again c = rw (adds (c .before), c .later .ensures) (marked (c .before .before .before))
@@ -218,7 +234,7 @@ loop-less-2 c =
     let a = t .before in
     let s = begin a in
     let m = getD (s .args .t3) 2 0 in
-    omega (arith, ap (λ (x : ℕ). x * (m + 1)) (push-unread (s .pre .1 .1 .marks .latest) (a .loop .inv) (use-of s) (s .pre .1 .1 .marks .room) (t .if1 .taken) (c .before .if3 .taken)))
+    omega (arith, ap (λ (x : ℕ). x * (m + 1)) (push-unread (s .pre .1 .1 .marks .latest) (a .loop .inv) (use-of s) (s .pre .1 .1 .marks .room) (t .if1 .taken) (own (c .before .before .before)) (c .before .if4 .taken)))
 
 loop-again-2 : tie.Need-loop-again-2 Inv-loop μ-loop
 loop-again-2 c = rw (c .size-of2 .ensures) (entered (c .before))
@@ -229,7 +245,15 @@ loop-less-3 c = omega arith
 loop-again-3 : tie.Need-loop-again-3 Inv-loop μ-loop
 loop-again-3 c =
     let a = then1 (c .before .before) .before in
-    skip (begin a .pre .1 .1 .marks .latest) (a .loop .inv) (omega arith)
+    skip (begin a .pre .1 .1 .marks .latest) (a .loop .inv) (λ _. omega arith)
+
+loop-less-4 : tie.Need-loop-less-4 Inv-loop μ-loop
+loop-less-4 c = omega arith
+
+loop-again-4 : tie.Need-loop-again-4 Inv-loop μ-loop
+loop-again-4 c =
+    let a = c .before .before .before .before .before in
+    skip (begin a .pre .1 .1 .marks .latest) (a .loop .inv) (λ z. absurd (c .if2 .left z))
 
 same-length : tie.Need-same-length Inv-loop μ-loop
 same-length c = c .before .before .loop .inv .long
@@ -243,7 +267,7 @@ returns c =
     let k = s .args .t3 in
     λ b from v.
     walked-bytes (s .pre .1 .1 .bytes) b o l k
-    (walked (fit s) (marks-bytes b (s .pre .1 .1 .bytes) o l k v) (done (s .pre .1 .1 .marks .latest) (a .loop .inv) (use-of s) (s .pre .0) (c .before .if1 .left) (c .if4 .taken)))
+    (walked (fit s) (marks-bytes b (s .pre .1 .1 .bytes) o l k v) (done (s .pre .1 .1 .marks .latest) (a .loop .inv) (use-of s) (s .pre .0) (c .before .if1 .left) (c .if5 .taken)) (s .pre .2))
 
 sub-parent : tie.Need-sub-parent Inv-loop μ-loop
 sub-parent c = omega arith
@@ -296,8 +320,8 @@ cast-stop c =
     let b = c .before .before .before .before in
     omega (arith, ends b (b .before .before .loop .top - 1) (parent-used b) .within, fit (begin (b .before .before)) .linksMost)
 
-loop-less-4 : tie.Need-loop-less-4 Inv-loop μ-loop
-loop-less-4 c =
+loop-less-5 : tie.Need-loop-less-5 Inv-loop μ-loop
+loop-less-5 c =
     let b = c .before .before .before .before in
     let a = b .before .before in
     let x = begin a .args in
@@ -307,8 +331,8 @@ loop-less-4 c =
     falls (getD (x .t3) 2 0) (count (unread (x .epoch) (a .loop .walk)) n) (count (unread (x .epoch) w) n) (c .before .first-row-of .result) (getD w (n + (a .loop .top - 1)) 0) (a .loop .stop - a .loop .row)
     (pop-unread (p .latest) (a .loop .inv) (use-of (begin a)) (p .room) (omega arith)) (ends b (a .loop .top - 1) (parent-used b) .within)
 
-loop-again-4 : tie.Need-loop-again-4 Inv-loop μ-loop
-loop-again-4 c =
+loop-again-5 : tie.Need-loop-again-5 Inv-loop μ-loop
+loop-again-5 c =
     let b = c .before .before .before .before in
     let a = b .before .before in
     let p = begin a .pre .1 .1 .marks in
@@ -321,6 +345,10 @@ subgraph-size-spec =
     Inv-loop
     μ-loop
     loop-holds
+    mul-kind
+    add-kind
+    mul-kind-2
+    shared-slice-read-kind
     mul-child
     add-child
     mul-child-2
@@ -353,6 +381,8 @@ subgraph-size-spec =
     loop-again-2
     loop-less-3
     loop-again-3
+    loop-less-4
+    loop-again-4
     same-length
     returns
     (λ c. search needs)
@@ -371,5 +401,5 @@ subgraph-size-spec =
     mul-stop
     slice-read-stop
     cast-stop
-    loop-less-4
-    loop-again-4)
+    loop-less-5
+    loop-again-5)

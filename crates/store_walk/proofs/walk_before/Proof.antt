@@ -9,7 +9,7 @@ use Rattle.store_reader.specs.Rows.{keyOf, FirstRow}
 use Rattle.store_reader.proofs.Rows.{in-order}
 use Rattle.store_walk.specs.Marks.{noRow}
 use Rattle.store_walk.proofs.Ends.{rows-start}
-use Rattle.store_walk.proofs.Cycles.{begun, begun-bytes}
+use Rattle.store_walk.proofs.Cycles.{begun-offsets, begun, begun-bytes}
 use Rattle.store_walk.proofs.walk_before.Statement.{statement}
 use Rattle.store_walk.proofs.walk_before.Tie as tie
 
@@ -41,7 +41,8 @@ next-row-requires c κs =
 subgraph-size-requires : tie.Need-subgraph-size-requires
 subgraph-size-requires c κs =
     let next = c .before in
-    (next .next-row .ensures .within, (noRow, next .before .before .before .before .before .before .pre .1))
+    let s = next .before .before .before .before .before .before in
+    (next .next-row .ensures .within, (noRow, s .pre .1), begun-offsets (fit s) (s .pre .1 .marks) (s .pre .0) (starts (next .before)) (s .pre .2) (next .next-row .ensures))
 
 returns : tie.Need-returns
 returns c b =
@@ -50,7 +51,7 @@ returns c b =
     let s = next .before .before .before .before .before .before in
     let p = s .pre .1 in
     begun-bytes (p .bytes) b (now (s .args .objects)) (now (s .args .links)) (s .args .t3)
-    (begun (fit s) (p .marks) (s .pre .0) (starts (next .before)) (search needs) (next .next-row .ensures) (walked .subgraph-size .ensures (p .bytes) noRow (p .marks)))
+    (begun (fit s) (p .marks) (s .pre .0) (starts (next .before)) (s .pre .2) (next .next-row .ensures) (walked .subgraph-size .ensures (p .bytes) noRow (p .marks)))
 
 pub walk-before-spec : {M : Type 1} → statement M
 walk-before-spec =
