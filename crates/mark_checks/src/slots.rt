@@ -39,7 +39,7 @@ pub fn links_at_slots(links: &[u32], counts: [u32; 3], table: u32, opened: MarkT
 // Whether each link of `parent` stands at a slot of what it is.
 fn all_at(links: &[u32], counts: [u32; 3], parent: u32, holder: Holder) -> bool
     requires { ⌜ InOrder (now links) (getD counts 2 0) × (parent < 65536) ⌝ }
-    ensures { λ r. ⌜ ((b o : List ℕ) → r ≡ allAt (lent b o (came links) counts) parent (slotOf holder)) ⌝ }
+    ensures { λ r. ⌜ ((b o : List ℕ) → sound (lent b o (came links) counts) ≡ true → r ≡ allAt (lent b o (came links) counts) parent (slotOf holder)) ⌝ }
 {
     let rows = rows_of(links, counts[2] as usize, parent);
     rows_at_slots(links, rows, holder)

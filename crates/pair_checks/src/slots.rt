@@ -6,6 +6,7 @@ use store_reader::PER_LINK;
 use store_reader::POSITION;
 use store_reader::rows_of;
 ghost use mathlib.Core.Path.{_≡_};
+ghost use mathlib.Core.Bool.{true};
 ghost use mathlib.Core.List.{List};
 ghost use Prim.Native.Nat.{ℕ, _+_, _-_, _*_, _≤_, _<_};
 ghost use lib.ListN.{length, getD};
@@ -13,7 +14,7 @@ ghost use Rattle.folds.specs.Folds.{all};
 ghost use Rattle.store_reader.specs.Rows.{InOrder};
 ghost use Rattle.ot_layouts.specs.PairPos.{shapeOf, isSlot};
 ghost use Rattle.ot_pairpos.specs.Layout.{layoutOf};
-ghost use Rattle.store_rules.specs.Store.{lent, perLink, rowPosition, bytesOf};
+ghost use Rattle.store_rules.specs.Store.{lent, perLink, rowPosition, bytesOf, sound};
 ghost use Rattle.pair_rules.specs.Table.{allAtSlots};
 ghost use Rattle.folds.specs.Moments.{came};
 
@@ -22,6 +23,7 @@ pub fn links_at_slots(links: &[u32], counts: [u32; 3], table: u32, layout: Layou
     requires { ⌜ (InOrder (now links) (getD counts 2 0)) × (table < 65536) ⌝ }
     ensures { λ r. ⌜
         ((b o : List ℕ)
+        → sound (lent b o (came links) counts) ≡ true
         → layout
         ≡ layoutOf (bytesOf (lent b o (came links) counts) table)
         → r

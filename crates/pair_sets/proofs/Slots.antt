@@ -17,13 +17,14 @@ use Rattle.ot_layouts.specs.PairPos.{itemAt, recordSize, setSorted}
 use Rattle.ot_layouts.proofs.Shapes.{Format1, format-one}
 use Rattle.ot_pairpos.specs.Layout.{layoutOf}
 use Rattle.ot_pairpos.specs.declared.Layout.{Layout}
-use Rattle.store_rules.specs.Store.{Store, bytesOf, childAt, parentOf, positionOf, childOf}
+use Rattle.store_rules.specs.Store.{Store, bytesOf, childAt, linkAt, offsetOf, parentOf, positionOf, childOf, sizeOf}
+use Rattle.store_rules.proofs.Shaped.{of-offset, of-parent, offset-inside}
 use Rattle.store_rules.proofs.Sound.{Fits, sound-fits, size-bytes}
 use Rattle.store_rules.proofs.Lookups.{child-row}
 use Rattle.store_rules.proofs.RowChild.{row-child}
 use Rattle.store_reader.specs.Rows.{Inside, ParentRows}
 use Rattle.store_reader.specs.declared.LinkRows.{LinkRows}
-use Rattle.store_reader.proofs.Rows.{parent-rows, position-most}
+use Rattle.store_reader.proofs.Rows.{parent-rows}
 use Rattle.store_reader.proofs.Checks.{Passed}
 use Rattle.store_reader.proofs.Bytes.{inside}
 use Rattle.pair_rules.specs.Table.{shape, setsSorted}
@@ -88,9 +89,9 @@ module _ (s : Store) (t : ℕ) (reads : Reads s t) (one : eqb (shape s t .format
   abbrev size : ℕ
   size = recordSize (bytesOf s t)
 
-  -- row k is one of the table's
-  owned : (k : ℕ) → k < s .linkCount → (leb (r .first) k && ltb k (r .after)) ≡ eqb (parentOf s k) t
-  owned k l = parent-rows t (rows .first) (rows .after) k l (omega (arith, position-most s fits k l))
+  -- row k is one of the table's offsets
+  owned : (k : ℕ) → k < s .linkCount → (leb (r .first) k && ltb k (r .after)) ≡ offsetOf t (linkAt s k)
+  owned k l = parent-rows s fits t rows k l
 
   slot-place : (k : ℕ) → itemAt (shape s t) k ≡ 10 + 2 * k
   slot-place k = λ i. form .headerIs i + form .itemIs i * k
@@ -103,7 +104,7 @@ module _ (s : Store) (t : ℕ) (reads : Reads s t) (one : eqb (shape s t .format
   by-row : rowsTest ≡ true → (k c : ℕ) → k < shape s t .count → childAt s t (itemAt (shape s t) k) ≡ some c → setSorted (bytesOf s c) size ≡ true
   by-row h k c l child =
       let (j, used, parent, position, is) = child-row s t (itemAt (shape s t) k) c child in
-      let (from, to) = and-both (leb (r .first) j) (ltb j (r .after)) (owned j used ∙ eq-eqb (parentOf s j) t parent) in
+      let (from, to) = and-both (leb (r .first) j) (ltb j (r .after)) (owned j used ∙ parent) in
       let place : positionOf s j ≡ 10 + 2 * k = position ∙ slot-place k in
       let whole : Passed (λ i. leadsSorted s size (r .first + i)) (r .after - r .first) (r .after - r .first) = record { upto = omega arith; passed = h } in
       let below = ltb-true j (r .after) to in
@@ -115,17 +116,19 @@ module _ (s : Store) (t : ℕ) (reads : Reads s t) (one : eqb (shape s t .format
   by-slot h i l =
       let k = r .first + i in
       let used : k < s .linkCount = omega (arith, rows .after .within) in
-      let own = eqb-true (parentOf s k) t (sym (owned k used) ∙ rw (le-leb (r .first) k (omega arith), lt-ltb k (r .after) (omega arith))) in
+      let mine : offsetOf t (linkAt s k) ≡ true = sym (owned k used) ∙ rw (le-leb (r .first) k (omega arith), lt-ltb k (r .after) (omega arith)) in
+      let offset = of-offset t (linkAt s k) mine in
+      let own = of-parent t (linkAt s k) mine in
       by-test (isSetSlot (positionOf s k))
       (λ y.
       let (ten, even) = slot-is (positionOf s k) y in
       let n = (positionOf s k - 10) / 2 in
       let at : positionOf s k ≡ itemAt (shape s t) n = sym (slot-place n ∙ omega arith) in
       let inside : positionOf s k + 2 ≤ length (bytesOf s t)
-      = rw (size-bytes s fits t (reads .used)) (rw own at (fits .link k used .inside)) in
+      = rw (size-bytes s fits t (reads .used)) (rw own at (offset-inside (sizeOf s (parentOf s k)) (linkAt s k) offset (fits .link k used .shape))) in
       let long : length (bytesOf s t) ≡ 10 + 2 * shape s t .count = reads .exactly ∙ slot-place (shape s t .count) in
       let child : childAt s t (itemAt (shape s t) n) ≡ some (childOf s k)
-      = ap (childAt s t) (sym at) ∙ ap (λ (p : ℕ). childAt s p (positionOf s k)) (sym own) ∙ row-child s fits k used in
+      = ap (childAt s t) (sym at) ∙ ap (λ (p : ℕ). childAt s p (positionOf s k)) (sym own) ∙ row-child s fits k used offset in
       at-slot s size k y ∙ set-sorted s t h one n (childOf s k) (omega arith) child)
       (at-no-slot s size k)
 

@@ -23,7 +23,7 @@ returns-2 c b o e =
     let a = start .args in
     let s = lent b o (a .links .now) (a .t2) in
     lent-unslotted s (a .table) (a .lengths) (a .opened) (c .before .before .before .is-short .ensures) (c .before .before .if1 .left)
-    (c .before .links-at-slots .ensures b o (opens s (a .table) (a .opened) e .layout)) (c .if2 .taken)
+    (c .before .links-at-slots .ensures b o (opens s (a .table) (a .opened) e .reads .sounds) (opens s (a .table) (a .opened) e .layout)) (c .if2 .taken)
 
 returns-3 : tie.Need-returns-3
 returns-3 c b o e =
@@ -31,7 +31,7 @@ returns-3 c b o e =
     let a = start .args in
     let s = lent b o (a .links .now) (a .t2) in
     lent-open s (a .table) (a .lengths) (a .opened) (c .before .before .before .is-short .ensures) (c .before .before .if1 .left)
-    (c .before .links-at-slots .ensures b o (opens s (a .table) (a .opened) e .layout)) (c .if2 .left)
+    (c .before .links-at-slots .ensures b o (opens s (a .table) (a .opened) e .reads .sounds) (opens s (a .table) (a .opened) e .layout)) (c .if2 .left)
 
 pub check-lent-spec : {M : Type 1} → statement M
 check-lent-spec =

@@ -1,10 +1,10 @@
 -- `pair_checks::slots::links_at_slots` meets its contract: the rows of the table's own links decide. Assumes nothing.
-use Prim.Native.Nat.{_*_, _+_}
 use mathlib.Core.Path.{_∙_}
 use native.Mathlib.Omega.{arith}
 use Rattle.store_reader.proofs.AtSlots.{own-rows-at}
 use Rattle.ot_layouts.specs.PairPos.{shapeOf, isSlot}
-use Rattle.store_rules.specs.Store.{lent, perLink, rowPosition, bytesOf}
+use Rattle.store_rules.specs.Store.{lent, bytesOf}
+use Rattle.store_rules.proofs.Sound.{sound-fits}
 use Rattle.pair_rules.specs.Table.{allAtSlots}
 use borrow.Author.Needs.{needs}
 use Rattle.pair_checks.proofs.slots.links_at_slots.Statement.{statement}
@@ -17,12 +17,12 @@ rows-at-slots-requires c κs =
 
 returns : tie.Need-returns
 unfolding allAtSlots
-returns c b o e =
+returns c b o sounds e =
     let a = c .before .before .before .args in
     let s = lent b o (a .links .now) (a .t2) in
     c .rows-at-slots .ensures (bytesOf s (a .table)) e
     ∙ own-rows-at s (a .table) (isSlot (shapeOf (bytesOf s (a .table)))) (c .before .rows-of .ensures)
-    (λ k. omega (arith, c .before .before .shared-slice-known .given (perLink * k + rowPosition)))
+    (sound-fits s sounds)
 
 pub links-at-slots-spec : {M : Type 1} → statement M
 links-at-slots-spec =
