@@ -12,12 +12,12 @@ use Rattle.store_rules.specs.Reach.{rowsOf, itemSize}
 use Rattle.cut_rules.specs.Cuts.{second, seenFrom}
 use Rattle.pair_rules.specs.Table.{ofItems}
 use Rattle.store_rules.proofs.Sound.{Fits, sound-fits}
-use Rattle.store_reader.specs.Rows.{keyOf, rowKey, InOrder, FirstRow}
+use Rattle.store_reader.specs.Rows.{orders, keyOf, rowKey, InOrder, FirstRow}
 use Rattle.store_reader.proofs.Rows.{in-order, rows-rise}
-use Rattle.store_walk.specs.Marks.{Marks, Walked, Grown}
+use Rattle.store_walk.specs.Marks.{Offsets, Marks, Walked, Grown}
 use Rattle.store_walk.proofs.Marks.{marks-same, marks-next}
 use Rattle.store_walk.proofs.Grown.{grown-item}
-use Rattle.store_walk.proofs.Items.{items, items-none, ItemRows, item-grown}
+use Rattle.store_walk.proofs.Items.{items, items-none, ItemRows, item-offsets, item-grown}
 use Rattle.store_walk.proofs.Cycles.{item-back, item-back-again}
 use Rattle.pair_items.specs.declared.measuring.Measured.{Measured}
 use Rattle.pair_items.specs.Measuring.{At, Measures, AtCut, Restarts}
@@ -33,9 +33,12 @@ module _ {s : Store} {t : ℕ} {sh : Shape} {a i row e : ℕ} {w : List ℕ} (x 
   pub rows-before : {end : ℕ} → end ≡ itemAt sh (i + 1) → (k : ℕ) → k < row → rowKey (s .links) k < keyOf t end
   rows-before q k h = omega (arith, x .first .below k h, items-rise sh i (i + 1) (omega arith))
 
-  module _ {end next : ℕ} (q : end ≡ itemAt sh (i + 1)) (short : end ≤ 4294967296) (n : FirstRow (s .links) (s .linkCount) (keyOf t end) next) where
+  module _ {end next : ℕ} (q : end ≡ itemAt sh (i + 1)) (short : end ≤ orders) (n : FirstRow (s .links) (s .linkCount) (keyOf t end) next) where
     item-rows : ItemRows s t (itemAt sh) i row next
     item-rows = record { first = x .first; next = subst (λ (p : ℕ). FirstRow (s .links) (s .linkCount) (keyOf t p) next) q n; short = omega arith }
+
+    pub measured-offsets : Offsets (s .links) row next
+    measured-offsets = item-offsets at-fits item-rows
 
     pub measured : {w′ : List ℕ} {size : ℕ} → Walked s (items s t (itemAt sh) a i) row next e w w′ size → Measures s t sh a i row e w (record { size = size; next = next }) w′
     measured {w′} {size} d =
@@ -76,7 +79,7 @@ module _ {s : Store} {t : ℕ} {sh : Shape} {a i row e : ℕ} {w : List ℕ} (x 
 -- ---- the item at a cut
 
 -- it was measured
-pub at-cut : {s : Store} {t : ℕ} {sh : Shape} {a i row e : ℕ} {w : List ℕ} {m : Measured} {w′ : List ℕ} → itemAt sh (i + 1) ≤ 4294967296 → At s t sh a i row e w
+pub at-cut : {s : Store} {t : ℕ} {sh : Shape} {a i row e : ℕ} {w : List ℕ} {m : Measured} {w′ : List ℕ} → itemAt sh (i + 1) ≤ orders → At s t sh a i row e w
     → Measures s t sh a i row e w m w′ → AtCut s t sh i row (m .next) (e + 1) w′
 at-cut short x y = record { first = x .first; short = short; after = at-next (y .after) }
 
@@ -98,6 +101,12 @@ module _ {s : Store} {t : ℕ} {sh : Shape} {i row next e : ℕ} {w : List ℕ} 
       marks-same (at-fits (x .after)) (x .after .marks)
       (λ k h. items-none s t (itemAt sh) (i + 1) k ∙ sym (items-none s t (itemAt sh) i k))
 
+  rows-here : ItemRows s t (itemAt sh) i row next
+  rows-here = record { first = x .first; next = x .after .first; short = x .short }
+
+  pub offsets-here : Offsets (s .links) row next
+  offsets-here = item-offsets (at-fits (x .after)) rows-here
+
   -- edition 2: it is measured again
   pub measured-again : {edition : ℕ} → edition ≡ 2 → {w′ : List ℕ} {size : ℕ} (before : ℕ) → Walked s (items s t (itemAt sh) i i) row next e w w′ size
       → Restarts s t sh i next edition e before size w′
@@ -112,11 +121,8 @@ module _ {s : Store} {t : ℕ} {sh : Shape} {i row next e : ℕ} {w : List ℕ} 
       yes : second edition ≡ true
       yes = eq-eqb edition 2 two
 
-      rows : ItemRows s t (itemAt sh) i row next
-      rows = record { first = x .first; next = x .after .first; short = x .short }
-
       grown : Grown s (rowsOf s (ofItems t sh) i i) (rowsOf s (ofItems t sh) i (i + 1)) e w′ size
-      grown = item-grown (at-fits (x .after)) rows (items-rise sh) (omega arith) marks-here d
+      grown = item-grown (at-fits (x .after)) rows-here (items-rise sh) (omega arith) marks-here d
 
       later : row ≤ next
       later = rows-rise (x .first) (x .after .first) (omega (arith, items-rise sh i (i + 1) (omega arith)))
@@ -130,5 +136,5 @@ module _ {s : Store} {t : ℕ} {sh : Shape} {i row next e : ℕ} {w : List ℕ} 
             marks = grown .marks;
             used = x .after .used;
             begun = x .after .begun;
-            back = item-back-again (at-fits (x .after)) rows (x .after .used) (x .after .begun) i (omega (arith, x .after .marks .room)) later d (x .after .back);
+            back = item-back-again (at-fits (x .after)) rows-here (x .after .used) (x .after .begun) i (omega (arith, x .after .marks .room)) later d (x .after .back);
           }

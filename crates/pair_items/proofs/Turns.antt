@@ -5,7 +5,6 @@ use mathlib.Core.Bool.{true, false}
 use mathlib.Core.List.{List}
 use native.Mathlib.Omega.{arith}
 use lib.ListN.{length}
-use borrow.Author.Tests.{eqb-true}
 use Rattle.ot_layouts.specs.PairPos.{itemAt}
 use Rattle.ot_layouts.proofs.Shapes.{items-rise}
 use Rattle.store_rules.specs.Store.{Store, linkAt, parentOf, bytesOf, sizeOf, offsetOf}
@@ -13,9 +12,12 @@ use Rattle.cut_rules.specs.Cuts.{Rule, Cutting, costAtCut, seenFrom, cutDue, cu
 use Rattle.cut_rules.proofs.Turns.{looksAt, costNow}
 use Rattle.call_rules.specs.declared.Settings.{Settings}
 use Rattle.pair_rules.specs.Table.{shape, ruleOf, cutPlaces}
+use Rattle.store_rules.proofs.LinksAscend.{place-offset}
+use Rattle.store_rules.proofs.Shaped.{of-offset, of-parent, offset-inside}
 use Rattle.store_rules.proofs.Sound.{Fits, sound-fits, size-bytes}
 use Rattle.pair_rules.proofs.TableCuts.{rule-count, rule-edition}
 use Rattle.store_reader.specs.Rows.{keyOf, FirstRow}
+use Rattle.store_reader.proofs.Rows.{row-place}
 use Rattle.store_walk.proofs.Marks.{marks-same}
 use Rattle.store_walk.proofs.Items.{items-none}
 use Rattle.store_walk.proofs.Cycles.{back-all}
@@ -132,9 +134,10 @@ module _ {s : Store} {x : TableInfo} {i : ℕ} (u : Described s x) (e : i ≡ x 
     where
       all : (k : ℕ) → k < s .linkCount → offsetOf (x .table) (linkAt s k) ≡ true → k < row
       all k h own =
-          let parent : parentOf s k ≡ x .table = eqb-true (parentOf s k) (x .table) own in
+          let o = of-offset (x .table) (linkAt s k) own in
+          let parent : parentOf s k ≡ x .table = of-parent (x .table) (linkAt s k) own in
           let whole : itemAt (shape s (x .table)) i ≡ length (bytesOf s (x .table)) = ap (itemAt (shape s (x .table))) (e ∙ u .count) ∙ sym (u .exactly) in
           let end : itemAt (shape s (x .table)) i ≡ sizeOf s (x .table) = whole ∙ size-bytes s (fits u) (x .table) (u .used) in
-          let inside = fits u .link k h .inside in
-          let past : row ≤ k → ⊥ = λ z. omega (arith, v .first .above k z h, inside, ap (sizeOf s) parent) in
+          let inside = offset-inside (sizeOf s (parentOf s k)) (linkAt s k) o (fits u .link k h .shape) in
+          let past : row ≤ k → ⊥ = λ z. omega (arith, v .first .above k z h, inside, ap (sizeOf s) parent, row-place s k, place-offset (linkAt s k) o) in
           omega arith

@@ -8,7 +8,7 @@ use Rattle.store_rules.specs.Store.{Store, lent, linkAt, sound}
 use Rattle.cut_rules.specs.Cuts.{second, seenFrom}
 use Rattle.pair_rules.specs.Table.{ofItems}
 use Rattle.store_rules.specs.Reach.{itemSize}
-use Rattle.store_reader.specs.Rows.{keyOf, FirstRow}
+use Rattle.store_reader.specs.Rows.{orders, keyOf, FirstRow}
 use Rattle.store_walk.specs.Marks.{Back, Marks}
 use Rattle.pair_items.specs.declared.measuring.Measured.{Measured}
 
@@ -38,7 +38,7 @@ MeasuresItem o l c t row end epoch w m w′ =
 -- item i, whose link rows are those from `row` up to `next`, stands at a cut: nothing has the epoch's mark yet
 pub record AtCut (s : Store) (t : ℕ) (sh : Shape) (i row next epoch : ℕ) (w : List ℕ) : Type 0 where
   pub first : FirstRow (s .links) (s .linkCount) (keyOf t (itemAt sh i)) row
-  pub short : itemAt sh (i + 1) ≤ 4294967296
+  pub short : itemAt sh (i + 1) ≤ orders
   pub after : At s t sh (i + 1) (i + 1) next epoch w
 
 -- its size was measured in an edition, where it had one before; the next item is at hand, and what counts as seen is as the edition says

@@ -4,7 +4,8 @@ use store_reader::next_row;
 use store_walk::subgraph_size;
 ghost use mathlib.Core.Path.{_≡_};
 ghost use mathlib.Core.List.{List};
-ghost use Prim.Native.Nat.{ℕ, _+_, _<_};
+ghost use Prim.Native.Nat.{ℕ, _+_, _≤_, _<_};
+ghost use Rattle.store_reader.specs.Rows.{orders};
 ghost use Rattle.ot_layouts.specs.PairPos.{Shape, itemAt};
 ghost use Rattle.store_rules.specs.Store.{lent};
 ghost use Rattle.folds.specs.Moments.{came, left};
@@ -27,7 +28,7 @@ pub fn measure(
     epoch: u32,
     walk: &mut [u32],
 ) -> Measured
-    requires { ⌜ epoch < 2147483648 ⌝ }
+    requires { ⌜ (epoch < 2147483648) × (end ≤ orders) ⌝ }
     requires { ⌜
         ((b : List ℕ)
         × (sh : Shape)
