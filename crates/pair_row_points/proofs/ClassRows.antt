@@ -23,7 +23,7 @@ use Rattle.pair_rules.specs.Table.{shape, entriesOf, ruleOf, ofItems, cutPlaces
 use Rattle.pair_rules.proofs.TableCuts.{rule-edition}
 use Rattle.store_rules.proofs.Sound.{Fits, sound-fits, size-most}
 use Rattle.store_rules.proofs.Lookups.{linked-used}
-use Rattle.store_reader.specs.Rows.{keyOf, FirstRow}
+use Rattle.store_reader.specs.Rows.{orders, keyOf, FirstRow}
 use Rattle.glyph_estimator.specs.declared.Estimator.{Estimator}
 use Rattle.glyph_estimator.specs.States.{valuesOf, Small}
 use Rattle.cut_filling.specs.declared.Filling.{Filling}
@@ -115,7 +115,7 @@ module _ {how : Settings} {s : Store} {x : TableInfo} {gs cs d : List ℕ} {i : 
   pub row-most : x .item ≤ 16777216
   row-most = let h : 1 ≤ i + 1 = omega arith in omega (arith, row-ends .1, mul-le-mul-left (x .item) h)
 
-  pub row-short : itemAt (shape s (x .table)) (i + 1) ≤ 4294967296
+  pub row-short : itemAt (shape s (x .table)) (i + 1) ≤ orders
   row-short = omega (arith, row-ends .0, row-ends .1)
 
   module _ {m : Measured} {w′ : List ℕ} (y : Measures s (x .table) (shape s (x .table)) (cuttingAt how s x i .seen) i (p .row) (x .epoch + p .filling .cuts) w m w′)

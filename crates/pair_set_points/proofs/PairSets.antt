@@ -17,7 +17,7 @@ use Rattle.folds.proofs.Sums.{sum-zero, sum-bound}
 use Rattle.ot_layouts.specs.PairPos.{itemAt}
 use Rattle.ot_layouts.proofs.Shapes.{format-one}
 use Rattle.ot_layouts.proofs.Slots.{slot-fits}
-use Rattle.store_rules.specs.Store.{Store, lent, bytesOf, sizeOf, parentOf, positionOf, childAt, linkedAt}
+use Rattle.store_rules.specs.Store.{Store, lent, bytesOf, sizeOf, linkAt, parentOf, positionOf, kindOf, offsetOf, ofSpan, childAt, linkedAt}
 use Rattle.store_rules.specs.Reach.{itemSize}
 use Rattle.cut_rules.specs.Cuts.{Rule, second, costAtCut, looked, cutDue, after}
 use Rattle.cut_rules.proofs.Turns.{looksAt, costNow}
@@ -25,10 +25,11 @@ use Rattle.call_rules.specs.declared.Settings.{Settings}
 use Rattle.pair_rules.specs.Rules.{partialCover, rule1}
 use Rattle.pair_rules.specs.Table.{shape, allAtSlots, ruleOf, ofItems, cutPlaces}
 use Rattle.pair_rules.proofs.Checks.{at-slot}
+use Rattle.store_rules.proofs.Shaped.{of-offset, of-parent}
 use Rattle.pair_rules.proofs.TableCuts.{rule-edition}
 use Rattle.store_rules.proofs.Lookups.{child-row}
-use Rattle.store_reader.specs.Rows.{keyOf, FirstRow}
-use Rattle.store_reader.proofs.Rows.{position-most, rows-between}
+use Rattle.store_reader.specs.Rows.{orders, keyOf, FirstRow}
+use Rattle.store_reader.proofs.Rows.{span-rows}
 use Rattle.store_reader.proofs.Children.{child-found}
 use Rattle.cut_filling.specs.declared.Filling.{Filling}
 use Rattle.pair_items.specs.declared.measuring.Measured.{Measured}
@@ -73,10 +74,10 @@ module _ (how : Settings) (s : Store) (t : ℕ) (one : eqb (shape s t .format) 1
 
 -- ---- empty slots
 
-module _ {s : Store} {t a i row e : ℕ} {w : List ℕ} {m : Measured} {w′ : List ℕ} (one : eqb (shape s t .format) 1 ≡ true) (slots : allAtSlots s t ≡ true) (short : itemAt (shape s t) (i + 1) ≤ 4294967296)
+module _ {s : Store} {t a i row e : ℕ} {w : List ℕ} {m : Measured} {w′ : List ℕ} (one : eqb (shape s t .format) 1 ≡ true) (slots : allAtSlots s t ≡ true) (short : itemAt (shape s t) (i + 1) ≤ orders)
     (x : At s t (shape s t) a i row e w) (y : Measures s t (shape s t) a i row e w m w′) where
-  in-slot : (k : ℕ) → k < s .linkCount → (leb row k && ltb k (m .next)) ≡ (eqb (parentOf s k) t && leb (itemAt (shape s t) i) (positionOf s k) && ltb (positionOf s k) (itemAt (shape s t) (i + 1)))
-  in-slot k h = rows-between t (itemAt (shape s t) i) (itemAt (shape s t) (i + 1)) (x .first) (y .after .first) short k h (omega (arith, position-most s (at-fits x) k h))
+  in-slot : (k : ℕ) → k < s .linkCount → (leb row k && ltb k (m .next)) ≡ ofSpan t (itemAt (shape s t) i) (itemAt (shape s t) (i + 1)) (linkAt s k)
+  in-slot k h = span-rows s (at-fits x) t (itemAt (shape s t) i) (itemAt (shape s t) (i + 1)) (x .first) (y .after .first) short k h
 
   slot-wide : itemAt (shape s t) (i + 1) ≡ itemAt (shape s t) i + 2
   slot-wide = rw (format-one (bytesOf s t) one .itemIs) (omega arith)
@@ -86,12 +87,13 @@ module _ {s : Store} {t a i row e : ℕ} {w : List ℕ} {m : Measured} {w′ : L
   slot-linked ne =
       let h : row < m .next = omega (arith, y .later) in
       let used : row < s .linkCount = omega (arith, y .after .first .within) in
-      let (p, below) = and-both (eqb (parentOf s row) t && leb (itemAt (shape s t) i) (positionOf s row)) (ltb (positionOf s row) (itemAt (shape s t) (i + 1))) (sym (in-slot row used) ∙ rw (le-leb row row (omega arith), lt-ltb row (m .next) h)) in
-      let (parent, above) = and-both (eqb (parentOf s row) t) (leb (itemAt (shape s t) i) (positionOf s row)) p in
-      let q : parentOf s row ≡ t = eqb-true (parentOf s row) t parent in
-      let g = slot-fits (bytesOf s t) (positionOf s row) (i + 1) (at-slot s t slots row used q) (ltb-true (positionOf s row) (itemAt (shape s t) (i + 1)) below) in
+      let (p, below) = and-both (offsetOf t (linkAt s row) && leb (itemAt (shape s t) i) (positionOf s row)) (ltb (positionOf s row) (itemAt (shape s t) (i + 1))) (sym (in-slot row used) ∙ rw (le-leb row row (omega arith), lt-ltb row (m .next) h)) in
+      let (own, above) = and-both (offsetOf t (linkAt s row)) (leb (itemAt (shape s t) i) (positionOf s row)) p in
+      let q : parentOf s row ≡ t = of-parent t (linkAt s row) own in
+      let o : kindOf s row ≡ 0 = eqb-true (kindOf s row) 0 (of-offset t (linkAt s row) own) in
+      let g = slot-fits (bytesOf s t) (positionOf s row) (i + 1) (at-slot s t slots row used own) (ltb-true (positionOf s row) (itemAt (shape s t) (i + 1)) below) in
       let z : positionOf s row ≡ itemAt (shape s t) i = omega (arith, leb-true (itemAt (shape s t) i) (positionOf s row) above, slot-wide) in
-      sym (ap isSome (child-found s t (itemAt (shape s t) i) row (at-in-order x) (x .first) used q z))
+      sym (ap isSome (child-found s t (itemAt (shape s t) i) row (at-in-order x) (x .first) used q o z))
 
   -- no row
   pub slot-empty : m .next ≡ row → linked s t i ≡ false
@@ -101,7 +103,7 @@ module _ {s : Store} {t a i row e : ℕ} {w : List ℕ} {m : Measured} {w′ : L
       go none q = refl
       go (some c) q =
           let (k, used, parent, position, child) = child-row s t (itemAt (shape s t) i) c q in
-          let there : (leb row k && ltb k (m .next)) ≡ true = in-slot k used ∙ rw (parent, position) (rw (eq-eqb t t refl, le-leb (itemAt (shape s t) i) (itemAt (shape s t) i) (omega arith), lt-ltb (itemAt (shape s t) i) (itemAt (shape s t) (i + 1)) (omega (arith, slot-wide)))) in
+          let there : (leb row k && ltb k (m .next)) ≡ true = in-slot k used ∙ rw (parent, position) (rw (le-leb (itemAt (shape s t) i) (itemAt (shape s t) i) (omega arith), lt-ltb (itemAt (shape s t) i) (itemAt (shape s t) (i + 1)) (omega (arith, slot-wide)))) in
           let (lo, hi) = and-both (leb row k) (ltb k (m .next)) there in
           absurd (omega (arith, leb-true row k lo, ltb-true k (m .next) hi))
 
@@ -160,7 +162,7 @@ module _ {how : Settings} {s : Store} {x : TableInfo} {d : List ℕ} {i : ℕ} {
   pub partial-most : p .partial ≤ 4 + 2 * i
   partial-most = omega (arith, v .coverage, covered-most looksIn (cuttingAt how s x i .first) i)
 
-  pub short : itemAt (shape s (x .table)) (i + 1) ≤ 4294967296
+  pub short : itemAt (shape s (x .table)) (i + 1) ≤ orders
   short = omega (arith, set-ends .0, set-ends .1)
 
   module _ {m : Measured} {w′ : List ℕ} (y : Measures s (x .table) (shape s (x .table)) (cuttingAt how s x i .seen) i (p .row) (x .epoch + p .filling .cuts) w m w′)
