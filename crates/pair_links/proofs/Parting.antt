@@ -1,25 +1,27 @@
 -- What is known before a parting, as facts on rows and positions. Assumes nothing.
 use Prim.Native.Nat.{ℕ, _+_, _*_, _≤_, _<_}
 use mathlib.Core.Path.{_≡_, sym, _∙_}
-use mathlib.Core.Bool.{false}
+use mathlib.Core.Bool.{true, false, _&&_}
 use mathlib.Core.List.{List}
 use mathlib.Core.Logic.{⊎-elim}
 use native.Mathlib.Omega.{arith}
-use lib.ListN.{length, getD}
-use lib.Dec.{leb, ltb}
+use lib.ListN.{length}
+use lib.Dec.{leb, ltb, eqb}
 use borrow.Author.Tests.{lt-ltb, le-ltb, le-leb, lt-leb}
-use Rattle.folds.proofs.Tests.{either, and-intro, and-second}
+use Rattle.folds.proofs.Tests.{either, by-test, and-intro, and-second}
 use Rattle.ot_layouts.specs.PairPos.{Shape, itemAt}
 use Rattle.ot_layouts.proofs.Shapes.{items-rise}
-use Rattle.store_rules.specs.Store.{Store, perLink, rowPosition, linkAt, parentOf, positionOf}
+use Rattle.store_rules.specs.Store.{Store, perLink, linkAt, parentOf, positionOf, isOffset, offsetOf}
+use Rattle.store_rules.proofs.LinksAscend.{place-offset, place-order}
+use Rattle.store_rules.proofs.Shaped.{of-offset, of-parent}
 use Rattle.pair_rules.specs.Table.{ofItems}
 use Rattle.cut_rules.specs.Ranges.{from}
 use Rattle.ot_pairpos.specs.declared.Layout.{Layout}
 use Rattle.ot_pairpos.specs.Layout.{shapeWith}
 use Rattle.ot_pairpos.proofs.Layouts.{few-heads}
 use Rattle.pair_rules.proofs.ItemLinks.{items-from}
-use Rattle.store_reader.specs.Rows.{keyOf, FirstRow}
-use Rattle.store_reader.proofs.Rows.{rows-between, rows-rise}
+use Rattle.store_reader.specs.Rows.{orders, keyOf, rowPlace, FirstRow}
+use Rattle.store_reader.proofs.Rows.{row-place, rows-between, rows-rise}
 use Rattle.store_link_rows.specs.Rows.{positionIn, PositionsRise}
 use Rattle.pair_new_rows.specs.Blocks.{Plan, plan, edge, grown, Fit}
 use Rattle.pair_links.specs.Parting.{Parting, Between}
@@ -43,7 +45,7 @@ module _ (s : Store) (t : ℕ) (l : Layout) (cs : List ℕ) (a b class2 : ℕ) (
       }
 
   -- a row that moves
-  pub moves : (k : ℕ) → a ≤ k → k < b → (parentOf s k ≡ t) × (itemAt sh (from cs 0) ≤ positionOf s k) × (positionOf s k < itemAt sh (sh .count))
+  pub moves : (k : ℕ) → a ≤ k → k < b → (offsetOf t (linkAt s k) ≡ true) × (itemAt sh (from cs 0) ≤ positionOf s k) × (positionOf s k < itemAt sh (sh .count))
   moves k l h = items-from t sh (from cs 0) (sh .count) (linkAt s k) (g .these k (omega (arith, g .used)) ∙ and-intro (leb a k) (ltb k b) (le-leb a k l) (lt-ltb k b h))
 
   pub stays-before : (k : ℕ) → k < a → ofItems t sh (from cs 0) (sh .count) (linkAt s k) ≡ false
@@ -57,6 +59,10 @@ module _ (s : Store) (t : ℕ) (l : Layout) (cs : List ℕ) (a b class2 : ℕ) (
   in-order i j m h u =
       let (p, x, y) = moves i m (omega arith) in
       let (q, v, w) = moves j (omega arith) u in
+      let c = row-place s i ∙ place-offset (linkAt s i) (of-offset t (linkAt s i) p) in
+      let d = row-place s j ∙ place-offset (linkAt s j) (of-offset t (linkAt s j) q) in
+      let e = of-parent t (linkAt s i) p in
+      let f = of-parent t (linkAt s j) q in
       ⊎-elim (λ lt. omega (arith, g .known .order .rising i j lt (omega (arith, g .used)))) (λ (ge : j ≤ i). let e : i ≡ j = omega arith in rw e (omega arith)) (either i j)
 
   pub floor : (k : ℕ) → a ≤ k → k < b → edge (planOf s l cs class2) 0 ≤ positionIn (s .links) k
@@ -100,14 +106,25 @@ module _ (s : Store) (t : ℕ) (l : Layout) (cs : List ℕ) (class2 : ℕ) (g : 
   pub start-short : itemAt shaped (from cs 0) < 4294967296
   start-short = omega (arith, start-rises, g .size)
 
-  pub between : (first after : ℕ) → ((i : ℕ) → getD (s .links) i 0 < 4294967296)
-      → FirstRow (s .links) (s .linkCount) (keyOf t (itemAt shaped (from cs 0))) first → FirstRow (s .links) (s .linkCount) (keyOf t (itemAt shaped (shaped .count))) after
+  pub between : (first after : ℕ) → FirstRow (s .links) (s .linkCount) (keyOf t (itemAt shaped (from cs 0))) first → FirstRow (s .links) (s .linkCount) (keyOf t (itemAt shaped (shaped .count))) after
       → Between s t l cs first after class2
-  between first after small f h =
-      let end : itemAt shaped (shaped .count) ≤ 4294967296 = omega (arith, g .size) in
+  between first after f h =
       record {
         known = g;
         ordered = rows-rise f h (omega (arith, start-rises));
         used = h .within;
-        these = λ k m. sym (rows-between t (itemAt shaped (from cs 0)) (itemAt shaped (shaped .count)) f h end k m (small (perLink * k + rowPosition)));
+        these = λ k m. sym (span k m);
       }
+    where
+      -- these rows are the offsets of t at those positions
+      span : (k : ℕ) → k < s .linkCount → (leb first k && ltb k after) ≡ ofItems t shaped (from cs 0) (shaped .count) (linkAt s k)
+      span k m =
+          let q = rowPlace (s .links) k in
+          let lo = itemAt shaped (from cs 0) in
+          let hi = itemAt shaped (shaped .count) in
+          rows-between t lo hi f h (omega (arith, g .size)) k m (g .order .places k m)
+          ∙ by-test (isOffset (linkAt s k))
+          (λ o. rw (o, row-place s k ∙ place-offset (linkAt s k) o))
+          (λ o.
+          let behind : orders ≤ q = omega (arith, row-place s k, place-order (linkAt s k) o) in
+          rw o (and-second (eqb (parentOf s k) t && leb lo q) (ltb q hi) (le-ltb q hi (omega (arith, g .size)))))

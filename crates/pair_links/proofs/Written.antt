@@ -6,8 +6,8 @@ use mathlib.Core.List.{List, [], _++_, append-nil, map}
 use mathlib.Core.Logic.{inl, inr, ⊎-elim}
 use native.Mathlib.Omega.{arith}
 use lib.ListN.{length, List·getD-eq-default}
-use lib.Dec.{eqb, leb, ltb}
-use borrow.Author.Tests.{ltb-true, leb-true, lt-ltb, le-leb, eq-eqb}
+use lib.Dec.{leb, ltb}
+use borrow.Author.Tests.{ltb-true, leb-true, lt-ltb, le-leb}
 use Rattle.folds.specs.Folds.{flat}
 use Rattle.folds.specs.Lists.{among, sift}
 use Rattle.folds.proofs.Among.{among-either}
@@ -17,7 +17,7 @@ use Rattle.folds.proofs.Parts.{getD-default}
 use Rattle.folds.proofs.FromTheFront.{flat-same}
 use Rattle.ot_layouts.specs.PairPos.{Shape, ownIn, sharedIn, itemAt}
 use Rattle.ot_layouts.proofs.Shapes.{items-rise}
-use Rattle.store_rules.specs.Store.{Store, Link, linkAt, linksOf, parentOf, positionOf, linkedAt}
+use Rattle.store_rules.specs.Store.{Store, Link, linkAt, linksOf, offsetOf, positionOf, linkedAt}
 use Rattle.pair_rules.specs.Table.{ofItems}
 use Rattle.cut_rules.specs.Ranges.{from, to}
 use Rattle.pair_rules.specs.Written.{perTable, headLinks, moved, tableLinks, newLinks}
@@ -94,7 +94,7 @@ module _ (s : Store) (t : ℕ) (layout : Layout) (cs : List ℕ) (a b class2 : �
       goes : (k : ℕ) → a ≤ k → k < b → ofItems t sh (from cs 0) (sh .count) (linkAt s k) ≡ true
       goes k l h =
           let (p, x, y) = moves s t layout cs a b class2 g k l h in
-          three-hold _ _ _ (eq-eqb (parentOf s k) t p) (le-leb (itemAt sh (from cs 0)) (positionOf s k) x) (lt-ltb (positionOf s k) (itemAt sh (sh .count)) y)
+          three-hold _ _ _ p (le-leb (itemAt sh (from cs 0)) (positionOf s k) x) (lt-ltb (positionOf s k) (itemAt sh (sh .count)) y)
 
   -- ---- the links of new table j
 
@@ -111,7 +111,7 @@ module _ (s : Store) (t : ℕ) (layout : Layout) (cs : List ℕ) (a b class2 : �
     part-of-all l n =
         by-test (ofItems t sh (from cs j) (to (sh .count) cs j) l)
         (λ y.
-        let (p, x, z) = and-three (eqb (l .parent) t) (leb (itemAt sh (from cs j)) (l .position)) (ltb (l .position) (itemAt sh (to (sh .count) cs j))) y in
+        let (p, x, z) = and-three (offsetOf t l) (leb (itemAt sh (from cs j)) (l .position)) (ltb (l .position) (itemAt sh (to (sh .count) cs j))) y in
         let lo : itemAt sh (from cs 0) ≤ l .position = omega (arith, leb-true (itemAt sh (from cs j)) (l .position) x, items-rise sh (from cs 0) (from cs j) (g .known .rising 0 j (omega arith) jk)) in
         let hi : l .position < itemAt sh (sh .count) = omega (arith, ltb-true (l .position) (itemAt sh (to (sh .count) cs j)) z, items-rise sh (to (sh .count) cs j) (sh .count) to-within) in
         true-false (sym (three-hold _ _ _ p (le-leb (itemAt sh (from cs 0)) (l .position) lo) (lt-ltb (l .position) (itemAt sh (sh .count)) hi)) ∙ n))
@@ -133,7 +133,7 @@ module _ (s : Store) (t : ℕ) (layout : Layout) (cs : List ℕ) (a b class2 : �
     unfolding inside
     own k l h =
         let (p, x, y) = moves s t layout cs a b class2 g k l h in
-        rw (eq-eqb (parentOf s k) t p, edge-at planned j jk)
+        rw (p, edge-at planned j jk)
         (ap (λ (z : Bool). leb (itemAt sh (from cs j)) (positionOf s k) && z) (upper k l h))
 
     cut-off : rowNumbers (map (moved sh (tableId planned j) (from cs j)) (sift (ofItems t sh (from cs j) (to (sh .count) cs j)) (linksOf s)))

@@ -12,18 +12,18 @@ use Rattle.pair_rules.specs.Table.{ofItems}
 use Rattle.cut_rules.specs.Ranges.{from}
 use Rattle.pair_rules.specs.Written.{needLinks, newLinks}
 use Rattle.store_rules.specs.Appended.{rowNumbers}
-use Rattle.store_reader.specs.Rows.{InOrder}
+use Rattle.store_reader.specs.Rows.{orders, InOrder}
 use Rattle.ot_pairpos.specs.declared.Layout.{Layout}
 use Rattle.ot_pairpos.specs.Layout.{shapeWith, Numbered}
 
--- what is known when table t of s, of layout l, is to be split at cs: the cuts ascend to the count, the table ends within 32 bits, the rows are in order,
+-- what is known when table t of s, of layout l, is to be split at cs: the cuts ascend to the count, the table ends before all order-only links, the rows are in order,
 -- class2 is the object that new tables share, and there is room
 pub record Parting (s : Store) (t : ℕ) (l : Layout) (cs : List ℕ) (class2 : ℕ) : Type 0 where
   pub numbered : Numbered l
   pub some : 0 < length cs
   pub rising : (i j : ℕ) → i ≤ j → j < length cs → from cs i ≤ from cs j
   pub within : (j : ℕ) → j < length cs → from cs j ≤ l .count
-  pub size : itemAt (shapeWith l) (l .count) < 4294967296
+  pub size : itemAt (shapeWith l) (l .count) ≤ orders
   pub order : InOrder (s .links) (s .linkCount)
   pub shared : (q : ℕ) → among q (sharedIn (l .format)) ≡ true → class2 ≡ linkedAt s t q
   pub linkRoom : perLink * (s .linkCount + l .heads * length cs) ≤ length (s .links)

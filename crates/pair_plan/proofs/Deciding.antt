@@ -21,6 +21,7 @@ use Rattle.call_rules.proofs.Cases.{first-stands}
 use Rattle.call_rules.proofs.KnownSettings.{unknown-refused}
 use Rattle.pair_rules.specs.Table.{setsSorted}
 use Rattle.pair_rules.specs.Calls.{readCases, cutCases}
+use Rattle.store_reader.specs.Rows.{orders}
 use Rattle.store_walk.specs.Marks.{Begun}
 use Rattle.pair_items.specs.Filled.{TellsCycle}
 use Rattle.pair_checks.specs.declared.PairTable.{PairTable}
@@ -63,8 +64,8 @@ module _ (b o l c : List ℕ) (t : ℕ) (w : Scratch) (p : PairTable) (e : calle
   pass = passed (lent b o l c) t (lengthsOf w) p e
 
   -- the table is in use, and the walk's scratch long enough
-  pub can-begin : ((x : List ℕ) × (sound (lent x o l c) ≡ true)) × (t < getD c 1 0) × (2 * getD c 1 0 ≤ length (w .walk))
-  can-begin = ((b, pass .opens .reads .sounds), pass .opens .reads .used, pass .long .walk)
+  pub can-begin : ((x : List ℕ) × (sound (lent x o l c) ≡ true)) × (t < getD c 1 0) × (2 * getD c 1 0 ≤ length (w .walk)) × (p .layout .header ≤ orders)
+  can-begin = ((b, pass .opens .reads .sounds), pass .opens .reads .used, pass .long .walk, header-small (pass .opens))
 
   pub header-fits : p .layout .header < 4294967296
   header-fits = omega (arith, header-small (pass .opens))

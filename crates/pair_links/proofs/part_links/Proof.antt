@@ -21,9 +21,8 @@ cast-first-row c =
 
 part-between-requires : tie.Need-part-between-requires
 part-between-requires c κs =
-    let after-slice-known = c .before .before .before .before .before .before .before .before .before .before .before .before in
-    let start = after-slice-known .before in
-    between _ _ _ _ _ (start .pre) _ _ (λ i. after-slice-known .slice-known .given i .fits) (c .before .before .before .first-row .ensures) (c .before .first-row2 .ensures)
+    let start = c .before .before .before .before .before .before .before .before .before .before .before .before .before in
+    between _ _ _ _ _ (start .pre) _ _ (c .before .before .before .first-row .ensures) (c .before .first-row2 .ensures)
 
 pub part-links-spec : {M : Type 1} → statement M
 part-links-spec =

@@ -21,7 +21,7 @@ begin-walk-requires c κs =
     let start = c .before .before .before .before .before .before .before .before .before .before .before in
     let a = start .args in
     let ready = can-begin (a .«data» .now) (a .objects .now) (a .links .now) (a .counts) (a .table) (scratch start) (a .opened) (start .pre .1) in
-    (ready .0, (ready .1, ready .2))
+    (ready .0, (ready .1, ready .2, omega (arith, ready .3)))
 
 cut-table-requires : tie.Need-cut-table-requires
 cut-table-requires c κs =
