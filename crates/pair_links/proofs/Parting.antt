@@ -6,13 +6,13 @@ use mathlib.Core.List.{List}
 use mathlib.Core.Logic.{⊎-elim}
 use native.Mathlib.Omega.{arith}
 use lib.ListN.{length}
-use lib.Dec.{leb, ltb, eqb}
+use lib.Dec.{leb, ltb}
 use borrow.Author.Tests.{lt-ltb, le-ltb, le-leb, lt-leb}
-use Rattle.folds.proofs.Tests.{either, by-test, and-intro, and-second}
+use Rattle.folds.proofs.Tests.{either, and-intro, and-second}
 use Rattle.ot_layouts.specs.PairPos.{Shape, itemAt}
 use Rattle.ot_layouts.proofs.Shapes.{items-rise}
-use Rattle.store_rules.specs.Store.{Store, perLink, linkAt, parentOf, positionOf, isOffset, offsetOf}
-use Rattle.store_rules.proofs.LinksAscend.{place-offset, place-order}
+use Rattle.store_rules.specs.Store.{Store, perLink, linkAt, positionOf, offsetOf}
+use Rattle.store_rules.proofs.LinksAscend.{place-offset}
 use Rattle.store_rules.proofs.Shaped.{of-offset, of-parent}
 use Rattle.pair_rules.specs.Table.{ofItems}
 use Rattle.cut_rules.specs.Ranges.{from}
@@ -20,9 +20,10 @@ use Rattle.ot_pairpos.specs.declared.Layout.{Layout}
 use Rattle.ot_pairpos.specs.Layout.{shapeWith}
 use Rattle.ot_pairpos.proofs.Layouts.{few-heads}
 use Rattle.pair_rules.proofs.ItemLinks.{items-from}
-use Rattle.store_reader.specs.Rows.{orders, keyOf, rowPlace, FirstRow}
-use Rattle.store_reader.proofs.Rows.{row-place, rows-between, rows-rise}
+use Rattle.store_reader.specs.Rows.{keyOf, FirstRow}
+use Rattle.store_reader.proofs.Rows.{row-place, rows-rise}
 use Rattle.store_link_rows.specs.Rows.{positionIn, PositionsRise}
+use Rattle.store_link_rows.proofs.OwnLinks.{span-in-order}
 use Rattle.pair_new_rows.specs.Blocks.{Plan, plan, edge, grown, Fit}
 use Rattle.pair_links.specs.Parting.{Parting, Between}
 use Rattle.pair_new_rows.proofs.Spreading.{edge-at}
@@ -118,13 +119,4 @@ module _ (s : Store) (t : ℕ) (l : Layout) (cs : List ℕ) (class2 : ℕ) (g : 
     where
       -- these rows are the offsets of t at those positions
       span : (k : ℕ) → k < s .linkCount → (leb first k && ltb k after) ≡ ofItems t shaped (from cs 0) (shaped .count) (linkAt s k)
-      span k m =
-          let q = rowPlace (s .links) k in
-          let lo = itemAt shaped (from cs 0) in
-          let hi = itemAt shaped (shaped .count) in
-          rows-between t lo hi f h (omega (arith, g .size)) k m (g .order .places k m)
-          ∙ by-test (isOffset (linkAt s k))
-          (λ o. rw (o, row-place s k ∙ place-offset (linkAt s k) o))
-          (λ o.
-          let behind : orders ≤ q = omega (arith, row-place s k, place-order (linkAt s k) o) in
-          rw o (and-second (eqb (parentOf s k) t && leb lo q) (ltb q hi) (le-ltb q hi (omega (arith, g .size)))))
+      span = span-in-order s (g .order) t (itemAt shaped (from cs 0)) (itemAt shaped (shaped .count)) f h (g .size)
