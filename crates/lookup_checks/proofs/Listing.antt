@@ -8,7 +8,7 @@ use lib.ListN.{length, getD, drop, replicate, length-append, length-drop, length
 use Rattle.folds.specs.Folds.{upto}
 use Rattle.folds.specs.Lists.{among, sift}
 use Rattle.folds.proofs.Among.{among-at}
-use Rattle.store_rules.specs.Store.{Store, positionOf}
+use Rattle.store_rules.specs.Store.{Store}
 use Rattle.store_reader.specs.declared.LinkRows.{LinkRows}
 use Rattle.store_reader.specs.Rows.{ParentRows}
 use Rattle.lookup_rules.specs.Listed.{linkedIn, listSlots, eachOnce, lookupsOf, rewritten, goodLookup, badList}
@@ -21,13 +21,12 @@ use Rattle.lookup_checks.specs.Ordered.{chosen, Orderable, Ordered}
 use Rattle.lookup_checks.proofs.Objects.{use-fits, rows-lead}
 use Rattle.lookup_checks.proofs.Looking.{zeros-at}
 
-module _ (s : Store) (l t : ℕ) (u : ObjectInUse s l) (fine : badList s l t ≡ false) {r : LinkRows} (rows : ParentRows (s .links) (s .linkCount) l r)
-    (small : (k : ℕ) → positionOf s k < 4294967296) where
+module _ (s : Store) (l t : ℕ) (u : ObjectInUse s l) (fine : badList s l t ≡ false) {r : LinkRows} (rows : ParentRows (s .links) (s .linkCount) l r) where
   abbrev lead : ℕ → ℕ
   lead = leadsAt (s .links) r
 
   led : linkedIn (listSlots s l) ≡ upto lead (rowCount r)
-  led = list-linked s (use-fits u) l (list-fits s l t fine .0) ∙ rows-lead (use-fits u) rows small
+  led = list-linked s (use-fits u) l (list-fits s l t fine .0) ∙ rows-lead (use-fits u) rows
 
   -- those that are rewritten are chosen by the rows
   all-chosen : chosen s t lead (rowCount r) ≡ rewritten s l t

@@ -12,13 +12,13 @@ use Rattle.folds.specs.Lists.{among}
 use Rattle.folds.proofs.Tests.{and-first}
 use Rattle.folds.proofs.Moved.{map-upto}
 use Rattle.ot_layouts.specs.Lookup.{lookupCount, listHeader, listExact, lookupType, pairType, lookupHeader, lookupExact}
-use Rattle.store_rules.specs.Store.{Store, linkAt, bytesOf, positionOf, allAt}
+use Rattle.store_rules.specs.Store.{Store, linkAt, bytesOf, allAt}
 use Rattle.store_rules.proofs.Sound.{Fits, sound-fits}
 use Rattle.store_reader.specs.declared.LinkRows.{LinkRows}
 use Rattle.store_reader.specs.Rows.{Inside, InOrder, ParentRows}
 use Rattle.store_reader.proofs.Bytes.{inside}
-use Rattle.store_reader.proofs.Rows.{rows-in-order}
-use Rattle.store_link_rows.proofs.OwnLinks.{own-links}
+use Rattle.store_reader.proofs.Rows.{in-order, rows-in-order}
+use Rattle.store_link_rows.proofs.OwnLinks.{positions-low, own-links}
 use Rattle.lookup_rules.specs.Listed.{ofPairs, names, goodLookup}
 use Rattle.lookup_rules.proofs.NewLookup.{exact-long}
 use Rattle.lookup_rules.proofs.Listed.{good-exact}
@@ -43,8 +43,8 @@ module _ {s : Store} {p : ℕ} {r : LinkRows} (f : Fits s) (rows : ParentRows (s
   rows-in = record { rise = rows .rise; room = omega (arith, rows .after .within, f .linksIn) }
 
   -- they lead to its children
-  pub rows-lead : ((k : ℕ) → positionOf s k < 4294967296) → childrenOf s p ≡ upto (leadsAt (s .links) r) (rowCount r)
-  rows-lead small = ap (map (λ l. l .child)) (own-links s p rows small) ∙ map-upto (λ l. l .child) (λ i. linkAt s (r .first + i)) (rowCount r)
+  pub rows-lead : childrenOf s p ≡ upto (leadsAt (s .links) r) (rowCount r)
+  rows-lead = ap (map (λ l. l .child)) (own-links s (in-order s f) (positions-low s f) p rows) ∙ map-upto (λ l. l .child) (λ i. linkAt s (r .first + i)) (rowCount r)
 
 -- the rows of an object in use
 pub rows-used : {s : Store} {p : ℕ} {r : LinkRows} → ObjectInUse s p → ParentRows (s .links) (s .linkCount) p r → RowsUsed s r
@@ -84,7 +84,7 @@ module _ (s : Store) (p t : ℕ) {b : List ℕ} (e : b ≡ bytesOf s p) where
     of-others h = sym (and-first (ofPairs s p) (names s t p) (ap (λ (x : List ℕ). eqb (lookupType x) pairType) (sym e) ∙ sym f ∙ not-true x h))
 
     pub rows-decide : not x ≡ false → Fits s → goodLookup s p ≡ true → {r : LinkRows} → ParentRows (s .links) (s .linkCount) p r
-        → ((k : ℕ) → positionOf s k < 4294967296) → {y : Bool} → y ≡ among t (upto (leadsAt (s .links) r) (rowCount r)) → y ≡ (ofPairs s p && names s t p)
-    rows-decide h fit good {r} rows small {y} g =
+        → {y : Bool} → y ≡ among t (upto (leadsAt (s .links) r) (rowCount r)) → y ≡ (ofPairs s p && names s t p)
+    rows-decide h fit good {r} rows {y} g =
         let pairs : ofPairs s p ≡ true = ap (λ (x : List ℕ). eqb (lookupType x) pairType) (sym e) ∙ sym f ∙ not-false x h in
-        g ∙ sym (names-linked s fit p good t ∙ ap (among t) (rows-lead fit rows small)) ∙ sym (ap (λ (x : Bool). x && names s t p) pairs)
+        g ∙ sym (names-linked s fit p good t ∙ ap (among t) (rows-lead fit rows)) ∙ sym (ap (λ (x : Bool). x && names s t p) pairs)

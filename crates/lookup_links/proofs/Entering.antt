@@ -7,8 +7,9 @@ use lib.ListN.{length, getD}
 use Rattle.folds.specs.Folds.{flat}
 use Rattle.store_rules.specs.Store.{Link, lent, linksOf}
 use Rattle.store_rules.proofs.Sound.{sound-fits}
-use Rattle.store_reader.proofs.Rows.{in-order, position-most}
+use Rattle.store_reader.proofs.Rows.{in-order}
 use Rattle.store_link_rows.specs.Copies.{inUse, Copied}
+use Rattle.store_link_rows.proofs.OwnLinks.{positions-low}
 use Rattle.store_link_rows.proofs.Copying.{Turns, turns-start, turns-link, turns-in-order, turns-room, turns-most, turns-turn, turns-stop}
 use Rattle.lookup_rules.specs.Written.{newLookupLinks}
 use Rattle.lookup_links.specs.Copies.{lookupCopies, LookupReady}
@@ -58,7 +59,7 @@ module _ (ls counts : List ℕ) (t : ℕ) (us ps : List ℕ) (n : ℕ) where
             used = omega (arith, g .known .lookups m l .used, fits .objectsMost);
             small = λ k h.
                 let same = ap (λ (x : Link). x .position) (turns-link ls counts at (lookupTurn t us ps n) (length ps) (done .turns) l k h) in
-                omega (arith, position-most s fits k h);
+                omega (arith, positions-low s fits k h);
             few = g .known .few;
             room = turns-room ls counts at (lookupTurn t us ps n) (length ps) (done .turns) l;
             most = turns-most ls counts at (lookupTurn t us ps n) (length ps) (done .turns) l 262144 (omega (arith, g .known .most));

@@ -4,7 +4,7 @@ use mathlib.Core.Path.{_≡_, refl, sym, ap, ap₂, subst, _∙_}
 use mathlib.Core.List.{List, [], _∷_, _++_, append-assoc, append-nil}
 use native.Mathlib.Omega.{arith}
 use lib.ListN.{length, getD, length-append}
-use Rattle.store_rules.specs.Store.{Link, lent, perLink, positionOf}
+use Rattle.store_rules.specs.Store.{Link, lent, perLink}
 use Rattle.store_reader.specs.declared.LinkRows.{LinkRows}
 use Rattle.store_reader.specs.Rows.{ParentRows}
 use Rattle.store_link_rows.specs.Rows.{linkIn, positionIn}
@@ -39,11 +39,10 @@ pub record Entered (ls : List ℕ) (t : ℕ) (us : List ℕ) (u at : ℕ) (rows 
 module _ (ls : List ℕ) (t : ℕ) (us : List ℕ) (u at : ℕ) (rows : LinkRows) where
   -- ---- the first
 
-  module _ (counts : List ℕ) (p : ℕ) (ready : LookupReady ls counts t us p u at) (own : ParentRows ls (getD counts 2 0) p rows)
-      (small : (k : ℕ) → positionOf (lent [] [] ls counts) k < 4294967296) where
+  module _ (counts : List ℕ) (p : ℕ) (ready : LookupReady ls counts t us p u at) (own : ParentRows ls (getD counts 2 0) p rows) where
     pub all-are : lookupCopies t us (inUse ls counts) p u ≡ allIn ls t us u rows
     unfolding lookupCopies
-    all-are = ap (linksEntered t us u 0) (own-links (lent [] [] ls counts) p own small)
+    all-are = ap (linksEntered t us u 0) (own-links (lent [] [] ls counts) (ready .order) (ready .small) p own)
 
     pub entered-start : Entered ls t us u at rows ls at (rows .first)
     entered-start =

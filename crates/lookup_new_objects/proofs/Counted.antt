@@ -15,7 +15,8 @@ use Rattle.store_rules.specs.Store.{Store, Link, linkAt, childAt, positionOf, b
 use Rattle.store_rules.proofs.Sound.{Fits}
 use Rattle.store_reader.specs.declared.LinkRows.{LinkRows}
 use Rattle.store_reader.specs.Rows.{ParentRows}
-use Rattle.store_link_rows.proofs.OwnLinks.{own-links}
+use Rattle.store_link_rows.proofs.OwnLinks.{positions-low, own-links}
+use Rattle.store_reader.proofs.Rows.{in-order}
 use Rattle.lookup_rules.specs.Listed.{slotsAt, subtableSlots, goodLookup}
 use Rattle.lookup_rules.specs.Written.{newLookup, newSlots, newLookups, listings}
 use Rattle.lookup_rules.proofs.Filled.{lookup-filled, filled-listings}
@@ -24,14 +25,14 @@ use Rattle.lookup_new_objects.specs.Counted.{listedIn, countWith, lookup
 
 -- ---- by the rows of a lookup
 
-module _ (s : Store) (p : ℕ) {rows : LinkRows} (own : ParentRows (s .links) (s .linkCount) p rows) (small : (k : ℕ) → positionOf s k < 4294967296) where
+module _ (s : Store) (p : ℕ) {rows : LinkRows} (own : ParentRows (s .links) (s .linkCount) p rows) where
   pub rows-listings : Fits s → goodLookup s p ≡ true → (t : ℕ) → listedIn (s .links) rows t ≡ listings t (subtableSlots s p)
   unfolding listedIn
   rows-listings f good t =
       let n = rows .after - rows .first in
       let link : ℕ → Link = λ i. linkAt s (rows .first + i) in
       sym (filled-listings t (lookup-filled s f p good)
-      ∙ ap (λ (ls : List Link). length (sift (λ l. eqb (l .child) t) ls)) (own-links s p own small)
+      ∙ ap (λ (ls : List Link). length (sift (λ l. eqb (l .child) t) ls)) (own-links s (in-order s f) (positions-low s f) p own)
       ∙ ap length (sift-upto (λ l. eqb (l .child) t) link n)
       ∙ length-picked (λ i. eqb (link i .child) t) link n)
 

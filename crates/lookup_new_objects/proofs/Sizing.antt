@@ -16,7 +16,8 @@ use Rattle.store_reader.specs.declared.LinkRows.{LinkRows}
 use Rattle.store_reader.specs.Rows.{Inside, InOrder, ParentRows}
 use Rattle.store_reader.proofs.Rows.{in-order}
 use Rattle.store_reader.proofs.Bytes.{inside}
-use Rattle.store_link_rows.proofs.OwnLinks.{own-many}
+use Rattle.store_link_rows.proofs.OwnLinks.{positions-low, own-many}
+use Rattle.store_reader.proofs.Rows.{in-order}
 use Rattle.lookup_rules.specs.Listed.{subtableSlots, goodLookup}
 use Rattle.lookup_rules.specs.Written.{listings}
 use Rattle.lookup_rules.proofs.NewLookup.{exact-long, new-length}
@@ -65,17 +66,17 @@ module _ {s : Store} {k p : ℕ} (z : Sizing s k p) where
       pub entered-few : k * n ≤ 17179869184
       entered-few = let many = listed-few (s .links) rows t in mul-le-mul {n₂ = 65536} {m₂ = 262144} (z .few) (omega (arith, rows-few))
 
-      pub sized : ((k : ℕ) → positionOf s k < 4294967296) → {b : List ℕ} → b ≡ bytesOf s p → {c : ℕ} → c < 65536 → c ≡ subtableCount b
+      pub sized : {b : List ℕ} → b ≡ bytesOf s p → {c : ℕ} → c < 65536 → c ≡ subtableCount b
           → Sized s t k p (record { subtables = c + k * n; links = rows .after - rows .first + k * n; bytes = length b + 2 * (k * n) })
       unfolding countWith
-      sized small {b} same {c} short count =
+      sized {b} same {c} short count =
           let old = bytesOf s p in
-          let many : k * n ≡ k * listings t (subtableSlots s p) = ap (λ (x : ℕ). k * x) (e ∙ rows-listings s p own small fits (z .lookup .good) t) in
+          let many : k * n ≡ k * listings t (subtableSlots s p) = ap (λ (x : ℕ). k * x) (e ∙ rows-listings s p own fits (z .lookup .good) t) in
           let slots : c ≡ subtableCount old = count ∙ ap subtableCount same in
           let long : length b ≡ length old = ap length same in
           record {
             subtables-is = omega arith;
-            links-is = omega (arith, own-many s p own small);
+            links-is = omega (arith, own-many s (in-order s fits) (positions-low s fits) p own);
             bytes-is = omega (arith, new-length old (countWith s t k p) bytes-long);
             links-few = omega (arith, rows-few, entered-few);
             bytes-few = omega (arith, bytes-most same, entered-few);

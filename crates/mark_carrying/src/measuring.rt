@@ -6,12 +6,13 @@ use mark_checks::MarkTable;
 use mark_new_objects::new_length;
 use store_reader::rows_of;
 ghost use mathlib.Core.Path.{_≡_};
+ghost use mathlib.Core.Bool.{true};
 ghost use mathlib.Core.List.{List};
 ghost use Prim.Native.Nat.{ℕ, _+_, _≤_, _<_};
 ghost use lib.ListN.{getD};
 ghost use Rattle.folds.specs.Lists.{part};
 ghost use Rattle.folds.specs.Moments.{came, left};
-ghost use Rattle.store_rules.specs.Store.{Store, lent};
+ghost use Rattle.store_rules.specs.Store.{Store, lent, sound};
 ghost use Rattle.store_rules.specs.SlotLinks.{linksFrom};
 ghost use Rattle.store_rules.specs.Moments.{storeCameWith, storeNowWith};
 ghost use Rattle.store_reader.specs.Rows.{InOrder};
@@ -20,11 +21,11 @@ ghost use Rattle.mark_rules.specs.Written.{needsOf};
 ghost use Rattle.mark_carrying.specs.Arranging.{Arranging};
 ghost use Rattle.mark_carrying.specs.Measuring.{Measured};
 
-// How many links an object has.
+// How many offsets an object has.
 fn links_from(links: &[u32], counts: [u32; 3], object: u32) -> usize
     requires { ⌜ InOrder (now links) (getD counts 2 0) × (object < 65536) ⌝ }
     ensures { λ r. ⌜ r ≤ getD counts 2 0 ⌝ }
-    ensures { λ r. ⌜ ((b o : List ℕ) → r ≡ linksFrom (lent b o (came links) counts) object) ⌝ }
+    ensures { λ r. ⌜ ((b o : List ℕ) → sound (lent b o (came links) counts) ≡ true → r ≡ linksFrom (lent b o (came links) counts) object) ⌝ }
 {
     let rows = rows_of(links, counts[2] as usize, object);
     rows.after - rows.first

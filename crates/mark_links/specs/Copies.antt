@@ -1,11 +1,12 @@
 -- Links of a table's arrays copied to new arrays, from the link rows alone. Assumes nothing.
-use Prim.Native.Nat.{ℕ, _+_, _-_, _*_, _/_, _%_, _<_}
+use Prim.Native.Nat.{ℕ, _+_, _-_, _*_, _/_, _%_, _≤_, _<_}
 use mathlib.Core.List.{List, _++_}
 use lib.ListN.{length, getD}
 use Rattle.ot_layouts.specs.MarkBasePos.{own, heads, markSlot, baseSlot}
 use Rattle.store_rules.specs.Store.{Link, lookup}
 use Rattle.store_rules.specs.Header.{headerLinks}
 use Rattle.store_rules.specs.SlotLinks.{slotLink, slotLinks}
+use Rattle.store_reader.specs.Rows.{orders}
 use Rattle.store_link_rows.specs.Copies.{Source}
 use Rattle.mark_links.specs.declared.Arrays.{Arrays}
 use Rattle.mark_links.specs.declared.ArrayRows.{ArrayRows}
@@ -40,4 +41,4 @@ tableCopies old a places lo hi u = headerLinks own heads u (λ q. a .«base_cove
 pub record Sources (ls counts : List ℕ) (a : Arrays) (rows : ArrayRows) : Type 0 where
   pub marks : Source ls counts (a .«mark_array») (rows .marks)
   pub bases : Source ls counts (a .«base_array») (rows .bases)
-  pub short : 2 + 2 * (a .bases * a .classes) < 4294967296
+  pub short : 2 + 2 * (a .bases * a .classes) ≤ orders

@@ -10,7 +10,7 @@ use Rattle.ot_layouts.specs.MarkBasePos.{baseCoverAt}
 use Rattle.glyph_rules.specs.Entries.{within}
 use Rattle.store_rules.specs.Store.{Store, Link, lent, perLink, linkedAt}
 use Rattle.store_rules.specs.Appended.{rowNumbers, newNumber}
-use Rattle.store_reader.specs.Rows.{InOrder}
+use Rattle.store_reader.specs.Rows.{orders, InOrder}
 use Rattle.cut_rules.specs.Places.{Places}
 use Rattle.cut_rules.specs.Ranges.{from, to}
 use Rattle.cut_parts.specs.Tables.{paired, Parted}
@@ -47,7 +47,7 @@ newCopies old a ps ks cs first =
 pub record CopyReady (ls counts : List ℕ) (a : Arrays) (ps ks cs : List ℕ) : Type 0 where
   pub order : InOrder ls (getD counts 2 0)
   pub used : (a .«mark_array» < 65536) × (a .«base_array» < 65536)
-  pub short : 2 + 2 * (a .bases * a .classes) < 4294967296
+  pub short : 2 + 2 * (a .bases * a .classes) ≤ orders
   pub parts : Parted ps ks cs (a .classes)
   pub few : length ps ≤ 16777216
   pub numbers : getD counts 1 0 + perTable * length cs + 2 < 4294967296

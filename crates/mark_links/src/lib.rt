@@ -7,6 +7,7 @@ ghost use Rattle.cut_parts.specs.Tables.{PartEnd, Parted};
 ghost use Rattle.mark_rules.specs.Written.{perTable};
 ghost use Rattle.mark_links.specs.Splitting.{tablesCopies, newCopies, CopyReady, Splitting, SplittingLent, LinksSplit};
 ghost use Rattle.folds.specs.Moments.{came, left};
+ghost use Rattle.store_reader.specs.Rows.{orders};
 ghost use Rattle.store_link_rows.specs.Copies.{inUse, Source, RowsRoom, Copied};
 ghost use Rattle.mark_links.specs.Copies.{slotCopy, markCopies, baseCopies, arrayCopies, tableCopies, Sources};
 use cut_parts::cut_after;
@@ -57,7 +58,7 @@ fn copy_slot(
     parent: u32,
     slot: u32,
 ) -> Reached
-    requires { ⌜ Source (now links) counts array rows ⌝ }
+    requires { ⌜ Source (now links) counts array rows × (position ≤ orders) ⌝ }
     requires { ⌜ RowsRoom (now links) counts at (slotCopy (inUse (now links) counts) array position parent slot) ⌝ }
     ensures { λ r. ⌜
         Copied (came links) at (slotCopy (inUse (came links) counts) array position parent slot) (left links) (r .at)
@@ -134,7 +135,7 @@ fn copy_bases(
     held: &mut [u32; 4096],
 ) -> usize
     requires { ⌜ Source (now links) counts array rows ⌝ }
-    requires { ⌜ (lo ≤ hi) × (hi ≤ classes) × (classes < 65536) × (2 + 2 * (bases * classes) < 4294967296) ⌝ }
+    requires { ⌜ (lo ≤ hi) × (hi ≤ classes) × (classes < 65536) × (2 + 2 * (bases * classes) ≤ orders) ⌝ }
     requires { ⌜ RowsRoom (now links) counts at (baseCopies (inUse (now links) counts) array bases classes lo hi parent) ⌝ }
     ensures { λ r. ⌜ Copied (came links) at (baseCopies (inUse (came links) counts) array bases classes lo hi parent) (left links) r ⌝ }
 {

@@ -82,7 +82,7 @@ module _ {s : Store} {t : ℕ} (w : Scratch) {p : MarkTable} (k : Passed s t (le
     tells : ltb 0 (getD z t 0) ≡ onCycle s t
     tells =
         let fits = opened-fits (k .opens) in
-        begun-whole fits (can-begin .0) (omega arith) (omega (arith, size-bytes s fits t (can-begin .0), k .opens .reads .exactly)) d
+        begun-whole fits (can-begin .0) (omega (arith, size-bytes s fits t (can-begin .0), k .opens .reads .exactly)) d
 
     pub can-cut : Looked s t p z (w .set) (w .glyphs) (w .classes) (w .cuts)
     can-cut =

@@ -37,9 +37,11 @@ use Rattle.ot_layouts.specs.MarkBasePos.{
 }
 use Rattle.store_rules.specs.Store.{Store, Link, linkAt, parentOf, positionOf, sizeOf, offsetOf, allAt, childAt, linkedBytes}
 use Rattle.store_rules.specs.Reach.{rowsOf}
+use Rattle.store_rules.proofs.Shaped.{of-offset, of-parent, offset-inside}
 use Rattle.store_rules.proofs.Sound.{Fits, sound-fits, size-bytes, size-most}
 use Rattle.store_rules.proofs.Lookups.{linked-used}
 use Rattle.store_rules.proofs.Slots.{one-stands}
+use Rattle.store_reader.specs.Rows.{orders}
 use Rattle.glyph_rules.specs.Entries.{within}
 use Rattle.glyph_class_parts.specs.ClassParts.{startOf}
 use Rattle.glyph_class_parts.proofs.ClassParts.{class-part}
@@ -144,7 +146,7 @@ module _ {s : Store} {t : ℕ} {x : TableInfo} {ps cs : List ℕ} (u : Described
   pub marks-most : marksIn s t ≤ 4194304
   marks-most = omega (arith, marks-size, size-most s described-fits (markArray s t) (arrays-used .0))
 
-  pub slots-most : baseSlot (x .bases * x .classes) + 1 < 4294967296
+  pub slots-most : baseSlot (x .bases * x .classes) ≤ orders
   slots-most = rw (u .bases, u .classes) (omega (arith, bases-size, size-most s described-fits (baseArray s t) (arrays-used .1)))
 
   at-slots : (allAt s (markArray s t) isMarkSlot ≡ true) × (allAt s (baseArray s t) isBaseSlot ≡ true)
@@ -154,11 +156,13 @@ module _ {s : Store} {t : ℕ} {x : TableInfo} {ps cs : List ℕ} (u : Described
       (and-both (allAt s t isTableSlot) (allAt s (markArray s t) isMarkSlot) a .1, b)
 
   module _ (k : ℕ) (used : k < s .linkCount) where
-    position-in : (p : ℕ) → parentOf s k ≡ p → positionOf s k + 2 ≤ sizeOf s p
-    position-in p e = rw e at (described-fits .link k used .inside)
+    position-in : (p : ℕ) → offsetOf p (linkAt s k) ≡ true → positionOf s k + 2 ≤ sizeOf s p
+    position-in p e =
+        let inside = offset-inside (sizeOf s (parentOf s k)) (linkAt s k) (of-offset p (linkAt s k) e) (described-fits .link k used .shape) in
+        rw (of-parent p (linkAt s k) e) at inside
 
     -- a link of the mark array stands at a mark's slot
-    mark-slot : parentOf s k ≡ markArray s t → (m : ℕ) × (m < marksIn s t) × (positionOf s k ≡ markSlot m)
+    mark-slot : offsetOf (markArray s t) (linkAt s k) ≡ true → (m : ℕ) × (m < marksIn s t) × (positionOf s k ≡ markSlot m)
     unfolding isMarkSlot
     mark-slot e =
         let q : ℕ = positionOf s k in
@@ -168,7 +172,7 @@ module _ {s : Store} {t : ℕ} {x : TableInfo} {ps cs : List ℕ} (u : Described
         ((q - 4) / 4, omega (arith, position-in (markArray s t) e, marks-size), omega arith)
 
     -- and one of the base array at a base's
-    base-slot : parentOf s k ≡ baseArray s t → (m : ℕ) × (m < basesIn s t * classesOf s t) × (positionOf s k ≡ baseSlot m)
+    base-slot : offsetOf (baseArray s t) (linkAt s k) ≡ true → (m : ℕ) × (m < basesIn s t * classesOf s t) × (positionOf s k ≡ baseSlot m)
     unfolding isBaseSlot
     base-slot e =
         let q : ℕ = positionOf s k in
@@ -196,7 +200,7 @@ module _ {s : Store} {t : ℕ} {x : TableInfo} {ps cs : List ℕ} (u : Described
         ∙ map-picked (λ e. e .glyph) (λ j. test (entry j)) entry (marksIn s t))
         ∙ among-picked (λ j. test (entry j)) (marksIn s t) m h
 
-    mark-row : (k : ℕ) → k < s .linkCount → parentOf s k ≡ markArray s t
+    mark-row : (k : ℕ) → k < s .linkCount → offsetOf (markArray s t) (linkAt s k) ≡ true
         → among (positionOf s k) (map markSlot its) ≡ inClasses i (i + 1) (classBefore (markBytes s t) (positionOf s k))
     mark-row k h e =
         let (m, few, q) = mark-slot k h e in
@@ -206,7 +210,7 @@ module _ {s : Store} {t : ℕ} {x : TableInfo} {ps cs : List ℕ} (u : Described
         ∙ in-class m few
         ∙ ap (λ (y : ℕ). inClasses i (i + 1) (u16At (markBytes s t) y)) (sym z))
 
-    base-row : i < classesOf s t → (k : ℕ) → k < s .linkCount → parentOf s k ≡ baseArray s t
+    base-row : i < classesOf s t → (k : ℕ) → k < s .linkCount → offsetOf (baseArray s t) (linkAt s k) ≡ true
         → among (positionOf s k) (columnSlots (basesIn s t) (classesOf s t) i) ≡ inClasses i (i + 1) (columnAt (classesOf s t) (positionOf s k))
     base-row class k h e = let (m, few, q) = base-slot k h e in rw q (in-column (basesIn s t) (classesOf s t) i m few class)
 
@@ -252,9 +256,9 @@ module _ {s : Store} {t : ℕ} {x : TableInfo} {ps cs : List ℕ} (u : Described
         let marks : Bool = offsetOf (markArray s t) l in
         let bases : Bool = offsetOf (baseArray s t) l in
         let in-marks : marks && among (positionOf s k) (map markSlot (its i)) ≡ marks && inClasses i (i + 1) c =
-        where-true marks _ _ (λ e. mark-row i k h (eqb-true (parentOf s k) (markArray s t) e)) in
+        where-true marks _ _ (λ e. mark-row i k h e) in
         let in-bases : bases && among (positionOf s k) (columnSlots (basesIn s t) (classesOf s t) i) ≡ bases && inClasses i (i + 1) d =
-        where-true bases _ _ (λ e. base-row i (omega (arith, u .classes)) k h (eqb-true (parentOf s k) (baseArray s t) e)) in
+        where-true bases _ _ (λ e. base-row i (omega (arith, u .classes)) k h e) in
         rw (u .marksAt, u .basesAt, u .bases, u .classes, in-marks, in-bases)
         (joined marks bases (inClasses a i c) (inClasses a i d) (inClasses i (i + 1) c) (inClasses i (i + 1) d)
         ∙ rw (sym (range-more a i c order), sym (range-more a i d order)))

@@ -8,19 +8,21 @@ use native.Mathlib.Omega.{arith}
 use lib.Dec.{leb, ltb, eqb}
 use lib.ListN.{length, getD}
 use lib.Seq.{ext-getD}
-use borrow.Author.Tests.{le-leb, lt-leb, lt-ltb, le-ltb, eq-eqb, ne-eqb}
+use borrow.Author.Tests.{le-leb, lt-leb, lt-ltb, le-ltb, eqb-true, eq-eqb, ne-eqb}
 use Rattle.folds.specs.Folds.{flat, upto}
 use Rattle.folds.specs.Lists.{among}
 use Rattle.folds.proofs.Among.{among-one, among-more}
 use Rattle.folds.proofs.Folds.{length-upto}
 use Rattle.folds.proofs.FromTheFront.{upto-at}
 use Rattle.folds.proofs.Moved.{map-upto}
-use Rattle.folds.proofs.Tests.{either}
-use Rattle.store_rules.specs.Store.{Store, lent, linkAt, parentOf, positionOf, offsetOf, sound}
+use Rattle.folds.proofs.Tests.{either, and-intro}
+use Rattle.store_rules.specs.Store.{Store, lent, linkAt, positionOf, kindOf, offsetOf, sound}
+use Rattle.store_rules.proofs.Shaped.{of-offset}
 use Rattle.store_rules.proofs.Sound.{Fits, sound-fits}
-use Rattle.store_reader.specs.Rows.{keyOf, FirstRow}
-use Rattle.store_reader.proofs.Rows.{position-most, rows-between}
-use Rattle.store_walk.specs.Marks.{alsoBetween, alsoAt, Marks, Walked, Grown}
+use Rattle.store_reader.specs.Rows.{orders, keyOf, FirstRow}
+use Rattle.store_reader.proofs.Rows.{span-rows}
+use Rattle.store_walk.specs.Marks.{Offsets, alsoBetween, alsoAt, Marks, Walked, Grown}
+use Rattle.store_walk.proofs.Items.{span-own}
 use Rattle.store_walk.proofs.Grown.{grown-none, grown-more, grown-same, grown-walk, grown-most}
 use Rattle.mark_points.specs.Anchors.{Goes, WalksAt}
 
@@ -42,15 +44,21 @@ and-assoc : (a b c : Bool) → a && b && c ≡ a && (b && c)
 and-assoc true b c = refl
 and-assoc false b c = refl
 
-module _ {s : Store} (p q : ℕ) {lo hi : ℕ} (f : Fits s) (short : q + 1 < 4294967296)
+module _ {s : Store} (p q : ℕ) {lo hi : ℕ} (f : Fits s) (short : q + 1 ≤ orders)
     (first : FirstRow (s .links) (s .linkCount) (keyOf p q) lo) (next : FirstRow (s .links) (s .linkCount) (keyOf p (q + 1)) hi) where
   -- the rows from the first at the position or past it up to the first past it
   slot-rows : (from : ℕ → Bool) (k : ℕ) → k < s .linkCount → alsoBetween from lo hi k ≡ alsoAt s from p (q ∷ []) k
   slot-rows from k h =
       ap (λ (b : Bool). from k || b)
-      (rows-between p q (q + 1) first next (omega arith) k h (omega (arith, position-most s f k h))
-      ∙ and-assoc (eqb (parentOf s k) p) (leb q (positionOf s k)) (ltb (positionOf s k) (q + 1))
-      ∙ ap (λ (b : Bool). eqb (parentOf s k) p && b) (one-place q (positionOf s k) ∙ sym (among-one (positionOf s k) q)))
+      (span-rows s f p q (q + 1) first next short k h
+      ∙ and-assoc (offsetOf p (linkAt s k)) (leb q (positionOf s k)) (ltb (positionOf s k) (q + 1))
+      ∙ ap (λ (b : Bool). offsetOf p (linkAt s k) && b) (one-place q (positionOf s k) ∙ sym (among-one (positionOf s k) q)))
+
+  -- which are offsets
+  pub slot-offsets : Offsets (s .links) lo hi
+  slot-offsets k a b =
+      let h : k < s .linkCount = omega (arith, next .within) in
+      eqb-true (kindOf s k) 0 (of-offset p (linkAt s k) (span-own p q (q + 1) (linkAt s k) (sym (span-rows s f p q (q + 1) first next short k h) ∙ and-intro (leb lo k) (ltb k hi) (le-leb lo k a) (lt-ltb k hi b))))
 
   pub slot-grown : {from : ℕ → Bool} {e : ℕ} {w w′ : List ℕ} {r : ℕ} → Marks s from e w → Walked s from lo hi e w w′ r
       → Grown s from (alsoAt s from p (q ∷ [])) e w′ r

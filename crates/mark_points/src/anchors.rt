@@ -9,7 +9,8 @@ use store_reader::next_row;
 use store_reader::row_near;
 use store_walk::subgraph_size;
 ghost use mathlib.Core.List.{map};
-ghost use Prim.Native.Nat.{_+_, _*_, _<_};
+ghost use Prim.Native.Nat.{_+_, _*_, _≤_, _<_};
+ghost use Rattle.store_reader.specs.Rows.{orders};
 ghost use Rattle.ot_layouts.specs.MarkBasePos.{markSlot, baseSlot};
 ghost use Rattle.folds.specs.Moments.{came, left};
 ghost use Rattle.mark_points.specs.Anchors.{columnSlots, RowsKnown, Goes, Walkable, WalksAt, WalksSlot, WalksClass, WalksAtCut};
@@ -40,7 +41,7 @@ pub fn class_size(
     held: &mut [u32; 4096],
     walk: &mut [u32],
 ) -> u64
-    requires { ⌜ (class < info .classes) × (baseSlot (info .bases * info .classes) + 1 < 4294967296) ⌝ }
+    requires { ⌜ (class < info .classes) × (baseSlot (info .bases * info .classes) ≤ orders) ⌝ }
     requires { ⌜ RowsKnown (now links) counts info rows × Goes (now objects) (now links) counts epoch (now walk) ⌝ }
     ensures { λ r. ⌜ WalksClass (came objects) (came links) counts info class (came places) epoch (came walk) (left walk) r ⌝ }
 {
@@ -85,7 +86,7 @@ pub fn class_size_at_cut(
     held: &mut [u32; 4096],
     walk: &mut [u32],
 ) -> u64
-    requires { ⌜ (class < info .classes) × (baseSlot (info .bases * info .classes) + 1 < 4294967296) ⌝ }
+    requires { ⌜ (class < info .classes) × (baseSlot (info .bases * info .classes) ≤ orders) ⌝ }
     requires { ⌜ RowsKnown (now links) counts info rows × Goes (now objects) (now links) counts epoch (now walk) ⌝ }
     ensures { λ r. ⌜
         WalksAtCut (came objects) (came links) counts info class (came places) size edition epoch (came walk) (left walk) r
@@ -120,7 +121,7 @@ fn slot_size(
     epoch: u32,
     walk: &mut [u32],
 ) -> Slot
-    requires { ⌜ position + 1 < 4294967296 ⌝ }
+    requires { ⌜ position + 1 ≤ orders ⌝ }
     requires { ⌜ Walkable (now objects) (now links) counts array rows epoch (now walk) ⌝ }
     ensures { λ r. ⌜ WalksSlot (came objects) (came links) counts array position epoch (came walk) (left walk) r ⌝ }
 {
@@ -146,7 +147,7 @@ fn column_size(
     held: &mut [u32; 4096],
     walk: &mut [u32],
 ) -> u64
-    requires { ⌜ (class < classes) × (baseSlot (bases * classes) + 1 < 4294967296) ⌝ }
+    requires { ⌜ (class < classes) × (baseSlot (bases * classes) ≤ orders) ⌝ }
     requires { ⌜ Walkable (now objects) (now links) counts array rows epoch (now walk) ⌝ }
     ensures { λ r. ⌜
         WalksAt (came objects) (came links) counts array (columnSlots bases classes class) epoch (came walk) (left walk) r

@@ -39,12 +39,10 @@ returns-2 c =
     let s = lent (a .«data» .now) (a .objects .now) (a .links .now) (a .t4) in
     let fit = use-fits (begun .pre) in
     let rows = found .rows-of .result in
-    let small : (k : ℕ) → positionOf s k < 4294967296
-    = λ k. omega (arith, found .before .before .before .before .shared-slice-known3 .given (perLink * k + rowPosition)) in
     let good = sym (found .before .before .list-fits .ensures) ∙ not-false _ (found .before .if1 .left) in
     c .before .before .lookups-fit .ensures
     ∙ lookups-decide s (a .list) (a .table) good (leadsAt (s .links) rows) (rowCount rows)
-    (list-linked s fit (a .list) good ∙ rows-lead fit (found .rows-of .ensures) small)
+    (list-linked s fit (a .list) good ∙ rows-lead fit (found .rows-of .ensures))
 
 pub check-list-spec : {M : Type 1} → statement M
 check-list-spec =

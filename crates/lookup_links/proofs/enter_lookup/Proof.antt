@@ -2,7 +2,6 @@
 use Prim.Native.Nat.{_+_, _-_, _*_}
 use native.Mathlib.Omega.{arith}
 use borrow.Author.Needs.{needs}
-use Rattle.store_rules.specs.Store.{perLink, rowPosition}
 use Rattle.lookup_links.proofs.Lookup.{Entered, all-are, entered-start, entered-stop, row-ready, entered-turn}
 use Rattle.lookup_links.proofs.enter_lookup.Statement.{statement}
 use Rattle.lookup_links.proofs.enter_lookup.Tie as tie
@@ -18,10 +17,8 @@ rows-of-requires c κs = let pre = c .before .before .before .pre in (pre .order
 
 loop-holds : tie.Need-loop-holds Inv-loop μ-loop
 loop-holds c =
-    let known = c .before .before .before in
-    let start = known .before in
+    let start = c .before .before .before .before in
     entered-start _ _ _ _ _ _ (start .args .t2) _ (start .pre) (c .rows-of .ensures)
-    (λ k. omega (arith, known .slice-known .given (perLink * k + rowPosition)))
 
 enter-row-requires : tie.Need-enter-row-requires Inv-loop μ-loop
 enter-row-requires c κs =
@@ -39,10 +36,8 @@ loop-again c =
 returns : tie.Need-returns Inv-loop μ-loop
 returns c =
     let at-loop = c .before .before in
-    let known = at-loop .before .before .before .before in
-    let start = known .before in
-    let all = all-are _ _ _ _ _ _ (start .args .t2) _ (start .pre) (at-loop .before .rows-of .ensures)
-    (λ k. omega (arith, known .slice-known .given (perLink * k + rowPosition))) in
+    let start = at-loop .before .before .before .before .before in
+    let all = all-are _ _ _ _ _ _ (start .args .t2) _ (start .pre) (at-loop .before .rows-of .ensures) in
     entered-stop _ _ _ _ _ _ _ _ _ (at-loop .loop .inv) (c .if1 .left) all
 
 pub enter-lookup-spec : {M : Type 1} → statement M

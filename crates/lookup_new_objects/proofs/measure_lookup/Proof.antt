@@ -53,7 +53,6 @@ returns c =
     let after-rows = after-bytes .before .before in
     let start = after-rows .before .before .before .before in
     sized (start .pre) (after-rows .rows-of .ensures) _ _ (after-bytes .before .count-listings .ensures)
-    (λ k. omega (arith, after-rows .before .shared-slice-known3 .given (perLink * k + rowPosition)))
     (after-bytes .bytes-of .ensures (start .args .links .now) (start .args .t4)) (search needs) (c .before .subtable-count .ensures)
 
 pub measure-lookup-spec : {M : Type 1} → statement M

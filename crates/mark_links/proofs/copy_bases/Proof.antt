@@ -64,7 +64,7 @@ copy-slot-requires : tie.Need-copy-slot-requires Inv-loop μ-loop
 copy-slot-requires c κs =
     let in-loop = c .before in
     let at-loop = in-loop .before in (
-      turns-source _ _ _ _ _ (at-loop .loop .inv .0 .turns) (in-loop .loop-test .taken) _ _ (start at-loop .pre .0),
+      (turns-source _ _ _ _ _ (at-loop .loop .inv .0 .turns) (in-loop .loop-test .taken) _ _ (start at-loop .pre .0), omega (arith, here in-loop)),
       bases-room _ _ _ _ _ _ _ _ _ (fits (start at-loop)) (at-loop .loop .inv .0) (in-loop .loop-test .taken),
     )
 

@@ -49,7 +49,7 @@ copy-slot-requires c κs =
     let in-loop = c .before .before .before in
     let at-loop = in-loop .before in
     let start = at-loop .before .before .before in (
-      turns-source _ _ _ _ _ (at-loop .loop .inv) (in-loop .loop-test .taken) _ _ (start .pre .0 .0),
+      (turns-source _ _ _ _ _ (at-loop .loop .inv) (in-loop .loop-test .taken) _ _ (start .pre .0 .0), omega (arith, short (c .before .before))),
       turns-room _ _ _ _ _ (at-loop .loop .inv) (in-loop .loop-test .taken),
     )
 

@@ -8,7 +8,9 @@ use Rattle.mark_links.proofs.copy_slot.Statement.{statement}
 use Rattle.mark_links.proofs.copy_slot.Tie as tie
 
 row-near-requires : tie.Need-row-near-requires
-row-near-requires c κs = let source = c .before .before .pre .0 in (source .order, among-parent (source .rows-are) _ (omega arith))
+row-near-requires c κs =
+    let (source, low) = c .before .before .pre .0 in
+    (source .order, among-parent (source .rows-are) _ low)
 
 returns : tie.Need-returns
 returns c =

@@ -38,8 +38,7 @@ returns-2 c =
     let a = start .args in
     let s = lent (a .«data» .now) (a .objects .now) (a .links .now) (a .t4) in
     rows-decide s (a .lookup) (a .table) (typed .before .bytes-of .ensures (a .links .now) (a .t4)) (typed .is-of-pairs .ensures) (c .before .before .if1 .left)
-    (use-fits (start .pre .0)) (start .pre .1) (c .before .rows-of .ensures)
-    (λ k. omega (arith, typed .before .before .shared-slice-known3 .given (perLink * k + rowPosition))) (c .rows-lead-to .ensures)
+    (use-fits (start .pre .0)) (start .pre .1) (c .before .rows-of .ensures) (c .rows-lead-to .ensures)
 
 pub is-rewritten-spec : {M : Type 1} → statement M
 is-rewritten-spec =

@@ -24,11 +24,9 @@ order-rows-requires c κs =
     let begun = found .before .before .before .before .before in
     let a = begun .args in
     let s = lent (a .«data» .now) (a .objects .now) (a .links .now) (a .t4) in
-    let small : (k : ℕ) → positionOf s k < 4294967296
-    = λ k. omega (arith, found .before .before .shared-slice-known3 .given (perLink * k + rowPosition)) in
     let marks = take (getD (a .t4) 1 0) (a .walk .now) in (
       rows-used (begun .pre .0) (found .rows-of .ensures),
-      orderable s (a .list) (a .table) (begun .pre .0) (begun .pre .1 .0) (found .rows-of .ensures) small (length marks) (a .walk .now)
+      orderable s (a .list) (a .table) (begun .pre .0) (begun .pre .1 .0) (found .rows-of .ensures) (length marks) (a .walk .now)
           (c .before .before .before .clear-u32 .ensures) (length-take-le _ _ (omega (arith, begun .pre .1 .1))) (begun .pre .1 .1),
     )
 
@@ -38,9 +36,7 @@ returns c =
     let begun = found .before .before .before .before .before in
     let a = begun .args in
     let s = lent (a .«data» .now) (a .objects .now) (a .links .now) (a .t4) in
-    let small : (k : ℕ) → positionOf s k < 4294967296
-    = λ k. omega (arith, found .before .before .shared-slice-known3 .given (perLink * k + rowPosition)) in
-    ordered s (a .list) (a .table) (begun .pre .0) (begun .pre .1 .0) (found .rows-of .ensures) small (c .before .before .order-rows .ensures)
+    ordered s (a .list) (a .table) (begun .pre .0) (begun .pre .1 .0) (found .rows-of .ensures) (c .before .before .order-rows .ensures)
 
 pub order-lookups-spec : {M : Type 1} → statement M
 order-lookups-spec =

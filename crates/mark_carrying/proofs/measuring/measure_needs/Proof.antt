@@ -65,8 +65,8 @@ returns c t k =
     let known = arranging .before .before .before .before .before .before .before .before .before .before .before .before .before in
     let a = known .before .args in
     measured k (λ i. known .shared-slice-known .given i .fits) (arranging .arrange-glyphs .ensures (a .links .now) (a .counts) t k)
-    (c .before .before .before .new-length .ensures) (c .before .before .links-from .ensures .1 (a .«data» .now) (a .objects .now))
-    (c .before .links-from2 .ensures .1 (a .«data» .now) (a .objects .now)) (c .needs-of .ensures)
+    (c .before .before .before .new-length .ensures) (c .before .before .links-from .ensures .1 (a .«data» .now) (a .objects .now) (k .opens .reads .sounds))
+    (c .before .links-from2 .ensures .1 (a .«data» .now) (a .objects .now) (k .opens .reads .sounds)) (c .needs-of .ensures)
 
 pub measure-needs-spec : {M : Type 1} → statement M
 measure-needs-spec =

@@ -4,7 +4,7 @@ use native.Mathlib.Omega.{arith}
 use borrow.Author.Needs.{needs}
 use Rattle.store_rules.proofs.Sound.{sound-fits}
 use Rattle.store_reader.proofs.Rows.{in-order, among-parent}
-use Rattle.mark_points.proofs.Walking.{slot-grown}
+use Rattle.mark_points.proofs.Walking.{slot-offsets, slot-grown}
 use Rattle.mark_points.proofs.anchors.slot_size.Statement.{statement}
 use Rattle.mark_points.proofs.anchors.slot_size.Tie as tie
 
@@ -17,6 +17,12 @@ next-row-requires : tie.Need-next-row-requires
 next-row-requires c κs =
     let s = c .before .before .before .before in
     (in-order _ (sound-fits _ (s .pre .1 .1 .1 .is-sound)), c .row-near .ensures .within, λ k h. omega (arith, c .row-near .ensures .below k h))
+
+subgraph-size-requires : tie.Need-subgraph-size-requires
+subgraph-size-requires c κs =
+    let n = c .before in
+    let s = n .before .before .before .before .before in
+    (n .next-row .ensures .within, s .pre .1 .1, slot-offsets _ _ (sound-fits _ (s .pre .1 .1 .1 .is-sound)) (s .pre .0) (n .before .row-near .ensures) (n .next-row .ensures))
 
 returns : tie.Need-returns
 returns c =
@@ -41,6 +47,6 @@ slot-size-spec =
     row-near-requires
     (λ c. search needs)
     next-row-requires
-    (λ c κs. search needs)
+    subgraph-size-requires
     (λ c. search needs)
     returns)

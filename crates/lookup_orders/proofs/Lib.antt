@@ -1,0 +1,3 @@
+pub mod Children
+mod Heaps
+mod Sorting
