@@ -1,3 +1,5 @@
 pub mod Children
+pub mod SameRows
 mod Heaps
 mod Sorting
+mod Turns
