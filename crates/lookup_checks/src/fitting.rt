@@ -22,7 +22,7 @@ ghost use Rattle.folds.specs.Folds.{all, upto};
 ghost use Rattle.folds.specs.Lists.{among};
 ghost use Rattle.folds.specs.Moments.{came};
 ghost use Rattle.ot_layouts.specs.Lookup.{isOneOf};
-ghost use Rattle.store_rules.specs.Store.{lent, perLink, rowPosition, allAt};
+ghost use Rattle.store_rules.specs.Store.{lent, perLink, rowPosition, allAt, sound};
 ghost use Rattle.store_rules.specs.Moments.{storeCameWith, storeNowWith};
 ghost use Rattle.store_reader.specs.Rows.{InOrder};
 ghost use Rattle.lookup_rules.specs.Listed.{goodList, goodLookup};
@@ -62,7 +62,7 @@ pub fn lookup_fits(
 // Whether each link of `parent` stands at one of `count` slots, the first at `start`.
 fn all_at(links: &[u32], counts: [u32; 3], parent: u32, start: u32, count: u16) -> bool
     requires { ⌜ InOrder (now links) (getD counts 2 0) × (parent < 65536) ⌝ }
-    ensures { λ r. ⌜ ((b o : List ℕ) → r ≡ allAt (lent b o (came links) counts) parent (isOneOf start count)) ⌝ }
+    ensures { λ r. ⌜ ((b o : List ℕ) → sound (lent b o (came links) counts) ≡ true → r ≡ allAt (lent b o (came links) counts) parent (isOneOf start count)) ⌝ }
 {
     let rows = rows_of(links, counts[2] as usize, parent);
     rows_at_slots(links, rows, start, count)

@@ -11,7 +11,7 @@ use Rattle.folds.specs.Lists.{sift}
 use Rattle.folds.proofs.Folds.{length-upto, upto-same}
 use Rattle.folds.proofs.Picked.{length-picked, sift-upto}
 use Rattle.ot_layouts.specs.Lookup.{subtableCount, lookupHeader}
-use Rattle.store_rules.specs.Store.{Store, Link, linkAt, childAt, positionOf, bytesOf}
+use Rattle.store_rules.specs.Store.{Store, Link, linkAt, childAt, bytesOf}
 use Rattle.store_rules.proofs.Sound.{Fits}
 use Rattle.store_reader.specs.declared.LinkRows.{LinkRows}
 use Rattle.store_reader.specs.Rows.{ParentRows}

@@ -10,7 +10,7 @@ use lib.Dec.{eqb}
 use Rattle.folds.proofs.Tests.{and-both, by-test}
 use Rattle.folds.proofs.Sums.{sum-bound}
 use Rattle.ot_layouts.specs.Lookup.{subtableCount, lookupHeader, lookupExact, isSubtableSlot}
-use Rattle.store_rules.specs.Store.{Store, perLink, rowChild, bytesOf, positionOf, allAt}
+use Rattle.store_rules.specs.Store.{Store, perLink, rowChild, bytesOf, allAt}
 use Rattle.store_rules.proofs.Sound.{Fits, sound-fits, size-bytes, size-most}
 use Rattle.store_reader.specs.declared.LinkRows.{LinkRows}
 use Rattle.store_reader.specs.Rows.{Inside, InOrder, ParentRows}

@@ -3,3 +3,5 @@ pub mod SameRows
 mod Heaps
 mod Sorting
 mod Turns
+mod Blocks
+mod Seeking

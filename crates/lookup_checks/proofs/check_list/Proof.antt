@@ -5,7 +5,7 @@ use native.Mathlib.Omega.{arith}
 use lib.ListN.{length-take}
 use borrow.Author.Tests.{not-true, not-false}
 use borrow.Author.Needs.{needs}
-use Rattle.store_rules.specs.Store.{lent, perLink, rowPosition, positionOf}
+use Rattle.store_rules.specs.Store.{lent}
 use Rattle.lookup_rules.proofs.Linked.{list-linked}
 use Rattle.lookup_rules.proofs.Listed.{list-unfit, lookups-decide}
 use Rattle.lookup_checks.specs.Rows.{rowCount, leadsAt}

@@ -2,7 +2,6 @@
 use Prim.Native.Nat.{_+_, _*_, _≤_}
 use native.Mathlib.Omega.{arith}
 use borrow.Author.Needs.{needs}
-use Rattle.store_rules.specs.Store.{perLink, rowPosition}
 use Rattle.lookup_new_objects.proofs.Sizing.{rows-order, bytes-inside, header-there, bytes-most, rows-room, rows-few, entered-few, sized}
 use Rattle.lookup_new_objects.proofs.measure_lookup.Statement.{statement}
 use Rattle.lookup_new_objects.proofs.measure_lookup.Tie as tie

@@ -13,7 +13,7 @@ scratch c = let a = c .args in scratchOf (a .walk .now) (a .glyph-set .now) (a .
 begin-walk-requires : tie.Need-begin-walk-requires
 begin-walk-requires c κs =
     let start = c .before .before .before .before .before .before .before .before .before in
-    ((start .args .«data» .now, start .pre .1 .opens .reads .sounds), can-begin (scratch start) (start .pre .1))
+    ((start .args .«data» .now, start .pre .1 .opens .reads .sounds), (can-begin (scratch start) (start .pre .1) .0, can-begin (scratch start) (start .pre .1) .1, omega arith))
 
 slice-read-if1 : tie.Need-slice-read-if1
 slice-read-if1 c =

@@ -2,7 +2,7 @@
 use Prim.Native.Nat.{_+_, _*_}
 use native.Mathlib.Omega.{arith}
 use borrow.Author.Needs.{needs}
-use Rattle.store_rules.specs.Store.{lent, perLink, rowPosition}
+use Rattle.store_rules.specs.Store.{lent}
 use Rattle.lookup_checks.proofs.Objects.{use-fits, lies, searchable, rows-in, good-long, of-others, rows-decide}
 use Rattle.lookup_checks.proofs.fitting.is_rewritten.Statement.{statement}
 use Rattle.lookup_checks.proofs.fitting.is_rewritten.Tie as tie

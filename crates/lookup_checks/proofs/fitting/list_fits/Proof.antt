@@ -33,11 +33,12 @@ returns-2 : tie.Need-returns-2
 unfolding goodList isListSlot
 returns-2 c =
     let exact = c .before .before .before in
-    let a = exact .before .before .before .before .before .args in
+    let start = exact .before .before .before .before .before in
+    let a = start .args in
     let s = lent (a .«data» .now) (a .objects .now) (a .links .now) (a .counts) in
     slots-decide s (a .list) listExact isListSlot
     (exact .before .bytes-of .ensures (a .links .now) (a .counts)) (exact .list-exact .ensures) (c .before .before .if1 .left)
-    (c .all-at .ensures (a .«data» .now) (a .objects .now) ∙ ap (λ (n : ℕ). allAt s (a .list) (isOneOf listHeader n)) (c .before .lookup-count .ensures))
+    (c .all-at .ensures (a .«data» .now) (a .objects .now) (start .pre .sounds) ∙ ap (λ (n : ℕ). allAt s (a .list) (isOneOf listHeader n)) (c .before .lookup-count .ensures))
 
 pub list-fits-spec : {M : Type 1} → statement M
 list-fits-spec = tie.close (tie.spec bytes-of-requires (λ c κs. search needs) returns lookup-count-requires all-at-requires returns-2)

@@ -33,11 +33,12 @@ returns-2 : tie.Need-returns-2
 unfolding goodLookup isSubtableSlot
 returns-2 c =
     let exact = c .before .before .before in
-    let a = exact .before .before .before .before .before .args in
+    let start = exact .before .before .before .before .before in
+    let a = start .args in
     let s = lent (a .«data» .now) (a .objects .now) (a .links .now) (a .counts) in
     slots-decide s (a .lookup) lookupExact isSubtableSlot
     (exact .before .bytes-of .ensures (a .links .now) (a .counts)) (exact .lookup-exact .ensures) (c .before .before .if1 .left)
-    (c .all-at .ensures (a .«data» .now) (a .objects .now) ∙ ap (λ (n : ℕ). allAt s (a .lookup) (isOneOf lookupHeader n)) (c .before .subtable-count .ensures))
+    (c .all-at .ensures (a .«data» .now) (a .objects .now) (start .pre .sounds) ∙ ap (λ (n : ℕ). allAt s (a .lookup) (isOneOf lookupHeader n)) (c .before .subtable-count .ensures))
 
 pub lookup-fits-spec : {M : Type 1} → statement M
 lookup-fits-spec = tie.close (tie.spec bytes-of-requires (λ c κs. search needs) returns subtable-count-requires all-at-requires returns-2)

@@ -5,7 +5,7 @@ use native.Mathlib.Omega.{arith}
 use lib.ListN.{length, take, getD}
 use lib.Seq.{length-take-le}
 use borrow.Author.Needs.{needs}
-use Rattle.store_rules.specs.Store.{lent, perLink, rowPosition, positionOf}
+use Rattle.store_rules.specs.Store.{lent}
 use Rattle.lookup_checks.proofs.Objects.{searchable, rows-used}
 use Rattle.lookup_checks.proofs.Listing.{ordered, orderable}
 use Rattle.lookup_checks.proofs.order.order_lookups.Statement.{statement}
