@@ -3,3 +3,4 @@ pub mod Rows
 pub mod Lookup
 pub mod Entering
 pub mod Redirecting
+mod Reordering

@@ -15,7 +15,7 @@ use Rattle.store_link_rows.proofs.Changing.{changed-numbers, child-changed}
 use Rattle.lookup_rules.specs.Written.{redirect, redirected}
 use Rattle.lookup_rules.specs.Marks.{Marked}
 use Rattle.lookup_rules.proofs.Marks.{mark-below}
-use Rattle.lookup_links.specs.Redirecting.{linksIn, movedBy, Redirecting}
+use Rattle.lookup_links.specs.Redirecting.{linksIn, movedBy, Leading}
 
 -- a link, redirected by marks
 abbrev pub redirectedBy : List ℕ → ℕ → Link → Link
@@ -29,7 +29,7 @@ pub moves-there : (marks : List ℕ) (n c : ℕ) → 2 ≤ getD marks c 0 → n 
 unfolding movedBy
 moves-there marks n c h = rw (le-leb 2 (getD marks c 0) h)
 
-pub numbers-fit : {ls : List ℕ} {count : ℕ} {marks : List ℕ} {n : ℕ} → Redirecting ls count marks n → (c : ℕ) → 2 ≤ getD marks c 0
+pub numbers-fit : {ls : List ℕ} {count : ℕ} {marks : List ℕ} {n : ℕ} → Leading ls count marks n → (c : ℕ) → 2 ≤ getD marks c 0
     → n + (getD marks c 0 - 2) < 4294967296
 numbers-fit r c h = omega (arith, r .numbers, mark-below (r .marked) c h)
 

@@ -7,13 +7,15 @@ ghost use Rattle.folds.specs.Lists.{put};
 ghost use Rattle.folds.specs.Moments.{came, left};
 ghost use Rattle.store_rules.specs.Store.{lent, perLink};
 ghost use Rattle.store_rules.specs.Appended.{rowNumbers};
+ghost use Rattle.store_rules.specs.InOrder.{inOrder};
 ghost use Rattle.store_link_rows.specs.Rows.{linkIn};
 ghost use Rattle.store_link_rows.specs.Copies.{inUse, Copied};
 ghost use Rattle.lookup_rules.specs.Written.{newLookupLinks, redirected};
 ghost use Rattle.lookup_rules.specs.Marks.{Marked};
 ghost use Rattle.lookup_links.specs.Copies.{newTableLinks, linkEntered, lookupCopies, RowReady, LookupReady};
 ghost use Rattle.lookup_links.specs.Entering.{Entering, EnteringLent};
-ghost use Rattle.lookup_links.specs.Redirecting.{linksIn, movedBy, Redirecting};
+ghost use Rattle.lookup_links.specs.Redirecting.{linksIn, movedBy, Leading, Redirecting};
+use lookup_orders::order_rows;
 use store_link_rows::put_link;
 use store_reader::CHILD;
 use store_reader::PER_LINK;
@@ -134,8 +136,8 @@ fn moved_child(marks: &[u32], child: u32, first: u32) -> u32
 }
 
 // Each of the first `count` rows that leads to a marked lookup leads to its new one.
-pub fn redirect_links(links: &mut [u32], count: usize, marks: &[u32], first: u32)
-    requires { ⌜ Redirecting (now links) count (now marks) first ⌝ }
+fn lead_links(links: &mut [u32], count: usize, marks: &[u32], first: u32)
+    requires { ⌜ Leading (now links) count (now marks) first ⌝ }
     ensures { λ _. ⌜
         ((ps : List ℕ) → Marked ps (came marks)
         → left links ≡ put (came links) 0 (rowNumbers (map (redirected first ps) (linksIn (came links) count))))
@@ -147,4 +149,16 @@ pub fn redirect_links(links: &mut [u32], count: usize, marks: &[u32], first: u32
         links[at] = moved_child(marks, links[at], first);
         k += 1;
     }
+}
+
+// The same, and each parent's order-only rows are put in order again.
+pub fn redirect_links(links: &mut [u32], count: usize, marks: &[u32], first: u32)
+    requires { ⌜ Redirecting (now links) count (now marks) first ⌝ }
+    ensures { λ _. ⌜
+        ((ps : List ℕ) → Marked ps (came marks)
+        → left links ≡ put (came links) 0 (rowNumbers (inOrder (map (redirected first ps) (linksIn (came links) count)))))
+        ⌝ }
+{
+    lead_links(links, count, marks, first);
+    order_rows(links, count);
 }

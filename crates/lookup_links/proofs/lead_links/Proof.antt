@@ -1,11 +1,11 @@
--- `lookup_links::redirect_links` meets its contract: the rows before k are redirected. Assumes nothing.
+-- `lookup_links::lead_links` meets its contract: the rows before k are redirected. Assumes nothing.
 use Prim.Native.Nat.{_-_}
 use lib.ListN.{length-set}
 use borrow.Author.Needs.{needs}
 use Rattle.store_link_rows.proofs.Changing.{Changed, changed-start, changed-turn, changed-done}
 use Rattle.lookup_links.proofs.Redirecting.{redirectedBy, numbers-fit, row-redirected, all-redirected}
-use Rattle.lookup_links.proofs.redirect_links.Statement.{statement}
-use Rattle.lookup_links.proofs.redirect_links.Tie as tie
+use Rattle.lookup_links.proofs.lead_links.Statement.{statement}
+use Rattle.lookup_links.proofs.lead_links.Tie as tie
 
 abbrev Inv-loop : tie.InvT-loop
 Inv-loop links₀ count marks first k₀ links k = Changed (redirectedBy marks first) links₀ count links k
@@ -28,8 +28,8 @@ loop-again c =
 returns : tie.Need-returns Inv-loop μ-loop
 returns c = λ ps w. all-redirected ps _ w _ _ _ (changed-done _ _ _ _ _ (c .before .loop .inv) (c .loop-test .left))
 
-pub redirect-links-spec : {M : Type 1} → statement M
-redirect-links-spec =
+pub lead-links-spec : {M : Type 1} → statement M
+lead-links-spec =
     tie.close
     (tie.spec
     Inv-loop
