@@ -32,7 +32,7 @@ use Rattle.lookup_rules.specs.Written.{redirect, redirected}
 use Rattle.lookup_rules.proofs.RedirectedRows.{Old, rows-redirected, orders-redirected}
 use Rattle.lookup_orders.specs.Blocks.{linkIn, OrderOnly, Grouped, OrdersSorted}
 use Rattle.lookup_orders.proofs.SameRows.{same-rows}
-use Rattle.lookup_links.specs.Redirecting.{linksIn}
+use Rattle.lookup_links.specs.Redirecting.{OldLink, linksIn}
 
 -- ---- rows by a list
 
@@ -210,3 +210,7 @@ module _ (ls : List ℕ) (count n : ℕ) (ps : List ℕ) (e : ℕ) (climbs : Cli
         ∙ ap (λ (o : List ℕ). getD o i 0) led
         ∙ put-above ls 0 (rowNumbers new) (omega (arith, rows-numbers new, new-many)) i (omega (arith, rows-numbers new, new-many)))
         ∙ ap (λ (xs : List Link). put ls 0 (rowNumbers xs)) ordered-links
+
+-- what a caller has shown of them
+pub old-links : (n : ℕ) (ps : List ℕ) (xs : List Link) → Each (OldLink n) xs → Each (Old n ps) xs
+old-links n ps xs a = each-then (OldLink n) (Old n ps) (λ l o. record { formed = o .formed; below = o .below }) xs a
