@@ -9,7 +9,7 @@ use Rattle.folds.specs.Folds.{upto}
 use Rattle.folds.specs.Lists.{put}
 use Rattle.folds.proofs.Folds.{upto-same}
 use Rattle.folds.proofs.TwoParts.{upto-split}
-use Rattle.store_rules.specs.Store.{Store, Link, lent, perLink, rowParent, rowPosition, rowWidth, rowChild, linkAt, linkNumber, linksOf}
+use Rattle.store_rules.specs.Store.{Store, Link, lent, perLink, rowParent, rowPosition, rowWidth, rowChild, rowKind, linkAt, linkNumber, linksOf}
 use Rattle.store_rules.specs.Appended.{rowNumbers}
 use Rattle.store_rules.proofs.LinkRows.{links-back}
 use Rattle.store_link_rows.specs.Copies.{inUse, Copied}
@@ -49,6 +49,7 @@ module _ (ls counts : List ℕ) (new : List Link) (room : perLink * (getD counts
         position = number-behind j rowPosition i;
         width = number-behind j rowWidth i;
         child = number-behind j rowChild i;
+        kind = number-behind j rowKind i;
       }
 
   pub all-in-use : inUse out (0 ∷ 0 ∷ r ∷ []) ≡ inUse ls counts ++ new

@@ -1,19 +1,21 @@
 -- New lookups, their links and the redirection, step by step: what each asks, and that the counts fit. Assumes nothing.
 use Prim.Native.Nat.{ℕ, _+_, _<_, _≤_}
-use mathlib.Core.Path.{refl}
+use mathlib.Core.Path.{refl, sym, subst}
 use mathlib.Core.List.{List}
 use native.Mathlib.Omega.{arith}
 use lib.ListN.{length, getD}
+use Rattle.folds.proofs.Each.{Each}
 use Rattle.store_rules.specs.Store.{Store, lent}
+use Rattle.store_rules.proofs.LinksAscend.{Climb}
 use Rattle.store_link_rows.specs.Copies.{Copied}
 use Rattle.store_link_rows.proofs.Copying.{copied-long}
 use Rattle.store_object_rows.specs.Objects.{Written}
 use Rattle.lookup_rules.specs.Written.{newLookups, newLookupLinks}
 use Rattle.lookup_links.specs.Entering.{Entering, EnteringLent}
-use Rattle.lookup_links.specs.Redirecting.{Redirecting}
+use Rattle.lookup_links.specs.Redirecting.{OldLink, Redirecting}
 use Rattle.lookup_new_objects.specs.Written.{WritingLookups}
 use Rattle.lookup_carrying.specs.Lookups.{LookupsReady}
-use Rattle.lookup_carrying.proofs.Entered.{many-new}
+use Rattle.lookup_carrying.proofs.Entered.{many-new, all-links}
 
 module _ {d o ls : List ℕ} (c : List ℕ) {t : ℕ} {us marks ps : List ℕ} (k : LookupsReady (lent d o ls c) t us marks ps) where
   abbrev s : Store
@@ -64,9 +66,15 @@ module _ {d o ls : List ℕ} (c : List ℕ) {t : ℕ} {us marks ps : List ℕ} (
     pub redirect-asked : Redirecting ls′ rows marks n
     redirect-asked =
         let long = copied-long ls c (getD c 2 0) (newLookupLinks s t us ps n) (record { behind = omega arith; fits = k .linksIn }) ls′ rows w in
+        let all = all-links d o ls c t us ps (k .linksIn) w in
         record {
-          room = omega (arith, w .next, k .linksIn);
-          lookups = ps;
-          marked = k .marked;
-          numbers = omega (arith, k .objectsMost);
+          leading = record {
+            room = omega (arith, w .next, k .linksIn);
+            lookups = ps;
+            marked = k .marked;
+            numbers = omega (arith, k .objectsMost);
+          };
+          bound = n + length ps;
+          climbs = subst (Climb 0 0 (n + length ps)) (sym all) (k .climbs);
+          olds = subst (Each (OldLink n)) (sym all) (k .olds);
         }

@@ -2,12 +2,15 @@
 use Prim.Native.Nat.{ℕ, _+_, _*_, _≤_}
 use mathlib.Core.Path.{_≡_}
 use mathlib.Core.Bool.{true}
-use mathlib.Core.List.{List}
+use mathlib.Core.List.{List, _++_}
 use lib.ListN.{length}
 use Rattle.folds.specs.Lists.{join}
-use Rattle.store_rules.specs.Store.{Store, perLink, sound}
+use Rattle.folds.proofs.Each.{Each}
+use Rattle.store_rules.specs.Store.{Store, perLink, linksOf, sound}
+use Rattle.store_rules.proofs.LinksAscend.{Climb}
 use Rattle.lookup_rules.specs.Marks.{Marked}
 use Rattle.lookup_rules.specs.Rewritable.{EachRewritable}
+use Rattle.lookup_links.specs.Redirecting.{OldLink}
 use Rattle.lookup_rules.specs.Written.{countsFit, newLookups, newLookupLinks}
 
 -- the tables us can be entered in the lookups ps of s, and the marks are theirs: 10 does not apply, and there is room
@@ -23,3 +26,6 @@ pub record LookupsReady (s : Store) (t : ℕ) (us marks ps : List ℕ) : Type 0 
   pub bytesMost : s .byteCount + length (join (newLookups s t us ps)) ≤ 16777216
   pub linksIn : perLink * (s .linkCount + length (newLookupLinks s t us ps (s .objectCount))) ≤ length (s .links)
   pub linksMost : s .linkCount + length (newLookupLinks s t us ps (s .objectCount)) ≤ 262144
+  -- all links ascend before they are redirected, each of its kind's shape and to an object before the new lookups
+  pub climbs : Climb 0 0 (s .objectCount + length ps) (linksOf s ++ newLookupLinks s t us ps (s .objectCount))
+  pub olds : Each (OldLink (s .objectCount)) (linksOf s ++ newLookupLinks s t us ps (s .objectCount))
