@@ -5,11 +5,12 @@ use mathlib.Core.Bool.{Bool, true, false, not}
 use mathlib.Core.List.{List}
 use native.Mathlib.Omega.{arith}
 use lib.ListN.{length, getD}
-use Rattle.store_reader.specs.Rows.{InOrder}
+use Rattle.store_reader.specs.Rows.{orders, keyOf, InOrder, FirstRow}
 use Rattle.store_reader.proofs.Rows.{in-order}
 use Rattle.store_rules.specs.Store.{lent, sound}
 use Rattle.store_rules.proofs.Sound.{Fits, sound-fits}
-use Rattle.store_walk.specs.Marks.{noRow, Blank, Prepared, WalkReady}
+use Rattle.store_walk.specs.Marks.{Offsets, noRow, Blank, Prepared, WalkReady}
+use Rattle.store_walk.proofs.Cycles.{begun-offsets}
 use Rattle.store_runs.specs.Looks.{Looks}
 
 module _ {o l c w : List ℕ} (p : Looks o l c w) where
@@ -27,6 +28,10 @@ module _ {o l c w : List ℕ} (p : Looks o l c w) where
 
   pub ready : {z : List ℕ} → Prepared l c z → WalkReady o l c noRow 1 z
   ready q = record { bytes = p .bytes; is-sound = p .is-sound; marks = q (p .bytes) o (p .is-sound); early = omega arith }
+
+  -- the first object's offsets
+  pub offsets : {z : List ℕ} → Prepared l c z → {lo hi : ℕ} → FirstRow l (getD c 2 0) (keyOf 0 0) lo → FirstRow l (getD c 2 0) (keyOf 0 orders) hi → Offsets l lo hi
+  offsets q f g = begun-offsets fits (ready q .marks) (p .some) f (omega arith) g
 
 is-true : (b : Bool) → not b ≡ false → b ≡ true
 is-true true h = refl

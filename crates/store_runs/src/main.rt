@@ -1,6 +1,7 @@
 // Stores at their maxima, looked at whole: 65,536 objects in one chain, 262,144 links, and a way back to the first object or none.
 use libc::STDOUT_FILENO;
 use store_link_rows::put_link;
+use store_reader::ORDERS;
 use store_reader::first_row;
 use store_reader::is_sound;
 use store_reader::object_bytes;
@@ -18,7 +19,7 @@ pub struct Report {
 fn main() {
     let data = [0u8; 524288];
     let mut objects = [0u32; 131072];
-    let mut links = [0u32; 1048576];
+    let mut links = [0u32; 1310720];
     let mut walk = [0u32; 131072];
     lay_objects(&mut objects);
     lay_links(&mut links, 0);
@@ -51,7 +52,7 @@ fn lay_objects(objects: &mut [u32; 131072]) {
 }
 
 // Four links an object, all to the next one; the last object's lead to `back`.
-fn lay_links(links: &mut [u32; 1048576], back: u32) {
+fn lay_links(links: &mut [u32; 1310720], back: u32) {
     let mut k: usize = 0;
     while k < 262144 {
         let parent = k / 4;
@@ -76,7 +77,7 @@ fn lay_links(links: &mut [u32; 1048576], back: u32) {
 fn look(
     data: &[u8; 524288],
     objects: &[u32; 131072],
-    links: &[u32; 1048576],
+    links: &[u32; 1310720],
     used: u32,
     walk: &mut [u32; 131072],
 ) -> Report {
@@ -117,7 +118,7 @@ fn hand_out(
     what: &[u8],
     data: &[u8; 524288],
     objects: &[u32; 131072],
-    links: &[u32; 1048576],
+    links: &[u32; 1310720],
     object: u32,
 ) {
     let part = object_bytes(data, objects, links, [524288, 65536, 262144], object);
@@ -144,7 +145,7 @@ fn walk_from_first(objects: &[u32], links: &[u32], counts: [u32; 3], walk: &mut 
     prepare(links, counts, walk);
     let count = counts[2] as usize;
     let first = first_row(links, count, 0, 0);
-    let after = first_row(links, count, 1, 0);
+    let after = first_row(links, count, 0, ORDERS);
     let reach = subgraph_size(objects, links, counts, first, after, 1, walk);
     Report {
         sound: 1,

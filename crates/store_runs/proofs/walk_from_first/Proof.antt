@@ -1,7 +1,7 @@
 -- `store_runs::walk_from_first` may walk: the store is sound, and the scratch is prepared. Assumes nothing.
 use native.Mathlib.Omega.{arith}
 use Rattle.store_walk.specs.Marks.{noRow}
-use Rattle.store_runs.proofs.Walking.{links-few, rows-sorted, blank, ready}
+use Rattle.store_runs.proofs.Walking.{links-few, rows-sorted, blank, ready, offsets}
 use borrow.Author.Needs.{needs}
 use Rattle.store_runs.proofs.walk_from_first.Statement.{statement}
 use Rattle.store_runs.proofs.walk_from_first.Tie as tie
@@ -27,7 +27,8 @@ first-row-requires-2 c κs =
 subgraph-size-requires : tie.Need-subgraph-size-requires
 subgraph-size-requires c κs =
     let first = c .before .before .before .before .before in
-    (c .before .first-row2 .ensures .within, (noRow, ready (first .before .before .before .before .before .pre) (first .prepare .ensures)))
+    let start = first .before .before .before .before .before .pre in
+    (c .before .first-row2 .ensures .within, (noRow, ready start (first .prepare .ensures)), offsets start (first .prepare .ensures) (c .before .before .first-row .ensures) (c .before .first-row2 .ensures))
 
 pub walk-from-first-spec : {M : Type 1} → statement M
 walk-from-first-spec =
