@@ -31,7 +31,7 @@ module _ {o l c w : List ℕ} (p : Looks o l c w) where
 
   -- the first object's offsets
   pub offsets : {z : List ℕ} → Prepared l c z → {lo hi : ℕ} → FirstRow l (getD c 2 0) (keyOf 0 0) lo → FirstRow l (getD c 2 0) (keyOf 0 orders) hi → Offsets l lo hi
-  offsets q f g = begun-offsets fits (ready q .marks) (p .some) f (omega arith) g
+  offsets {z} q f g = begun-offsets {w = z} fits (q (p .bytes) o (p .is-sound)) (p .some) f {q = orders} (omega arith) g
 
 is-true : (b : Bool) → not b ≡ false → b ≡ true
 is-true true h = refl
