@@ -117,4 +117,4 @@ pub use refusal::Refusal;
 pub use scratch::Scratch;
 pub use split::{split, split_into, split_marks, split_marks_into};
 pub use split_in_lookups::{split_in_lookups, split_in_lookups_into};
-pub use store::{Link, Room, Store, StoreMut, StoreRef};
+pub use store::{Link, LinkKind, Room, Store, StoreMut, StoreRef};
