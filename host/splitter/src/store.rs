@@ -202,11 +202,12 @@ impl Store {
 
     /// The room behind what is in use, in whole rows, up to the maxima.
     pub fn room(&self) -> Room {
-        let [data, objects, links] = self.counts.map(|count| count as usize);
+        let [data, objects, links] = self.view().lent();
+        let used = self.counts.map(|count| count as usize);
         Room {
-            data: self.data.len().min(Room::MOST.data) - data,
-            objects: (self.objects.len() / 2).min(Room::MOST.objects) - objects,
-            links: (self.links.len() / Link::NUMBERS).min(Room::MOST.links) - links,
+            data: data.min(Room::MOST.data) - used[0],
+            objects: objects.min(Room::MOST.objects) - used[1],
+            links: links.min(Room::MOST.links) - used[2],
         }
     }
 

@@ -33,6 +33,15 @@ impl<'a> StoreRef<'a> {
         crate::read_pair(self, 0, 0, 0) != Err(crate::Refusal::Unsound)
     }
 
+    /// How many data bytes, and whole rows of objects and of links, are lent.
+    pub(crate) const fn lent(self) -> [usize; 3] {
+        [
+            self.data.len(),
+            self.objects.len() / 2,
+            self.links.len() / Link::NUMBERS,
+        ]
+    }
+
     /// How many data bytes, objects and links are in use.
     pub const fn counts(self) -> [u32; 3] {
         *self.counts

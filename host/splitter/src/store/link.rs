@@ -86,6 +86,11 @@ impl Link {
         }
     }
 
+    /// Whether it is an offset. All that reads, measures or splits tables follows offsets alone.
+    pub const fn is_offset(self) -> bool {
+        matches!(self.kind, LinkKind::Offset)
+    }
+
     pub(crate) const fn row(self) -> [u32; Self::NUMBERS] {
         [
             self.parent,
