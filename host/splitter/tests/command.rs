@@ -655,7 +655,7 @@ fn help_and_version() {
     let version = done(run!("--version"));
     let lines: Vec<&str> = version.lines().collect();
     assert_eq!(lines[0], concat!("splitter ", env!("CARGO_PKG_VERSION")));
-    assert_eq!(lines[1], "interface 2");
+    assert_eq!(lines[1], "interface 3");
     for (line, start) in lines[2..]
         .iter()
         .zip(["kit ", "archive sha256 ", "commit "])
