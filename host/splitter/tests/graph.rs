@@ -125,11 +125,11 @@ fn splits_leave_order_only_links() {
     }
 }
 
-/// A graph whose links a store cannot hold.
+/// More order-only links than a store has room for, between 513 objects.
 #[test]
 fn links_that_no_store_holds() {
     let mut graph = Graph::default();
-    let objects: Vec<Name> = (0..600).map(|_| graph.add_object(&[0; 2])).collect();
+    let objects: Vec<Name> = (0..513).map(|_| graph.add_object(&[0; 2])).collect();
     for pair in objects.windows(2) {
         graph.set_links(pair[0], &[(0, pair[1])]);
     }

@@ -449,7 +449,7 @@ fn a_dump_of_order_only_links() {
     let lines: Vec<&str> = out.lines().map(str::trim_end).collect();
     assert_eq!(
         lines[0],
-        "a.krns: 10 objects, 15 links (4 order-only), 102 data bytes"
+        "a.krns: 10 objects, 15 links (4 order-only), 94 data bytes"
     );
     let expected = [
         "0: mark table, 12 bytes",
