@@ -137,8 +137,8 @@ fn they_need_no_room() {
             ordered.reserve(room);
             let split = kind.split_into(&mut ordered, 0, Edition::First, &mut scratch, &mut [0; 3]);
             match enough {
-                true => assert_eq!(ordered.room(), Room::default()),
-                false => assert_eq!(split, Err(Refusal::NoRoom)),
+                true => assert_eq!((split.is_ok(), ordered.room()), (true, Room::default())),
+                false => assert_eq!((split, ordered.room()), (Err(Refusal::NoRoom), room)),
             }
         }
     }
