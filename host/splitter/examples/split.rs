@@ -29,7 +29,7 @@ fn main() -> Result<(), Refusal> {
         let bytes = view.object(piece).map_or(0, <[u8]>::len);
         println!(
             "table {piece}: {bytes} bytes, {} links",
-            view.links_of(piece).len()
+            view.offsets_of(piece).len()
         );
         for first in 10..15 {
             if let Some(pair) = read_pair(&store, piece, first, SECOND)? {

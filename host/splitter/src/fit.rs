@@ -244,7 +244,7 @@ impl<'a> Counted<'a> {
 /// The links of all items, in the order of these: the item, and what the link leads to.
 fn item_links(table: &TableRef) -> Vec<(usize, u32)> {
     let links = |parent: Option<u32>, item_at: &dyn Fn(usize) -> Option<usize>| {
-        let links = parent.into_iter().flat_map(|it| table.store.links_of(it));
+        let links = parent.into_iter().flat_map(|it| table.store.offsets_of(it));
         let links = links.filter_map(|link| Some((item_at(link.position as usize)?, link.child)));
         links.collect::<Vec<_>>()
     };

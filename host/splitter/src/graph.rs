@@ -1,12 +1,17 @@
 //! Tables of a graph of the host's own.
 
 use crate::{Edition, Kind, Link, Refusal, Scratch, Store};
-use std::{collections::HashMap, hash::Hash};
+use std::{
+    collections::{HashMap, HashSet},
+    hash::Hash,
+};
 
 /// A graph of objects with bytes, and links between them, as those have it who pack fonts.
 ///
 /// A link stands at a position of its object, where the two bytes of the offset are, and leads to
-/// another object. Links that are wider, or only say what comes first, are not shown here.
+/// another object. Links that are wider are not shown here. Links that only say in which order objects are
+/// placed may be shown, by [`order_links`](Self::order_links): a split does not look at them, and leaves them
+/// as they are.
 pub trait ObjectGraph {
     /// What names an object.
     type Id: Copy + Eq + Hash;
@@ -20,7 +25,13 @@ pub trait ObjectGraph {
     /// Adds an object of these bytes, without links.
     fn add_object(&mut self, bytes: &[u8]) -> Self::Id;
 
-    /// Gives an object these links, in place of those that it has.
+    /// The objects to which an object's order-only links lead, in any order. A graph that has none, or
+    /// does not show them, leaves this out.
+    fn order_links(&self, _object: Self::Id) -> Vec<Self::Id> {
+        Vec::new()
+    }
+
+    /// Gives an object these links, in place of those that it has. Its order-only links stay.
     fn set_links(&mut self, object: Self::Id, links: &[(u32, Self::Id)]);
 
     /// Gives an object these bytes, as many as it has or fewer, in place of those that it has.
@@ -33,7 +44,7 @@ pub trait ObjectGraph {
 /// [file](crate::store_file).
 #[derive(Clone, Debug, PartialEq, Eq)]
 pub struct GraphStore<Id> {
-    /// The table, which is object 0, and all that it leads to.
+    /// The table, which is object 0, and all that it leads to, with the order-only links between these.
     pub store: Store,
     /// What each object of the store is in the graph.
     pub ids: Vec<Id>,
@@ -43,7 +54,8 @@ pub struct GraphStore<Id> {
 const TABLE: u32 = 0;
 
 impl<Id: Copy + Eq + Hash> GraphStore<Id> {
-    /// A table of a graph, with all that it leads to.
+    /// A table of a graph, with all that it leads to. No order-only link leads to an object, so those that
+    /// have an end elsewhere are left out; one that is there twice is taken once.
     ///
     /// # Errors
     ///
@@ -64,14 +76,11 @@ impl<Id: Copy + Eq + Hash> GraphStore<Id> {
                     ids.push(child);
                     next
                 });
-                links.push(Link {
-                    parent,
-                    position,
-                    child,
-                });
+                links.push(Link::offset(parent, position, child));
             }
             parent += 1;
         }
+        links.extend(order_links(graph, &ids, &numbers));
         store.add_links(links)?;
         Ok(Self { store, ids })
     }
@@ -87,13 +96,27 @@ impl<Id: Copy + Eq + Hash> GraphStore<Id> {
         }
         graph.shorten(self.ids[TABLE as usize], bytes(TABLE));
         for object in [TABLE].into_iter().chain(old..objects) {
-            let links = view.links_of(object);
+            let links = view.offsets_of(object);
             let links = links.map(|link| (link.position, self.ids[link.child as usize]));
             let links: Vec<(u32, Id)> = links.collect();
             graph.set_links(self.ids[object as usize], &links);
         }
         self.ids
     }
+}
+
+/// The order-only links between these objects of a graph, by their numbers, each once.
+fn order_links<Id: Copy + Eq + Hash>(
+    graph: &impl ObjectGraph<Id = Id>,
+    ids: &[Id],
+    numbers: &HashMap<Id, u32>,
+) -> HashSet<Link> {
+    let links = (0..).zip(ids).flat_map(|(parent, &object)| {
+        let children = graph.order_links(object).into_iter();
+        let numbered = children.filter_map(|child| numbers.get(&child));
+        numbered.map(move |&child| Link::order_only(parent, child))
+    });
+    links.collect()
 }
 
 /// Splits a PairPos table of a graph, and gives the new tables in order.
@@ -131,7 +154,8 @@ impl Kind {
     ///
     /// The table and all that it leads to are filled into a store, the proved function splits it there,
     /// and what came of it is carried back: new objects are added, and the table is shortened and gets
-    /// other links. Nothing else of the graph changes, and nothing at all where there are no new tables.
+    /// other links. Nothing else of the graph changes, order-only links neither, and nothing at all where
+    /// there are no new tables.
     ///
     /// # Errors
     ///

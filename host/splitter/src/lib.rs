@@ -16,6 +16,10 @@
 //! proved, in Rattle, to do exactly what is documented: [`raw`] has them as they are exported, and
 //! the rest of this crate only lends them buffers and puts names on their numbers.
 //!
+//! A link is an offset, or only says in which order two objects are placed. What is read, measured and cut
+//! goes by offsets alone. [Order-only](LinkKind::OrderOnly) links stay where they are, those of a table that
+//! is split with the kept one.
+//!
 //! | to | of pairs | of marks on bases |
 //! |---|---|---|
 //! | split a table that is too large | [`split()`] | [`split_marks`] |
@@ -48,6 +52,7 @@
 //! - Tables that each fit may together be too far from their lookup, and usually want extension lookups.
 //! - What they share may have to be there more than once.
 //! - The old coverage, class definition 1 or arrays stay, and may be left with nothing that leads to them.
+//!   Order-only links to them still lead there, and their own stay with them.
 //!
 //! ```
 //! use splitter::{cut_plan, read_pair, split, Edition, Refusal, Scratch, Store};
@@ -117,4 +122,4 @@ pub use refusal::Refusal;
 pub use scratch::Scratch;
 pub use split::{split, split_into, split_marks, split_marks_into};
 pub use split_in_lookups::{split_in_lookups, split_in_lookups_into};
-pub use store::{Link, Room, Store, StoreMut, StoreRef};
+pub use store::{Link, LinkKind, Room, Store, StoreMut, StoreRef};

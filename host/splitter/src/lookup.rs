@@ -48,7 +48,7 @@ impl Lookup {
             return None;
         }
         let mut slots = vec![None; count.into()];
-        for link in store.links_of(lookup) {
+        for link in store.offsets_of(lookup) {
             let past_header = (link.position as usize).checked_sub(HEADER)?;
             let slot = slots.get_mut(past_header / 2)?;
             *slot = (past_header % 2 == 0).then_some(Some(link.child))?;
@@ -116,7 +116,7 @@ pub fn apply_lookup<'a>(
 /// What a list leads to, in its order, each once.
 pub(crate) fn lookups_of(store: StoreRef, list: u32) -> Vec<u32> {
     let mut seen = HashSet::new();
-    let lookups = store.links_of(list).map(|link| link.child);
+    let lookups = store.offsets_of(list).map(|link| link.child);
     lookups.filter(|&lookup| seen.insert(lookup)).collect()
 }
 
@@ -138,7 +138,7 @@ impl Naming {
         let lookups = lookups_of(store, list).into_iter();
         let naming = lookups.filter_map(|lookup| {
             let bytes = store.object(lookup)?;
-            let (links, listings) = (store.links_of(lookup), store.links_of(lookup));
+            let (links, listings) = (store.offsets_of(lookup), store.offsets_of(lookup));
             let listings = listings.filter(|link| link.child == table).count();
             let of_pairs = word(bytes, 0) == usize::from(Kind::Pairs.lookup_type());
             (of_pairs && listings > 0).then_some(Self {

@@ -86,7 +86,7 @@ fn marks_room(store: StoreRef, table: u32, glyphs: usize) -> [Room; 2] {
     let bytes = arrays.map(|position| part(store, table, position).len());
     let links = arrays.map(|position| {
         let array = store.child(table, position);
-        array.map_or(0, |array| store.links_of(array).len())
+        array.map_or(0, |array| store.offsets_of(array).len())
     });
     let headers = 4 + 2 + 2;
     let each_cut = Room {

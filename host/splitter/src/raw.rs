@@ -4,8 +4,14 @@
 //! to answer any contents with a number, 0 or a [refusal's](crate::Refusal::number).
 //!
 //! A store is `data`; `objects`, flat rows of head and tail; `links`, flat rows of parent, position,
-//! width and child; and `counts`, how many data bytes, object rows and link rows are in use. Half a
-//! row at the end of a slice is no row.
+//! width, child and kind; and `counts`, how many data bytes, object rows and link rows are in use. Part of
+//! a row at the end of a slice is no row.
+//!
+//! A link of kind 0 is an offset: it is 2 wide and lies within its parent. One of kind 1 only says in which
+//! order parent and child are placed: its position and its width are 0. There is no other kind. Rows strictly
+//! ascend by parent, kind, position and child, and no parent has two offsets at one position. Where below a
+//! link is followed, asked, counted or copied it is an offset. Order-only links stay as they are, those of a
+//! split table with the kept one.
 //!
 //! Scratch is `walk`, two numbers for each object in use; `glyph_set`, 8,192 bytes; `glyphs` and
 //! `classes`, one entry for each covered glyph, of a mark-to-base table each glyph of its mark
@@ -22,8 +28,8 @@ mod shapes;
 use shapes::{plan_function, read_function, split_function};
 
 /// The version of these functions' interface, as the header `splitter.h` has it too: it grows where the
-/// parameters of one of them change.
-pub const INTERFACE: u32 = 2;
+/// parameters of one of them change, or the numbers of a row.
+pub const INTERFACE: u32 = 3;
 
 split_function! {
     /// Splits a PairPos table at the cut places of an edition of the rule.
@@ -56,8 +62,8 @@ split_function! {
     ///
     /// `list` is the number of a GPOS lookup list. It splits as [`split_pairpos`] does; then each lookup of
     /// type 2 of the list that names the table becomes a new object, in which the new tables follow each
-    /// listing of the old one, and every link to the old lookup leads to the new one. With no cut nothing
-    /// changes. It refuses by 9 and 10 too.
+    /// listing of the old one, and every link of either kind to the old lookup leads to the new one. With no
+    /// cut nothing changes. It refuses by 9 and 10 too.
     ///
     /// What it needs is what the split needs, and for each such lookup an object, its bytes and its links,
     /// with two bytes and a link more for each new table at each listing.

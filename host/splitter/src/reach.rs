@@ -49,7 +49,7 @@ impl<'a> Reach<'a> {
             };
             if std::mem::replace(time, self.now) != self.now {
                 bytes += self.store.object(object).map_or(0, <[u8]>::len);
-                next.extend(self.store.links_of(object).map(|link| link.child));
+                next.extend(self.store.offsets_of(object).map(|link| link.child));
             }
         }
         bytes

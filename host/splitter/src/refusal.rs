@@ -95,8 +95,10 @@ impl Display for Refusal {
             }
             Self::Unsound => {
                 "the store is not sound: make its counts fit its buffers and the maxima, its objects \
-                 follow one another within the data in use, and its links ascend by parent and \
-                 position, name objects in use and lie, two bytes wide, within their parents"
+                 follow one another within the data in use, and its links name objects in use and \
+                 ascend by parent, kind, position and child, those of kind 0 two bytes wide, within \
+                 their parents and each at a position of its own, and those of kind 1 with position and \
+                 width 0"
             }
             Self::NoTable => {
                 "no object in use has the number of the table, the lookup or the lookup list: give a \

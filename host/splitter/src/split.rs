@@ -6,9 +6,9 @@ impl Kind {
     /// Splits a table of this kind at the cuts of an edition of the rule, and gives the new tables in
     /// order.
     ///
-    /// The table keeps its number and its first items. There are no new tables, and nothing changes,
-    /// where the edition finds no cut, or the table has a format that is not split. The store grows where it
-    /// has no room; room that is then left over stays.
+    /// The table keeps its number, its first items and its order-only links; new objects have none of these.
+    /// There are no new tables, and nothing changes, where the edition finds no cut, or the table has a format
+    /// that is not split. The store grows where it has no room; room that is then left over stays.
     ///
     /// # Errors
     ///

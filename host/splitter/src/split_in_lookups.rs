@@ -8,8 +8,9 @@ use crate::{need::Need, split::split_growing, Edition, Kind, Refusal, Scratch, S
 /// The list and its lookups are objects of the store, of OpenType's layout, whose offsets are links. The
 /// table is split as [`split`](crate::split()) splits it. Then each lookup of type 2 of the list that names it
 /// is written as a new object, in which the new tables stand directly behind each listing of the old one, and
-/// every link to the old lookup leads to the new one. With no new tables nothing changes. The store grows
-/// where it has no room; room that is then left over stays.
+/// every link to the old lookup, of either kind, leads to the new one. The old lookup's own order-only links
+/// stay with it. With no new tables nothing changes. The store grows where it has no room; room that is then
+/// left over stays.
 ///
 /// Applied to two glyphs, by [`apply_lookup`](crate::apply_lookup), each lookup of the list says what it said
 /// before, where all its subtables can be read and no other leads to the table.

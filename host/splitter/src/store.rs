@@ -1,8 +1,10 @@
 //! The store that owns its buffers.
 
 mod lent;
+mod link;
 
-pub use lent::{Link, StoreMut, StoreRef};
+pub use lent::{StoreMut, StoreRef};
+pub use link::{Link, LinkKind};
 
 use crate::Refusal;
 
@@ -63,7 +65,7 @@ impl Store {
     }
 
     /// A store of these buffers: data bytes, flat rows of head and tail, flat rows of parent,
-    /// position, width and child, and how many of each are in use.
+    /// position, width, child and kind, and how many of each are in use.
     ///
     /// # Errors
     ///
@@ -108,74 +110,104 @@ impl Store {
         Ok(object)
     }
 
-    /// Adds a link from a position of one object, its parent, to another, in its place among the rows.
+    /// Adds an offset from a position of one object, its parent, to another, in its place among the rows.
     ///
     /// # Errors
     ///
     /// [`Refusal::Unsound`] where an object is not in use, where the two bytes at the position do not
-    /// lie within the parent, or where a link stands there. [`Refusal::NoRoom`] where the store is at
+    /// lie within the parent, or where an offset stands there. [`Refusal::NoRoom`] where the store is at
     /// its maxima.
     pub fn add_link(&mut self, parent: u32, position: u32, child: u32) -> Result<(), Refusal> {
-        let link = Link {
-            parent,
-            position,
-            child,
-        };
-        let (Err(place), true) = (self.view().find_link(parent, position), self.fits(&link)) else {
+        self.add(Link::offset(parent, position, child))
+    }
+
+    /// Adds an order-only link from one object, its parent, to another or to itself, in its place among the
+    /// rows: it says in which order the two are placed, and nothing follows it.
+    ///
+    /// ```
+    /// use splitter::{Reach, Refusal, Store};
+    ///
+    /// let mut store = Store::new();
+    /// let [a, b] = [store.add_object(&[0; 4])?, store.add_object(&[0; 6])?];
+    /// store.add_order_link(a, b)?;
+    ///
+    /// assert!(store.view().orders_of(a).eq([b]));
+    /// assert_eq!(Reach::new(store.view()).add(a), 4);
+    /// assert_eq!(store.add_order_link(a, b), Err(Refusal::Unsound));
+    /// # Ok::<(), Refusal>(())
+    /// ```
+    ///
+    /// # Errors
+    ///
+    /// [`Refusal::Unsound`] where an object is not in use, or where this link is there already.
+    /// [`Refusal::NoRoom`] where the store is at its maxima.
+    pub fn add_order_link(&mut self, parent: u32, child: u32) -> Result<(), Refusal> {
+        self.add(Link::order_only(parent, child))
+    }
+
+    fn add(&mut self, link: Link) -> Result<(), Refusal> {
+        let (Err(place), true) = (self.view().find_link(link), self.fits(&link)) else {
             return Err(Refusal::Unsound);
         };
         let count = self.counts[2] as usize;
         if count == Room::MOST.links {
             return Err(Refusal::NoRoom);
         }
-        let end = 4 * count;
+        let [start, end] = [place, count].map(|row| Link::NUMBERS * row);
         write(&mut self.links, end, &link.row());
-        self.links[4 * place..end + 4].rotate_right(4);
+        self.links[start..end + Link::NUMBERS].rotate_right(Link::NUMBERS);
         self.counts[2] += 1;
         Ok(())
     }
 
-    /// Adds links in any order, all or none.
+    /// Adds links of both kinds in any order, all or none.
     ///
     /// It sorts once: for many links that do not come in order it is quicker than one by one.
     ///
     /// # Errors
     ///
-    /// As [`add_link`](Self::add_link).
+    /// As [`add_link`](Self::add_link) and [`add_order_link`](Self::add_order_link).
+    /// [`Refusal::Unsound`] also where an order-only link has a position, or a link is of neither kind.
     pub fn add_links(&mut self, links: impl IntoIterator<Item = Link>) -> Result<(), Refusal> {
-        let mut rows = self.view().link_rows().to_vec();
+        let mut all: Vec<Link> = self.view().links().collect();
         for link in links {
             if !self.fits(&link) {
                 return Err(Refusal::Unsound);
             }
-            rows.push(link.row());
+            all.push(link);
         }
-        rows.sort_unstable();
-        if rows.windows(2).any(|rows| rows[0][..2] == rows[1][..2]) {
+        all.sort_unstable();
+        if all.windows(2).any(|two| two[0].place() == two[1].place()) {
             return Err(Refusal::Unsound);
         }
-        if rows.len() > Room::MOST.links {
+        if all.len() > Room::MOST.links {
             return Err(Refusal::NoRoom);
         }
-        self.counts[2] = rows.len() as u32;
-        write(&mut self.links, 0, rows.as_flattened());
+        let rows: Vec<u32> = all.iter().flat_map(|link| link.row()).collect();
+        self.counts[2] = all.len() as u32;
+        write(&mut self.links, 0, &rows);
         Ok(())
     }
 
-    /// Whether a link names objects in use and lies within its parent.
+    /// Whether a link names objects in use and, an offset, lies within its parent.
     fn fits(&self, link: &Link) -> bool {
-        let end = link.position as usize + 2;
         let parent = self.view().object(link.parent);
-        link.child < self.counts[1] && parent.is_some_and(|bytes| end <= bytes.len())
+        let stands = |bytes: &[u8]| match link.kind {
+            LinkKind::Offset => link.position as usize + 2 <= bytes.len(),
+            LinkKind::OrderOnly => link.position == 0,
+            LinkKind::Unknown(_) => false,
+        };
+        link.child < self.counts[1] && parent.is_some_and(stands)
     }
 
     /// The room behind what is in use, in whole rows, up to the maxima.
     pub fn room(&self) -> Room {
-        let [data, objects, links] = self.counts.map(|count| count as usize);
+        let [data, objects, links] = self.view().lent();
+        let used = self.counts.map(|count| count as usize);
         Room {
-            data: self.data.len().min(Room::MOST.data) - data,
-            objects: (self.objects.len() / 2).min(Room::MOST.objects) - objects,
-            links: (self.links.len() / 4).min(Room::MOST.links) - links,
+            data: data.min(Room::MOST.data) - used[0],
+            objects: objects.min(Room::MOST.objects) - used[1],
+            links: links.min(Room::MOST.links) - used[2],
         }
     }
 
@@ -217,7 +249,7 @@ impl Store {
         [
             length(data, room.data, Room::MOST.data),
             2 * length(objects, room.objects, Room::MOST.objects),
-            4 * length(links, room.links, Room::MOST.links),
+            Link::NUMBERS * length(links, room.links, Room::MOST.links),
         ]
     }
 

@@ -6,39 +6,43 @@
 //! | at | bytes | what |
 //! |---|---|---|
 //! | 0 | 4 | the letters `KRNS` |
-//! | 4 | 2 | the version, 1 or 2 |
+//! | 4 | 2 | the version, 1 to 3 |
 //! | 6 | 2 | T, how many tables are listed |
 //! | 8 | 4 | D, how many data bytes there are |
 //! | 12 | 4 | O, how many objects there are |
 //! | 16 | 4 | L, how many links there are |
 //! | 20 | D | the data bytes |
 //! | 20 + D | 8 · O | object rows: head and tail, 4 bytes each |
-//! | 20 + D + 8 · O | 16 · L | link rows: parent, position, width and child, 4 bytes each |
-//! | 20 + D + 8 · O + 16 · L | 4 · T | the tables, 4 bytes each |
+//! | 20 + D + 8 · O | R · L | link rows: parent, position, width, child and, in version 3, kind, 4 bytes each |
+//! | 20 + D + 8 · O + R · L | 4 · T | the tables, 4 bytes each |
 //!
 //! The file ends there. The listed tables are those that the file is about, in the order in which a
-//! shaper asks them: each is an object in use, and none is listed twice. In version 1 all are PairPos
-//! tables, and the 4 bytes are the object's number. In version 2 some are MarkBasePos tables, and the
-//! 4 bytes are two numbers: the type of the lookup, which is 2 for PairPos and 4 for MarkBasePos, and
-//! the object's number. The store is sound. Whatever is otherwise is refused when the file is read, so
-//! what was read is written as the same bytes again.
+//! shaper asks them: each is an object in use, and none is listed twice.
+//!
+//! | version | R | links | tables |
+//! |---|---|---|---|
+//! | 1 | 16 | offsets alone | PairPos alone: the object's number |
+//! | 2 | 16 | offsets alone | two numbers: the type of the lookup, which is 2 for PairPos and 4 for MarkBasePos, and the object's number |
+//! | 3 | 20 | both kinds | as in version 2 |
+//!
+//! A file has the lowest version that can say what it holds, and its store is sound. Whatever is otherwise
+//! is refused when the file is read, so what was read is written as the same bytes again.
 
 mod error;
 mod raw;
 mod table;
+mod version;
 
 pub use error::FileError;
 pub use raw::RawFile;
 pub use table::Table;
+pub use version::VERSION;
 
 use crate::Store;
 use std::collections::HashSet;
 
 /// The letters that a store file starts with.
 pub const MAGIC: [u8; 4] = *b"KRNS";
-
-/// The newest version. A file is written in the lowest one that can say what its tables are.
-pub const VERSION: u16 = 2;
 
 /// The bytes before the data.
 const HEADER: usize = 20;
@@ -103,7 +107,7 @@ impl StoreFile {
     pub fn to_bytes(&self) -> Vec<u8> {
         let view = self.store.view();
         let [data, objects, links] = view.counts();
-        let version = table::version(&self.tables);
+        let version = version::lowest(view, &self.tables);
         let tables = self.tables.iter().map(|table| table::entry(version, table));
         let tables: Vec<u32> = tables.collect();
         let mut bytes = Vec::new();
@@ -113,7 +117,9 @@ impl StoreFile {
         extend(&mut bytes, &[data, objects, links]);
         bytes.extend(view.data());
         extend(&mut bytes, &view.objects[..2 * objects as usize]);
-        extend(&mut bytes, &view.links[..4 * links as usize]);
+        for row in view.link_rows() {
+            extend(&mut bytes, &row[..version::link_numbers(version)]);
+        }
         extend(&mut bytes, &tables);
         bytes
     }

@@ -256,7 +256,7 @@ impl ObjectGraph for Objects {
     }
 
     fn links(&self, object: u32) -> Vec<(u32, u32)> {
-        let links = self.0.view().links_of(object);
+        let links = self.0.view().offsets_of(object);
         links.map(|link| (link.position, link.child)).collect()
     }
 

@@ -138,7 +138,7 @@ fn new_tables_are_entered() {
     assert_eq!(listed.slots, slots);
     // The old lookup keeps its bytes and links, and all else is as the split leaves it.
     assert_eq!(view.object(LOOKUP), old.view().object(LOOKUP));
-    assert!(view.links_of(LOOKUP).eq(old.view().links_of(LOOKUP)));
+    assert!(view.offsets_of(LOOKUP).eq(old.view().offsets_of(LOOKUP)));
     let mut plain = old.clone();
     assert_eq!(
         split(&mut plain, 0, First, &mut Scratch::new()),

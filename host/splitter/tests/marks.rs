@@ -89,7 +89,7 @@ fn three_classes_are_cut_at_1_and_2() {
     let written = [&class[..], &last, &kept].concat();
     assert_eq!(view.data()[before[0] as usize..], bytes(&written.concat()));
     let links = |object| -> Vec<[u32; 2]> {
-        let links = view.links_of(object);
+        let links = view.offsets_of(object);
         links.map(|link| [link.position, link.child]).collect()
     };
     assert_eq!(links(0), [[2, 17], [4, 2], [8, 18], [10, 19]]);

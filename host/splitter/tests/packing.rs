@@ -45,7 +45,7 @@ fn the_largest_part_goes_last() -> Result<(), Refusal> {
     let mut scratch = Scratch::new();
     assert_eq!(cut_plan(&store, 0, First, &mut scratch)?, [320]);
     split(&mut store, 0, First, &mut scratch)?;
-    let in_link_order: Vec<u32> = store.view().links_of(0).map(|link| link.child).collect();
+    let in_link_order: Vec<u32> = store.view().offsets_of(0).map(|link| link.child).collect();
     let mut by_number = in_link_order.clone();
     by_number.sort_unstable();
     assert_eq!(greatest_offset(&store, 0, &by_number), 67_732);

@@ -59,8 +59,8 @@ fn link_rows_are_in_order() {
     for store in stores {
         let view = store.view();
         assert!(view.links().eq(sorted));
-        assert!(view.links_of(0).eq(sorted[..3].iter().copied()));
-        assert_eq!(view.links_of(3).len(), 0);
+        assert!(view.offsets_of(0).eq(sorted[..3].iter().copied()));
+        assert_eq!(view.offsets_of(3).len(), 0);
         assert_eq!(view.child(2, 4), Some(0));
         assert_eq!(view.child(2, 5), None);
         assert!(view.is_sound());
@@ -194,6 +194,6 @@ fn views_of_anything() {
     assert_eq!(view.object(0), Some(&data[..2]));
     assert_eq!([1, 2, 3].map(|number| view.object(number)), [None; 3]);
     assert_eq!(view.links().len(), 2);
-    assert_eq!(view.links_of(7).len(), 2);
+    assert_eq!(view.offsets_of(7).len(), 2);
     assert_eq!(view.child(8, 7), None);
 }

@@ -10,14 +10,14 @@ use super::{
     json::Json,
     outcome::Outcome,
     screen::Screen,
-    text::{counted, grouped, shown, wrapped},
+    text::{counted, grouped, in_use, shown, wrapped},
     told,
 };
 use kinds::Kinds;
 use splitter::{
     explain,
     store_file::{RawFile, Table},
-    Kind, Link, Refusal, StoreRef,
+    Kind, Link, LinkKind, Refusal, StoreRef,
 };
 
 /// So many links, objects and bytes are shown, unless all are asked for.
@@ -55,14 +55,7 @@ pub fn run(request: &Dump, screen: &mut Screen) -> Result<Outcome, Failure> {
     ];
     screen.json(&told::answer(Name::Dump, outcome, &request.file, values))?;
 
-    let [data, objects, links] = store.view.counts().map(|count| count as usize);
-    screen.heading(&format!(
-        "{}: {}, {}, {}",
-        shown(&request.file),
-        counted(objects, "object"),
-        counted(links, "link"),
-        counted(data, "data byte"),
-    ))?;
+    screen.heading(&format!("{}: {}", shown(&request.file), in_use(store.view)))?;
     if let Some(fault) = &fault {
         let words = refusal_in_words(None, Refusal::Unsound, fault);
         screen.lines(&wrapped(&format!("Not sound: {words}."), 0))?;
@@ -172,18 +165,10 @@ impl<'a> Dumped<'a> {
     }
 
     fn told(&self, object: u32) -> Json {
-        let links = self.links_of(object).iter().map(|link| {
-            Json::object([
-                ("position", link.position.into()),
-                ("child", link.child.into()),
-            ])
-        });
-        let from = self.from[object as usize].iter().map(|link| {
-            Json::object([
-                ("parent", link.parent.into()),
-                ("position", link.position.into()),
-            ])
-        });
+        let links = self.links_of(object).iter();
+        let links = links.map(|link| told::link(link, ("child", link.child)));
+        let from = self.from[object as usize].iter();
+        let from = from.map(|link| told::link(link, ("parent", link.parent)));
         let [head, tail] = self.kinds.rows[object as usize];
         Json::object([
             ("object", object.into()),
@@ -237,11 +222,8 @@ impl<'a> Dumped<'a> {
         ))?;
         let shown = self.some(from.len());
         for link in &from[..shown] {
-            let position = grouped(link.position as usize);
-            screen.line(&format!(
-                "  at {position:>7} of {}",
-                self.in_words(link.parent)
-            ))?;
+            let (way, parent) = (way(link, 7), self.in_words(link.parent));
+            screen.line(&format!("  {way:<10} of {parent}"))?;
         }
         self.show_rest(from.len() - shown, "more link", screen)?;
         self.show_bytes(self.bytes(object), screen)
@@ -263,5 +245,14 @@ impl<'a> Dumped<'a> {
             screen.line(&format!("  {:>7}  {}", grouped(16 * line), words.join(" ")))?;
         }
         self.show_rest(bytes.len().saturating_sub(16 * shown), "more byte", screen)
+    }
+}
+
+/// How a link leads from its parent: at a position, in so many columns, or by what it is.
+fn way(link: &Link, columns: usize) -> String {
+    match link.kind {
+        LinkKind::Offset => format!("at {:>columns$}", grouped(link.position as usize)),
+        LinkKind::OrderOnly => "order-only".into(),
+        LinkKind::Unknown(kind) => format!("of kind {}", grouped(kind as usize)),
     }
 }

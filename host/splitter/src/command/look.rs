@@ -127,7 +127,7 @@ impl Look {
 
     fn pair_piece_bytes(&self, store: StoreRef, pieces: &[Range<usize>]) -> Vec<usize> {
         let mut reach = Reach::new(store);
-        let mut links = store.links_of(self.table.number).peekable();
+        let mut links = store.offsets_of(self.table.number).peekable();
         let mut start = 0;
         let mut bytes = Vec::new();
         for piece in pieces {
@@ -158,7 +158,7 @@ impl Look {
     fn named_second_glyphs(&self, store: StoreRef) -> Vec<u16> {
         match (self.table.kind, self.format) {
             (Kind::Pairs, 1) => {
-                let sets = store.links_of(self.table.number);
+                let sets = store.offsets_of(self.table.number);
                 let sets = sets.filter(|link| link.position as usize >= self.item_start(0));
                 let sets = sets.filter_map(|link| store.object(link.child));
                 let step = 2 + self.record_bytes();

@@ -56,7 +56,7 @@ struct Entered<'a> {
 impl<'a> Entered<'a> {
     /// All lookups of a list that were written anew.
     fn all(old: &'a Store, new: &'a Store, list: u32) -> Vec<Self> {
-        let lookups = old.view().links_of(list).zip(new.view().links_of(list));
+        let lookups = old.view().offsets_of(list).zip(new.view().offsets_of(list));
         let anew = lookups.filter(|(before, after)| before.child != after.child);
         let entered = anew.map(|(before, after)| Self {
             old: (old, before.child),

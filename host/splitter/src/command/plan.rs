@@ -10,7 +10,7 @@ use super::{
     outcome::Outcome,
     report::{Amount, Before},
     screen::Screen,
-    text::{counted, shown, wrapped},
+    text::{counted, in_use, shown, wrapped},
     told,
 };
 use splitter::{
@@ -176,13 +176,10 @@ impl Plan {
 
     /// Says what the file holds.
     pub fn head(&self, file: &StoreFile, screen: &mut Screen) -> Result<(), Failure> {
-        let [data, objects, links] = file.store().view().counts().map(|count| count as usize);
         screen.heading(&format!(
-            "{}: {}, {}, {}",
+            "{}: {}",
             shown(&self.file),
-            counted(objects, "object"),
-            counted(links, "link"),
-            counted(data, "data byte"),
+            in_use(file.store().view())
         ))
     }
 }

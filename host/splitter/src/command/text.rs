@@ -1,5 +1,6 @@
 //! Numbers, lists and names in words.
 
+use splitter::{Link, LinkKind, StoreRef};
 use std::{ffi::OsStr, path::Path};
 
 /// The columns that output keeps to.
@@ -51,6 +52,27 @@ pub fn counted(number: usize, what: &str) -> String {
         1 => format!("1 {what}"),
         _ => format!("{} {}", grouped(number), plural(what)),
     }
+}
+
+/// What a store has in use.
+pub fn in_use(view: StoreRef) -> String {
+    let [data, objects, links] = view.counts().map(|count| count as usize);
+    let order_only = match order_only(view) {
+        0 => String::new(),
+        count => format!(" ({} order-only)", grouped(count)),
+    };
+    format!(
+        "{}, {}{order_only}, {}",
+        counted(objects, "object"),
+        counted(links, "link"),
+        counted(data, "data byte"),
+    )
+}
+
+/// How many links of a store are order-only.
+pub fn order_only(view: StoreRef) -> usize {
+    let order_only = |link: &Link| link.kind == LinkKind::OrderOnly;
+    view.links().filter(order_only).count()
 }
 
 /// A line of a table of two glyphs.

@@ -1,10 +1,10 @@
 //! What the command found, as JSON. docs/COMMAND.md describes it.
 
-use super::{arguments::Name, json::Json, look::Look, outcome::Outcome};
+use super::{arguments::Name, json::Json, look::Look, outcome::Outcome, text::order_only};
 use splitter::{
     explain::{Fault, LinkRow, Place},
     store_file::Table,
-    Explanation, Kind, Refusal, StoreRef,
+    Explanation, Kind, Link, LinkKind, Refusal, StoreRef,
 };
 use std::path::Path;
 
@@ -30,9 +30,11 @@ pub fn path(path: &Path) -> Json {
 /// What a store has in use.
 pub fn store(view: StoreRef) -> Json {
     let [data, objects, links] = view.counts();
+    let order_only = Some(order_only(view)).filter(|&count| count > 0);
     Json::object([
         ("objects", objects.into()),
         ("links", links.into()),
+        ("order_only", order_only.into()),
         ("data", data.into()),
     ])
 }
@@ -159,11 +161,34 @@ fn place(place: &Place) -> (&'static str, Values) {
     }
 }
 
-fn link_row(row: &LinkRow) -> Values {
+fn link_row(LinkRow { row, link }: &LinkRow) -> Values {
     vec![
-        ("row", row.row.into()),
-        ("parent", row.link.parent.into()),
-        ("position", row.link.position.into()),
-        ("child", row.link.child.into()),
+        ("row", (*row).into()),
+        ("parent", link.parent.into()),
+        ("link_kind", link_kind(link.kind).into()),
+        ("position", link.position.into()),
+        ("child", link.child.into()),
     ]
+}
+
+/// A link, as the object at one of its ends has it.
+pub fn link(link: &Link, (end, other): (&'static str, u32)) -> Json {
+    let position = match link.kind {
+        LinkKind::OrderOnly => None,
+        _ => Some(link.position),
+    };
+    Json::object([
+        ("kind", link_kind(link.kind).into()),
+        ("position", position.into()),
+        (end, other.into()),
+    ])
+}
+
+/// The name of a kind of link.
+fn link_kind(kind: LinkKind) -> String {
+    match kind {
+        LinkKind::Offset => "offset".into(),
+        LinkKind::OrderOnly => "order-only".into(),
+        LinkKind::Unknown(number) => format!("unknown {number}"),
+    }
 }

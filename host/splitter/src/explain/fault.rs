@@ -1,6 +1,6 @@
 //! What is at fault, and how it is said.
 
-use crate::{Kind, Link};
+use crate::{Kind, Link, LinkKind};
 use std::fmt::{self, Display, Formatter};
 
 /// What is at fault.
@@ -27,7 +27,8 @@ pub enum Fault {
         /// What it should lead to.
         part: Part,
     },
-    /// Two link rows, one behind the other, do not ascend by parent and position.
+    /// Two link rows, one behind the other, do not ascend by parent, kind, position and child, or are offsets
+    /// at one position.
     Order {
         /// The two.
         rows: [LinkRow; 2],
@@ -78,7 +79,7 @@ pub enum Place {
     Head(usize),
     /// Where an object ends, by its row.
     Tail(usize),
-    /// A number of a link row: its `parent`, `position`, `width` or `child`.
+    /// A number of a link row: its `parent`, `position`, `width`, `child` or `kind`.
     Link {
         /// The row.
         row: LinkRow,
@@ -253,17 +254,24 @@ impl Display for Fault {
                 "table {parent} has no link at position {position}, where its {} is wanted",
                 part.name()
             ),
-            Self::Order { rows: [a, b] } if a.place() == b.place() => write!(
-                f,
-                "link rows {} and {} both stand at position {} of object {}",
-                a.row, b.row, a.link.position, a.link.parent
-            ),
-            Self::Order { rows: [a, b] } => write!(
-                f,
-                "link rows {} and {} are out of order: object {} at position {} comes before \
-                 object {} at position {}",
-                a.row, b.row, a.link.parent, a.link.position, b.link.parent, b.link.position,
-            ),
+            Self::Order { rows: [a, b] } => {
+                write!(f, "link rows {} and {} ", a.row, b.row)?;
+                let [before, behind] = [a.link, b.link];
+                match (before.place() == behind.place(), before.kind) {
+                    (false, _) => write!(
+                        f,
+                        "are out of order: {} comes before {}",
+                        Standing(before),
+                        Standing(behind)
+                    ),
+                    (true, LinkKind::Offset) => write!(
+                        f,
+                        "both stand at position {} of object {}",
+                        before.position, before.parent
+                    ),
+                    (true, _) => write!(f, "are both {}", Standing(before)),
+                }
+            }
             Self::NoSlot { row, part } => write!(
                 f,
                 "link row {} of {} stands at position {}, which is no slot; it leads to object {}",
@@ -305,9 +313,26 @@ fn way(objects: &[u32]) -> String {
     }
 }
 
-impl LinkRow {
-    fn place(&self) -> [u32; 2] {
-        [self.link.parent, self.link.position]
+/// A link by what tells it from all others.
+struct Standing(Link);
+
+impl Display for Standing {
+    fn fmt(&self, f: &mut Formatter) -> fmt::Result {
+        let Self(Link {
+            parent,
+            kind,
+            position,
+            child,
+        }) = self;
+        match kind {
+            LinkKind::OrderOnly => {
+                write!(
+                    f,
+                    "the order-only link of object {parent} to object {child}"
+                )
+            }
+            _ => write!(f, "object {parent} at position {position}"),
+        }
     }
 }
 
@@ -322,11 +347,11 @@ impl Display for Place {
             Self::Tail(row) => write!(f, "the tail of object row {row}"),
             Self::Link { row, column } => {
                 let LinkRow { row, link } = row;
-                let (parent, position) = (link.parent, link.position);
-                write!(
-                    f,
-                    "link row {row} of object {parent} at position {position}: its {column}"
-                )
+                write!(f, "link row {row} of object {}", link.parent)?;
+                match link.kind {
+                    LinkKind::OrderOnly => write!(f, ", order-only: its {column}"),
+                    _ => write!(f, " at position {}: its {column}", link.position),
+                }
             }
             Self::Length { object, part } => write!(f, "{}: its length", part.of(*object)),
             Self::Bytes {

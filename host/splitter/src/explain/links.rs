@@ -37,7 +37,7 @@ pub(super) fn stray(
 ) -> Option<Fault> {
     let rows = asked.store.link_rows();
     let start = rows.partition_point(|row| row[0] < parent);
-    let mut links = (start..).zip(asked.store.links_of(parent));
+    let mut links = (start..).zip(asked.store.offsets_of(parent));
     let (row, link) = links.find(|(_, link)| !is_slot(link.position as usize))?;
     let row = LinkRow { row, link };
     Some(Fault::NoSlot { row, part })
@@ -80,7 +80,7 @@ pub(super) fn way_back(asked: &Asked) -> Option<Fault> {
     let mut from = vec![None; objects as usize];
     let mut next = VecDeque::from([asked.table]);
     while let Some(object) = next.pop_front() {
-        for link in asked.store.links_of(object) {
+        for link in asked.store.offsets_of(object) {
             let seen = &mut from[link.child as usize];
             if seen.is_none() {
                 *seen = Some(object);

@@ -76,7 +76,12 @@ fn at_no_slot(asked: &Asked, object: u32, part: Part, first: usize, end: usize) 
 /// No lookup for pairs names the table: it is the type of the first that does, or none does.
 fn not_named(asked: &Asked, list: u32, lookups: &[u32]) -> Option<Fault> {
     let table = asked.table;
-    let names = |lookup: u32| asked.store.links_of(lookup).any(|link| link.child == table);
+    let names = |lookup: u32| {
+        asked
+            .store
+            .offsets_of(lookup)
+            .any(|link| link.child == table)
+    };
     let type_of = |lookup: u32| word(bytes(asked, lookup), 0);
     let pairs = usize::from(Kind::Pairs.lookup_type());
     let mut naming = lookups.iter().copied().filter(|&lookup| names(lookup));

@@ -24,17 +24,16 @@ pub(super) fn short(asked: &Asked) -> Option<Fault> {
 
 fn short_store(asked: &Asked, need: &Room) -> Option<Fault> {
     let store = asked.store;
-    let [data, objects, links] = store.counts().map(|count| count as usize);
     let most = Room::MOST;
-    let [object_rows, link_rows] = [store.objects.len() / 2, store.links.len() / 4];
-    let mut buffers = [
-        ("data", store.data.len(), most.data, data, need.data),
-        ("objects", object_rows, most.objects, objects, need.objects),
-        ("links", link_rows, most.links, links, need.links),
-    ]
-    .into_iter();
-    buffers.find_map(|(name, lent, most, used, need)| {
-        let room = lent.min(most) - used;
+    let buffers = [
+        ("data", most.data, need.data),
+        ("objects", most.objects, need.objects),
+        ("links", most.links, need.links),
+    ];
+    let lent_and_used = store.lent().into_iter().zip(store.counts());
+    let mut buffers = buffers.into_iter().zip(lent_and_used);
+    buffers.find_map(|((name, most, need), (lent, used))| {
+        let room = lent.min(most) - used as usize;
         let because = match lent < most {
             true => "for what the split adds",
             false => "for what the split adds, and the store can be no larger",
@@ -71,7 +70,7 @@ fn links_of_arrays(asked: &Asked) -> usize {
     let arrays = [Part::MarkArray, Part::BaseArray].map(|part| asked.part(part));
     let arrays = arrays.into_iter().flatten();
     arrays
-        .map(|(array, _)| asked.store.links_of(array).len())
+        .map(|(array, _)| asked.store.offsets_of(array).len())
         .sum()
 }
 

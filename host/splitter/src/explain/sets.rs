@@ -12,7 +12,7 @@ pub(super) fn unsorted(asked: &Asked) -> Option<Fault> {
         return None;
     }
     let record = 2 + record_size(asked.bytes());
-    let links = asked.store.links_of(asked.table);
+    let links = asked.store.offsets_of(asked.table);
     let slots = links.filter(|link| link.position >= 10 && link.position % 2 == 0);
     let mut before = None;
     let mut sets = slots

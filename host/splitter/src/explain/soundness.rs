@@ -1,7 +1,7 @@
 //! What makes a store unsound.
 
 use super::{Fault, LinkRow, Part, Place, Wanted};
-use crate::{Link, Room, StoreRef};
+use crate::{Link, LinkKind, Room, StoreRef};
 
 const IN_USE: &str = "how many data bytes are in use";
 
@@ -15,12 +15,13 @@ pub(super) fn fault(store: StoreRef) -> Option<Fault> {
 fn count(store: StoreRef) -> Option<Fault> {
     let most = Room::MOST;
     let buffers = [
-        ("data", store.data.len(), most.data),
-        ("objects", store.objects.len() / 2, most.objects),
-        ("links", store.links.len() / 4, most.links),
+        ("data", most.data),
+        ("objects", most.objects),
+        ("links", most.links),
     ];
-    let mut counted = buffers.into_iter().zip(store.counts());
-    counted.find_map(|((name, lent, most), count)| {
+    let lent_and_counted = store.lent().into_iter().zip(store.counts());
+    let mut buffers = buffers.into_iter().zip(lent_and_counted);
+    buffers.find_map(|((name, most), (lent, count))| {
         let because = match lent < most {
             true => "as many as are lent",
             false => "the most that a store has",
@@ -64,15 +65,17 @@ fn link_row(store: StoreRef) -> Option<Fault> {
         if fault.is_some() {
             return fault;
         }
-        if row > 0 && rows[row - 1][..2] >= numbers[..2] {
+        if row > 0 {
             let rows = [row - 1, row].map(numbered);
-            return Some(Fault::Order { rows });
+            if rows[0].link.place() >= rows[1].link.place() {
+                return Some(Fault::Order { rows });
+            }
         }
     }
     None
 }
 
-/// A number of a link row that cannot be: parent, child, width, or position.
+/// A number of a link row that cannot be: parent, child, kind, width, or position.
 fn link_numbers(store: StoreRef, row: LinkRow, width: u32) -> Option<Fault> {
     let [_, objects, _] = store.counts();
     let fault = |column, found: u32, wanted, because| {
@@ -83,6 +86,7 @@ fn link_numbers(store: StoreRef, row: LinkRow, width: u32) -> Option<Fault> {
     let because = "how many objects are in use";
     let Link {
         parent,
+        kind,
         position,
         child,
     } = row.link;
@@ -92,8 +96,18 @@ fn link_numbers(store: StoreRef, row: LinkRow, width: u32) -> Option<Fault> {
     if child >= objects {
         return fault("child", child, in_use, because);
     }
-    if width != 2 {
-        return fault("width", width, Wanted::Exactly(2), "");
+    if let LinkKind::Unknown(kind) = kind {
+        let because = "an offset or an order-only link";
+        return fault("kind", kind, Wanted::Either(0, 1), because);
+    }
+    if width != kind.width() {
+        return fault("width", width, Wanted::Exactly(kind.width().into()), "");
+    }
+    if kind == LinkKind::OrderOnly {
+        return match position {
+            0 => None,
+            _ => fault("position", position, Wanted::Exactly(0), ""),
+        };
     }
     match bytes.len().checked_sub(2) {
         Some(last) if position as usize <= last => None,

@@ -63,11 +63,9 @@ impl<'a> Loader<'a> {
             mut store, links, ..
         } = self;
         let links = links.into_iter();
-        store.add_links(links.map(|((parent, position), child)| Link {
-            parent,
-            position,
-            child,
-        }))?;
+        store.add_links(
+            links.map(|((parent, position), child)| Link::offset(parent, position, child)),
+        )?;
         Ok(store)
     }
 

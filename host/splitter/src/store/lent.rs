@@ -1,29 +1,6 @@
 //! Stores in buffers of the host's own.
 
-/// A link from a position of one object to another object.
-#[derive(Clone, Copy, Debug, PartialEq, Eq, PartialOrd, Ord, Hash)]
-pub struct Link {
-    /// The object that has the link.
-    pub parent: u32,
-    /// Where in the parent the two bytes of the link stand.
-    pub position: u32,
-    /// The object that the link leads to.
-    pub child: u32,
-}
-
-impl Link {
-    pub(super) fn row(self) -> [u32; 4] {
-        [self.parent, self.position, 2, self.child]
-    }
-
-    pub(crate) fn of_row(&[parent, position, _, child]: &[u32; 4]) -> Self {
-        Self {
-            parent,
-            position,
-            child,
-        }
-    }
-}
+use super::{Link, LinkKind};
 
 /// A store in lent buffers, to be read. It may hold anything.
 #[derive(Clone, Copy, Debug, PartialEq, Eq)]
@@ -35,7 +12,7 @@ pub struct StoreRef<'a> {
 }
 
 impl<'a> StoreRef<'a> {
-    /// Data bytes, flat rows of head and tail, flat rows of parent, position, width and child, and how
+    /// Data bytes, flat rows of head and tail, flat rows of parent, position, width, child and kind, and how
     /// many of each are in use.
     pub const fn new(
         data: &'a [u8],
@@ -56,6 +33,15 @@ impl<'a> StoreRef<'a> {
         crate::read_pair(self, 0, 0, 0) != Err(crate::Refusal::Unsound)
     }
 
+    /// How many data bytes, and whole rows of objects and of links, are lent.
+    pub(crate) const fn lent(self) -> [usize; 3] {
+        [
+            self.data.len(),
+            self.objects.len() / 2,
+            self.links.len() / Link::NUMBERS,
+        ]
+    }
+
     /// How many data bytes, objects and links are in use.
     pub const fn counts(self) -> [u32; 3] {
         *self.counts
@@ -72,29 +58,54 @@ impl<'a> StoreRef<'a> {
         self.data().get(head as usize..tail as usize)
     }
 
-    /// All links, in order of parent and position.
+    /// All links, of both kinds, in their order.
     pub fn links(self) -> impl ExactSizeIterator<Item = Link> + 'a {
         self.link_rows().iter().map(Link::of_row)
     }
 
-    /// The links of one object, in order of position.
-    pub fn links_of(self, parent: u32) -> impl ExactSizeIterator<Item = Link> + 'a {
-        let rows = self.link_rows();
-        let start = rows.partition_point(|row| row[0] < parent);
-        let len = rows[start..].partition_point(|row| row[0] == parent);
+    /// The offsets of one object, in order of position.
+    pub fn offsets_of(self, parent: u32) -> impl ExactSizeIterator<Item = Link> + 'a {
+        self.links_of(parent, LinkKind::Offset)
+    }
+
+    /// The objects to which order-only links of one object lead, in order.
+    ///
+    /// ```
+    /// use splitter::{Refusal, Store};
+    ///
+    /// let mut store = Store::new();
+    /// let [a, b] = [store.add_object(&[0; 2])?, store.add_object(&[])?];
+    /// store.add_link(a, 0, b)?;
+    /// store.add_order_link(a, b)?;
+    /// store.add_order_link(a, a)?;
+    ///
+    /// assert!(store.view().orders_of(a).eq([a, b]));
+    /// assert_eq!(store.view().orders_of(b).len(), 0);
+    /// # Ok::<(), Refusal>(())
+    /// ```
+    pub fn orders_of(self, parent: u32) -> impl ExactSizeIterator<Item = u32> + 'a {
+        let links = self.links_of(parent, LinkKind::OrderOnly);
+        links.map(|link| link.child)
+    }
+
+    /// The links of one object that are of one kind.
+    fn links_of(self, parent: u32, kind: LinkKind) -> impl ExactSizeIterator<Item = Link> + 'a {
+        let (rows, these) = (self.link_rows(), [parent, kind.number()]);
+        let start = rows.partition_point(|&[parent, .., kind]| [parent, kind] < these);
+        let len = rows[start..].partition_point(|&[parent, .., kind]| [parent, kind] == these);
         rows[start..start + len].iter().map(Link::of_row)
     }
 
-    /// The object that a link leads to.
+    /// The object that an offset leads to.
     pub fn child(self, parent: u32, position: u32) -> Option<u32> {
-        let place = self.find_link(parent, position).ok()?;
-        Some(self.link_rows()[place][3])
+        let place = self.find_link(Link::offset(parent, position, 0)).ok()?;
+        Some(Link::of_row(&self.link_rows()[place]).child)
     }
 
-    /// The place of a link among the rows, or the place where it would stand.
-    pub(super) fn find_link(self, parent: u32, position: u32) -> Result<usize, usize> {
+    /// The row of the link that stands where this one does, or the row where it would stand.
+    pub(super) fn find_link(self, link: Link) -> Result<usize, usize> {
         let rows = self.link_rows();
-        rows.binary_search_by_key(&[parent, position], |row| [row[0], row[1]])
+        rows.binary_search_by_key(&link.place(), |row| Link::of_row(row).place())
     }
 
     /// The rows of objects in use: head and tail.
@@ -102,8 +113,8 @@ impl<'a> StoreRef<'a> {
         in_use(self.objects.as_chunks().0, self.counts[1])
     }
 
-    /// The rows of links in use: parent, position, width and child.
-    pub fn link_rows(self) -> &'a [[u32; 4]] {
+    /// The rows of links in use: parent, position, width, child and kind.
+    pub fn link_rows(self) -> &'a [[u32; Link::NUMBERS]] {
         in_use(self.links.as_chunks().0, self.counts[2])
     }
 }
@@ -125,7 +136,7 @@ pub struct StoreMut<'a> {
 }
 
 impl<'a> StoreMut<'a> {
-    /// Data bytes, flat rows of head and tail, flat rows of parent, position, width and child, and how
+    /// Data bytes, flat rows of head and tail, flat rows of parent, position, width, child and kind, and how
     /// many of each are in use.
     pub const fn new(
         data: &'a mut [u8],

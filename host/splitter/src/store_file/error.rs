@@ -32,8 +32,13 @@ pub enum FileError {
         /// The type of lookup that it gives.
         kind: u16,
     },
-    /// It has version 2, and lists no MarkBasePos table.
-    NoMarks,
+    /// It has a version that is higher than it needs.
+    NeedlessVersion {
+        /// The version that it has.
+        version: u16,
+        /// The lowest version that can say what it holds.
+        lowest: u16,
+    },
     /// It lists a table that is not in use.
     NoTable {
         /// The table.
@@ -72,8 +77,10 @@ impl Display for FileError {
                 "it lists a table of lookup type {kind}, and only 2 (PairPos) and 4 (MarkBasePos) are \
                  known: list only tables of these"
             ),
-            Self::NoMarks => f.write_str(
-                "it is a store file of version 2 that lists no MarkBasePos table: write it in version 1",
+            Self::NeedlessVersion { version, lowest } => write!(
+                f,
+                "it is a store file of version {version}, and holds nothing that version {lowest} cannot \
+                 say: write it in version {lowest}"
             ),
             Self::NoTable { table, objects } => write!(
                 f,

@@ -1,7 +1,11 @@
 //! A store file as it stands, whether or not its store is sound.
 
-use super::{table, FileError, StoreFile, Table, HEADER, MAGIC, VERSION};
-use crate::{Store, StoreRef};
+use super::{
+    table,
+    version::{link_numbers, lowest},
+    FileError, StoreFile, Table, HEADER, MAGIC, VERSION,
+};
+use crate::{Link, Store, StoreRef};
 
 /// What stands in a file. Its store may be unsound, and its tables may be none: it can be looked at.
 ///
@@ -38,12 +42,12 @@ impl RawFile {
         let [data, objects, links] = counts;
         let (data, rest) = rest.split_at(data as usize);
         let (objects, rest) = rest.split_at(8 * objects as usize);
-        let (links, tables) = rest.split_at(16 * links as usize);
+        let (links, tables) = rest.split_at(4 * link_numbers(version) * links as usize);
         Ok(Self {
             version,
             data: data.to_vec(),
             objects: numbers(objects),
-            links: numbers(links),
+            links: link_rows(links, link_numbers(version)),
             counts,
             entries: numbers(tables),
         })
@@ -58,7 +62,7 @@ impl RawFile {
     ///
     /// # Errors
     ///
-    /// [`FileError::Kind`] and [`FileError::NoMarks`].
+    /// [`FileError::Kind`].
     pub fn tables(&self) -> Result<Vec<Table>, FileError> {
         table::listed(self.version, &self.entries)
     }
@@ -69,9 +73,13 @@ impl RawFile {
     ///
     /// The first [`FileError`] that applies.
     pub fn into_file(self) -> Result<StoreFile, FileError> {
-        let tables = self.tables();
+        let (version, tables) = (self.version, self.tables());
         let store = Store::from_parts(self.data, self.objects, self.links, self.counts);
-        StoreFile::new(store.map_err(FileError::Store)?, tables?)
+        let (store, tables) = (store.map_err(FileError::Store)?, tables?);
+        match lowest(store.view(), &tables) {
+            lowest if lowest < version => Err(FileError::NeedlessVersion { version, lowest }),
+            _ => StoreFile::new(store, tables),
+        }
     }
 }
 
@@ -95,7 +103,8 @@ fn header(bytes: &[u8]) -> Result<(u16, [u32; 3], &[u8]), FileError> {
     let tables = number(&header[6..8]);
     let counts = [8, 12, 16].map(|at| number(&header[at..at + 4]));
     let [data, objects, links] = counts.map(u64::from);
-    let asked = HEADER as u64 + data + 8 * objects + 16 * links + 4 * u64::from(tables);
+    let link_rows = 4 * link_numbers(version) as u64 * links;
+    let asked = HEADER as u64 + data + 8 * objects + link_rows + 4 * u64::from(tables);
     match is == asked {
         true => Ok((version, counts, rest)),
         false => Err(FileError::Length { is, asked }),
@@ -110,4 +119,16 @@ fn number(bytes: &[u8]) -> u32 {
 
 fn numbers(bytes: &[u8]) -> Vec<u32> {
     bytes.chunks_exact(4).map(number).collect()
+}
+
+/// Whole link rows, of rows that have their first numbers: what is left out is 0, the kind of an offset.
+fn link_rows(bytes: &[u8], numbers: usize) -> Vec<u32> {
+    let rows = bytes.chunks_exact(4 * numbers).map(|row| {
+        let mut whole = [0; Link::NUMBERS];
+        for (place, bytes) in whole.iter_mut().zip(row.chunks_exact(4)) {
+            *place = number(bytes);
+        }
+        whole
+    });
+    rows.flatten().collect()
 }

@@ -1,6 +1,6 @@
 //! The tables that a file is about.
 
-use super::FileError;
+use super::{version::has_table_kinds, FileError};
 use crate::Kind;
 
 /// A table that a file is about.
@@ -30,26 +30,18 @@ impl Table {
     }
 }
 
-/// The lowest version that can say what these tables are.
-pub(super) fn version(tables: &[Table]) -> u16 {
-    match tables.iter().all(|table| table.kind == Kind::Pairs) {
-        true => 1,
-        false => 2,
-    }
-}
-
-/// The four bytes of a table: in version 1 its number, in version 2 its kind and its number.
+/// The four bytes of a table: its number, in a version that says what it is for behind its kind.
 pub(super) fn entry(version: u16, table: &Table) -> u32 {
-    let kind = match version {
-        1 => 0,
-        _ => u32::from(table.kind.lookup_type()),
+    let kind = match has_table_kinds(version) {
+        true => u32::from(table.kind.lookup_type()),
+        false => 0,
     };
     kind << 16 | table.number
 }
 
 /// The tables of these entries.
 pub(super) fn listed(version: u16, entries: &[u32]) -> Result<Vec<Table>, FileError> {
-    if version == 1 {
+    if !has_table_kinds(version) {
         return Ok(entries.iter().map(|&number| Table::pairs(number)).collect());
     }
     let tables = entries.iter().map(|&entry| {
@@ -60,9 +52,5 @@ pub(super) fn listed(version: u16, entries: &[u32]) -> Result<Vec<Table>, FileEr
             kind: known,
         })
     });
-    let tables: Vec<Table> = tables.collect::<Result<_, _>>()?;
-    match self::version(&tables) == version {
-        true => Ok(tables),
-        false => Err(FileError::NoMarks),
-    }
+    tables.collect()
 }

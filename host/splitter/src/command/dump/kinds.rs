@@ -25,7 +25,7 @@ pub struct Kinds {
 }
 
 impl Kinds {
-    /// Goes from the tables along the links of what is known. An object may be several things.
+    /// Goes from the tables along the offsets of what is known. An object may be several things.
     pub fn of(view: StoreRef, links: &[Vec<Link>], tables: &[Table]) -> Self {
         let objects = view.counts()[1] as usize;
         let mut kinds = Self {
@@ -45,7 +45,8 @@ impl Kinds {
         self.add(table.number, Is::Table(table.kind), &mut next);
         while let Some((object, is)) = next.pop() {
             let bytes = view.object(object).unwrap_or_default();
-            for link in links.get(object as usize).into_iter().flatten() {
+            let links = links.get(object as usize).into_iter().flatten();
+            for link in links.filter(|link| link.is_offset()) {
                 if let Some(is) = is.child(bytes, link.position) {
                     self.add(link.child, is, &mut next);
                 }

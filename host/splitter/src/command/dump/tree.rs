@@ -1,7 +1,7 @@
 //! The objects of a store as a tree from its tables.
 
-use super::{Dumped, Failure, Screen};
-use crate::command::text::{counted, grouped, wrapped};
+use super::{way, Dumped, Failure, Screen};
+use crate::command::text::{counted, wrapped};
 use splitter::Link;
 
 /// No deeper level is set further in.
@@ -32,7 +32,8 @@ impl Dumped<'_> {
         while let Some(object) = next.pop() {
             if let Some(reached @ false) = reached.get_mut(object as usize) {
                 *reached = true;
-                next.extend(self.links_of(object).iter().map(|link| link.child));
+                let offsets = self.links_of(object).iter().filter(|link| link.is_offset());
+                next.extend(offsets.map(|link| link.child));
             }
         }
         reached
@@ -51,7 +52,8 @@ impl Dumped<'_> {
         self.show_rest(unseen.len() - shown, "more object", screen)
     }
 
-    /// Shows an object, and below it what it leads to. What was shown above is only named.
+    /// Shows an object, and below it what it leads to. What was shown above is only named, and so is what
+    /// an order-only link leads to.
     pub(super) fn show_from(
         &self,
         table: u32,
@@ -59,7 +61,7 @@ impl Dumped<'_> {
         screen: &mut Screen,
     ) -> Result<(), Failure> {
         let mut levels = Vec::new();
-        self.enter(None, table, &mut levels, seen, screen)?;
+        self.enter("", table, &mut levels, seen, screen)?;
         while let Some(level) = levels.last_mut() {
             let Some(link) = level.links.next() else {
                 let rest = level.rest;
@@ -71,27 +73,28 @@ impl Dumped<'_> {
                 }
                 continue;
             };
-            self.enter(Some(link.position), link.child, &mut levels, seen, screen)?;
+            let way = format!("{} to ", way(link, 0));
+            match link.is_offset() {
+                true => self.enter(&way, link.child, &mut levels, seen, screen)?,
+                false => self.name(&way, link.child, levels.len(), screen)?,
+            }
         }
         Ok(())
     }
 
     fn enter<'s>(
         &'s self,
-        position: Option<u32>,
+        way: &str,
         object: u32,
         levels: &mut Vec<Level<'s>>,
         seen: &mut [bool],
         screen: &mut Screen,
     ) -> Result<(), Failure> {
-        let at = position.map_or(String::new(), |at| {
-            format!("at {} to ", grouped(at as usize))
-        });
-        let words = format!("{at}{}", self.in_words(object));
-        let start = indent(levels.len());
         let Some(seen) = seen.get_mut(object as usize) else {
-            return screen.line(&format!("{start}{words}, which is not in use"));
+            return self.name(way, object, levels.len(), screen);
         };
+        let words = format!("{way}{}", self.in_words(object));
+        let start = indent(levels.len());
         if std::mem::replace(seen, true) {
             return screen.line(&format!("{start}{words} (above)"));
         }
@@ -105,6 +108,22 @@ impl Dumped<'_> {
             links: links[..shown].iter(),
         });
         Ok(())
+    }
+
+    /// Names an object, and does not go on to what it leads to.
+    fn name(
+        &self,
+        way: &str,
+        object: u32,
+        depth: usize,
+        screen: &mut Screen,
+    ) -> Result<(), Failure> {
+        let not_in_use = match object < self.objects() {
+            true => "",
+            false => ", which is not in use",
+        };
+        let (start, words) = (indent(depth), self.in_words(object));
+        screen.line(&format!("{start}{way}{words}{not_in_use}"))
     }
 }
 

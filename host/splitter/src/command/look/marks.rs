@@ -60,7 +60,7 @@ fn add_anchors(
     array: Option<u32>,
     class_at: impl Fn(usize) -> Option<usize>,
 ) {
-    for link in array.into_iter().flat_map(|array| store.links_of(array)) {
+    for link in array.into_iter().flat_map(|array| store.offsets_of(array)) {
         let class = class_at(link.position as usize);
         if let Some(class) = class.and_then(|class| classes.get_mut(class)) {
             class.anchors.push(link.child);

@@ -2,7 +2,7 @@
 
 use super::{
     sets,
-    words::{bytes, class_def, coverage, link},
+    words::{bytes, class_def, coverage},
 };
 use splitter::{Link, Refusal, Store};
 
@@ -27,8 +27,11 @@ pub fn store() -> Result<(Store, u32, u32), Refusal> {
     let lookup = store.add_object(&bytes(&[2, FLAG, 2, 0, 0, 1]))?;
     let other = store.add_object(&bytes(&[1, 0, 0]))?;
     let list = store.add_object(&bytes(&[2, 0, 0]))?;
-    links.extend([link(lookup, 6, table), link(lookup, 8, rows)]);
-    links.extend([link(list, 2, lookup), link(list, 4, other)]);
+    links.extend([
+        Link::offset(lookup, 6, table),
+        Link::offset(lookup, 8, rows),
+    ]);
+    links.extend([Link::offset(list, 2, lookup), Link::offset(list, 4, other)]);
     store.add_links(links)?;
     Ok((store, table, list))
 }
@@ -50,7 +53,7 @@ fn add_rows(store: &mut Store, links: &mut Vec<Link>) -> Result<u32, Refusal> {
     ];
     for (position, part) in parts {
         let part = store.add_object(&part)?;
-        links.push(link(table, position, part));
+        links.push(Link::offset(table, position, part));
     }
     Ok(table)
 }

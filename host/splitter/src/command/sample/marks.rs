@@ -1,6 +1,6 @@
 //! Mark to base: vowel signs on letters.
 
-use super::words::{bytes, coverage, link, words_then_bytes};
+use super::words::{bytes, coverage, words_then_bytes};
 use splitter::{Link, Refusal, Store};
 
 /// Of which the last has no marks.
@@ -33,7 +33,9 @@ pub fn store() -> Result<(Store, u32), Refusal> {
     let base_array = store.add_object(&base_array())?;
     let parts = [mark_coverage, base_coverage, mark_array, base_array];
     let links = [2, 4, 8, 10].into_iter().zip(parts);
-    let mut links: Vec<Link> = links.map(|(at, part)| link(table, at, part)).collect();
+    let mut links: Vec<Link> = links
+        .map(|(at, part)| Link::offset(table, at, part))
+        .collect();
     link_marks(&mut store, mark_array, &mut links)?;
     link_bases(&mut store, base_array, &mut links)?;
     store.add_links(links)?;
@@ -62,7 +64,7 @@ fn link_marks(store: &mut Store, array: u32, links: &mut Vec<Link>) -> Result<()
             anchor = store.add_object(&bytes(&[1, 250 + mark, 600 - 3 * mark]))?;
         }
         if mark % 24 != 7 {
-            links.push(link(array, 4 + 4 * u32::from(mark), anchor));
+            links.push(Link::offset(array, 4 + 4 * u32::from(mark), anchor));
         }
     }
     Ok(())
@@ -81,7 +83,7 @@ fn link_bases(store: &mut Store, array: u32, links: &mut Vec<Link>) -> Result<()
                 None => add_anchor(store, base, class, links)?,
             };
             let slot = u32::from(base * CLASSES + class);
-            links.push(link(array, 2 + 2 * slot, anchor));
+            links.push(Link::offset(array, 2 + 2 * slot, anchor));
             last = Some(anchor);
         }
     }
@@ -99,7 +101,7 @@ fn add_anchor(
     let anchor = store.add_object(&bytes(&[3, x, y, 0, 0]))?;
     for (position, first) in [(6, base), (8, class)] {
         let device = store.add_object(&device(first))?;
-        links.push(link(anchor, position, device));
+        links.push(Link::offset(anchor, position, device));
     }
     Ok(anchor)
 }

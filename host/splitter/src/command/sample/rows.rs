@@ -1,7 +1,7 @@
 //! Format 2: classes of letters before classes of letters.
 
-use super::words::{bytes, class_def, coverage, device, link};
-use splitter::{Refusal, Store};
+use super::words::{bytes, class_def, coverage, device};
+use splitter::{Link, Refusal, Store};
 
 /// X placement, X advance and both devices for the first glyph, nothing for the second.
 const VALUE_FORMATS: [u16; 2] = [0x0055, 0];
@@ -41,7 +41,7 @@ pub fn store() -> Result<(Store, u32), Refusal> {
         links.extend(positions.map(|position| (position, device)));
     }
     let links = links.into_iter();
-    store.add_links(links.map(|(position, child)| link(table, position, child)))?;
+    store.add_links(links.map(|(position, child)| Link::offset(table, position, child)))?;
     Ok((store, table))
 }
 

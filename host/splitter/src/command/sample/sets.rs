@@ -1,7 +1,7 @@
 //! Format 1: letters before letters.
 
-use super::words::{bytes, coverage, device, link};
-use splitter::{Refusal, Store};
+use super::words::{bytes, coverage, device};
+use splitter::{Link, Refusal, Store};
 
 /// X advance and its device for the first glyph, X placement for the second.
 const VALUE_FORMATS: [u16; 2] = [0x0044, 0x0001];
@@ -40,7 +40,7 @@ pub fn store() -> Result<(Store, u32), Refusal> {
     let table = store.add_object(&table(firsts.len()))?;
     let coverage = store.add_object(&coverage(&firsts))?;
     let devices = devices(&mut store)?;
-    let mut links = vec![link(table, 2, coverage)];
+    let mut links = vec![Link::offset(table, 2, coverage)];
     let mut last_set = None;
     for (place, &first) in (0..).zip(&firsts) {
         if place % 80 == 5 {
@@ -52,11 +52,13 @@ pub fn store() -> Result<(Store, u32), Refusal> {
                 let (bytes, positions) = pair_set(first);
                 let set = store.add_object(&bytes)?;
                 let positions = positions.into_iter().zip(devices.iter().cycle());
-                links.extend(positions.map(|(position, &device)| link(set, position, device)));
+                links.extend(
+                    positions.map(|(position, &device)| Link::offset(set, position, device)),
+                );
                 set
             }
         };
-        links.push(link(table, 10 + 2 * place, set));
+        links.push(Link::offset(table, 10 + 2 * place, set));
         last_set = Some(set);
     }
     store.add_links(links)?;

@@ -40,7 +40,7 @@ fn marks_as_fonts_have_them() {
     let class_count = view.object(table.number).unwrap()[7];
     assert!((0..class_count - 1).all(|class| classes.contains(&class)));
     assert!(!classes.contains(&(class_count - 1)));
-    assert!(view.links_of(part(8)).len() < classes.len());
+    assert!(view.offsets_of(part(8)).len() < classes.len());
     let [marks, bases] = [900..972, 400..570];
     let all = marks.flat_map(|mark| bases.clone().map(move |base| (mark, base)));
     let read = |(mark, base)| read_mark(&store, table.number, mark, base).unwrap();

@@ -1,6 +1,4 @@
-//! Tables as words, and links between them.
-
-use splitter::Link;
+//! Tables as words.
 
 /// Words as a font has them.
 pub fn bytes(words: &[u16]) -> Vec<u8> {
@@ -25,13 +23,4 @@ pub fn class_def(first: u16, classes: &[u16]) -> Vec<u8> {
 /// A device that moves glyphs by a pixel at some sizes from 11 to 18 pixels.
 pub fn device(deltas: u16) -> Vec<u8> {
     bytes(&[11, 18, 1, deltas])
-}
-
-/// A link from a position of one object to another.
-pub fn link(parent: u32, position: u32, child: u32) -> Link {
-    Link {
-        parent,
-        position,
-        child,
-    }
 }
