@@ -12,11 +12,21 @@
  * The object store
  *   data     the bytes of all objects
  *   objects  rows of two numbers: where an object's bytes start, and where they end
- *   links    rows of four numbers: parent, position in the parent, width (2), child;
- *            they ascend by parent and position
+ *   links    rows of five numbers: parent, position in the parent, width, child, kind;
+ *            they ascend by parent, kind, position and child
  *   counts   how many data bytes, object rows and link rows are in use
  * What the buffers have beyond the counts is room for a split. A length is in elements, not in rows
  * or bytes; a part of a row at the end of a buffer is no row.
+ *
+ * Links
+ *   A link is of one of two kinds.
+ *     0  an offset: the two bytes of the parent at the position are the offset of the child. Its width is
+ *        2, it lies within its parent, and no other offset of that parent stands at its position.
+ *     1  order-only: it says in which order parent and child are placed, which may be one object. Its
+ *        position and its width are 0.
+ *   So the offsets of an object stand before its order-only links. Wherever a link is followed, asked,
+ *   counted or copied it is an offset. Order-only links stay as they are, those of a split table with the
+ *   kept one, and new objects have none.
  *
  * What is lent
  *   Each pointer leads to as many elements as the length behind it says, all of them initialised and
@@ -46,7 +56,7 @@
  *   greatest offset of 67,732 by number, and of 65,482 in link order). Tables that each fit may together
  *   be too far from their lookup, and usually want extension lookups. What they share may have to be
  *   there more than once. The old coverage, class definition 1 or arrays stay, and may be left with
- *   nothing that leads to them.
+ *   nothing that leads to them; order-only links to them still lead there.
  *
  * Answers
  *   Each function returns one of the numbers below, the first that applies. Where it is not
@@ -61,9 +71,9 @@
 #include <stddef.h>
 #include <stdint.h>
 
-/* The version of this interface. It grows where the parameters of a function change; a function more
- * changes none. With 2 came the edition. */
-#define SPLITTER_INTERFACE 2
+/* The version of this interface. It grows where the parameters of a function change, or the numbers of a
+ * row; a function more changes none. With 2 came the edition, with 3 the kind of a link. */
+#define SPLITTER_INTERFACE 3
 
 #ifdef __cplusplus
 extern "C" {
@@ -75,12 +85,19 @@ enum {
     SPLITTER_EDITION_2 = 2
 };
 
+/* How many numbers a link row has, and the kinds of links. */
+enum {
+    SPLITTER_LINK_NUMBERS = 5,
+    SPLITTER_OFFSET = 0,
+    SPLITTER_ORDER_ONLY = 1
+};
+
 enum {
     /* it is done, or there is nothing to do */
     SPLITTER_DONE = 0,
     /* the store is not sound: counts past the buffers or the maxima, an object out of order or past
-     * the data in use, a link out of order, of another width, not within its parent, or to an object
-     * that is not in use */
+     * the data in use, a link out of order, of another kind or width, not within its parent, at the
+     * position of another, or to an object that is not in use */
     SPLITTER_UNSOUND = 1,
     /* the table's number is not in use, or the lookup list's is not */
     SPLITTER_NO_TABLE = 2,
@@ -260,9 +277,10 @@ uint32_t read_mark(
  *
  * It splits as split_pairpos does. Then each lookup of type 2 of the list that names the table is written as
  * a new object, behind those of the split and in the order of the list: with the new tables directly behind
- * each listing of the old one, its count set, zero offsets and all else copied. Every link to the old lookup
- * then leads to the new one. Applied to two glyphs, each lookup says what it said before, where all its
- * subtables can be read and no other leads to the table.
+ * each listing of the old one, its count set, zero offsets and all else copied. Every link to the old lookup,
+ * of either kind, then leads to the new one; the old lookup's own order-only links stay with it. Applied to
+ * two glyphs, each lookup says what it said before, where all its subtables can be read and no other leads to
+ * the table.
  *
  * With no cut, with a format other than 1 and 2, and where it is refused, *new_count becomes 0 and
  * store, counts and new_tables stay as they were.

@@ -59,7 +59,7 @@ fn all_files_are_there_with_their_digests() {
     let record = text("RELEASE");
     let starts = [
         "version ",
-        "interface 2",
+        "interface 3",
         "kit ",
         "archive sha256 ",
         "commit ",

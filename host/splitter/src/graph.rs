@@ -1,10 +1,7 @@
 //! Tables of a graph of the host's own.
 
 use crate::{Edition, Kind, Link, Refusal, Scratch, Store};
-use std::{
-    collections::{HashMap, HashSet},
-    hash::Hash,
-};
+use std::{collections::HashMap, hash::Hash};
 
 /// A graph of objects with bytes, and links between them, as those have it who pack fonts.
 ///
@@ -110,13 +107,16 @@ fn order_links<Id: Copy + Eq + Hash>(
     graph: &impl ObjectGraph<Id = Id>,
     ids: &[Id],
     numbers: &HashMap<Id, u32>,
-) -> HashSet<Link> {
+) -> Vec<Link> {
     let links = (0..).zip(ids).flat_map(|(parent, &object)| {
         let children = graph.order_links(object).into_iter();
         let numbered = children.filter_map(|child| numbers.get(&child));
         numbered.map(move |&child| Link::order_only(parent, child))
     });
-    links.collect()
+    let mut links: Vec<Link> = links.collect();
+    links.sort_unstable();
+    links.dedup();
+    links
 }
 
 /// Splits a PairPos table of a graph, and gives the new tables in order.

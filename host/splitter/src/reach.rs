@@ -1,4 +1,4 @@
-//! What can be reached along links.
+//! What can be reached along offsets.
 
 use crate::StoreRef;
 
@@ -39,7 +39,8 @@ impl<'a> Reach<'a> {
         self.now += 1;
     }
 
-    /// Goes to an object and all that it leads to. Gives the bytes of what was not reached before.
+    /// Goes to an object and all that it leads to, along offsets. Gives the bytes of what was not reached
+    /// before.
     pub fn add(&mut self, object: u32) -> usize {
         let mut bytes = 0;
         let mut next = vec![object];

@@ -523,9 +523,9 @@ fn files_that_cannot_be_read() {
     fs::write(&damaged, made::font(&[])).unwrap();
     run_all("it is a font and not a store file");
     let mut version = whole.clone();
-    version[5] = 3;
+    version[5] = 4;
     fs::write(&damaged, &version).unwrap();
-    run_all("version 3");
+    run_all("it is a store file of version 4, and only versions 1 to 3 are known");
     let longer = OpenOptions::new().write(true).open(&damaged).unwrap();
     longer.set_len(1 << 40).unwrap();
     run_all("it is longer than 33554432 bytes");
@@ -655,7 +655,7 @@ fn help_and_version() {
     let version = done(run!("--version"));
     let lines: Vec<&str> = version.lines().collect();
     assert_eq!(lines[0], concat!("splitter ", env!("CARGO_PKG_VERSION")));
-    assert_eq!(lines[1], "interface 2");
+    assert_eq!(lines[1], "interface 3");
     for (line, start) in lines[2..]
         .iter()
         .zip(["kit ", "archive sha256 ", "commit "])

@@ -1,6 +1,6 @@
 //! The header for C and C++, by a program that is compiled with it, linked with the archive and run.
 
-use splitter::{raw, Refusal, Room};
+use splitter::{raw, Link, LinkKind, Refusal, Room};
 use std::{
     env, fs,
     path::{Path, PathBuf},
@@ -81,6 +81,13 @@ fn numbers() {
             name.push(letter.to_ascii_uppercase());
         }
         assert_eq!(number(&name), refusal.number() as usize);
+    }
+    assert_eq!(number("LINK_NUMBERS"), Link::NUMBERS);
+    for (name, kind) in [
+        ("OFFSET", LinkKind::Offset),
+        ("ORDER_ONLY", LinkKind::OrderOnly),
+    ] {
+        assert_eq!(number(name), kind.number() as usize);
     }
     let most = ["MOST_DATA", "MOST_OBJECTS", "MOST_LINKS"].map(number);
     let Room {

@@ -184,6 +184,8 @@ fn names_of_the_document() {
     let bad = store(&[&[1, 0, 4, 0, 0], &[1, 2, 7, 7]], &[[0, 2, 1]]);
     let long = store(&[&[1, 0, 4, 0, 0, 0]], &[]);
     let alone = store(&[&[1, 0, 4, 0, 0]], &[]);
+    let mut ordered = format1(&[100]);
+    ordered.add_order_link(0, 1).unwrap();
     let stores = [
         loop_back,
         stray,
@@ -191,6 +193,7 @@ fn names_of_the_document() {
         bad,
         long,
         alone,
+        ordered,
         format1(&[30_000; 3]),
         w10(),
     ];
@@ -430,6 +433,96 @@ fn a_font_as_stores() {
     assert_eq!(mark.at("mark_anchor").at("x"), &number(100));
     assert_eq!(mark.at("base_anchor").at("x"), &number(300));
     assert_eq!(fs::read_dir(&stores).unwrap().count(), 3);
+}
+
+/// Order-only links are shown and told as such, and nothing is shown below them.
+#[test]
+fn a_dump_of_order_only_links() {
+    let directory = Directory::new("orders");
+    let mut store = marks([6; 3]);
+    let lost = store.add_object(&[0; 4]).unwrap();
+    for (parent, child) in [(0, lost), (0, 5), (3, 0), (lost, lost)] {
+        store.add_order_link(parent, child).unwrap();
+    }
+    let file = directory.store_of("a.krns", store, vec![Table::marks(0)]);
+    let out = directory.named_short(&done(run!("dump", file)));
+    let lines: Vec<&str> = out.lines().map(str::trim_end).collect();
+    assert_eq!(
+        lines[0],
+        "a.krns: 10 objects, 15 links (4 order-only), 94 data bytes"
+    );
+    let expected = [
+        "0: mark table, 12 bytes",
+        "  at 2 to 1: mark coverage, 12 bytes",
+        "  at 4 to 2: base coverage, 10 bytes",
+        "  at 8 to 3: mark array, 18 bytes",
+        "    at 4 to 5: anchor, 6 bytes",
+        "    at 8 to 5: anchor, 6 bytes (above)",
+        "    at 12 to 5: anchor, 6 bytes (above)",
+        "    at 16 to 5: anchor, 6 bytes (above)",
+        "    order-only to 0: mark table, 12 bytes",
+        "  at 10 to 4: base array, 14 bytes",
+        "    at 2 to 6: anchor, 6 bytes",
+        "    at 4 to 7: anchor, 6 bytes",
+        "    at 6 to 8: anchor, 6 bytes",
+        "  order-only to 5: anchor, 6 bytes",
+        "  order-only to 9: object, 4 bytes",
+        "",
+        "No table leads to these: 1 object",
+        "  9: object, 4 bytes",
+    ];
+    assert_eq!(lines[2..], expected);
+    let one = done(run!("dump", file, "5"));
+    let links = "To it there are 5 links:\n  order-only of 0: mark table, 12 bytes\n  at       4 of 3: mark";
+    assert!(one.contains(links), "{one}");
+
+    let told = parse(&done(run!("dump", file, "--json")));
+    assert_eq!(told.at("store").at("links"), &number(15));
+    assert_eq!(told.at("store").at("order_only"), &number(4));
+    let object = |values: &[(&str, Value)]| {
+        let values = values.iter().cloned();
+        Value::Object(values.map(|(name, value)| (name.into(), value)).collect())
+    };
+    let (offset, order_only) = (word("offset"), word("order-only"));
+    let table = told.at("objects").at("0");
+    let position = [
+        ("kind", offset),
+        ("position", number(10)),
+        ("child", number(4)),
+    ];
+    assert_eq!(table.at("links").at("3"), &object(&position));
+    let child = [("kind", order_only.clone()), ("child", number(5))];
+    assert_eq!(table.at("links").at("4"), &object(&child));
+    let parent = [("kind", order_only), ("parent", number(3))];
+    assert_eq!(table.at("from").at("0"), &object(&parent));
+}
+
+/// Links of other kinds, in a store that is not sound.
+#[test]
+fn a_dump_of_unknown_links() {
+    let directory = Directory::new("unknown");
+    let mut store = format1(&[100]);
+    store.add_order_link(2, 1).unwrap();
+    let file = directory.store("a.krns", store, &[0]);
+    let mut bytes = fs::read(&file).unwrap();
+    let place = bytes.len() - 4 - 1;
+    bytes[place] = 9;
+    fs::write(&file, bytes).unwrap();
+    let fault =
+        "link row 3 of object 2 at position 0: its kind is 9; it must be 0 or 1, an offset or an \
+                 order-only link";
+    let dump = run!("dump", file);
+    let tree = "  at 10 to 2: pair set, 6 bytes\n    at 0 to 3: object, 94 bytes\n    of kind 9 to 1: coverage";
+    assert!(dump.out.contains(tree), "{}", dump.out);
+    refused(dump, Refusal::Unsound, fault);
+    let told = run!("dump", file, "1", "--json");
+    let value = parse(&told.out);
+    let from = value.at("objects").at("0").at("from").at("1");
+    assert_eq!(from.at("kind"), &word("unknown 9"));
+    let told_fault = value.at("refused").at("fault");
+    assert_eq!(told_fault.at("column"), &word("kind"));
+    assert_eq!(told_fault.at("link_kind"), &word("unknown 9"));
+    refused(told, Refusal::Unsound, fault);
 }
 
 /// A tree from the tables, what no table leads to, and one object.

@@ -103,10 +103,14 @@ fn half_a_row() {
         let (v, f) = (&mut values, &mut found);
         raw::read_pair(&[0, 3], objects, links, &counts, 0, 0, 0, v, f)
     };
-    assert_eq!(read(&[0, 2, 2], &[0, 0, 2], [2, 1, 0]), 0);
-    assert_eq!(read(&[0, 2, 2], &[0, 0, 2], [2, 2, 0]), 1);
-    assert_eq!(read(&[0, 2, 2], &[0, 0, 2], [2, 1, 1]), 1);
-    assert_eq!(read(&[0, 2, 2], &[0, 0, 2, 0], [2, 1, 1]), 0);
+    assert_eq!(read(&[0, 2, 2], &[0, 0, 2, 0], [2, 1, 0]), 0);
+    assert_eq!(read(&[0, 2, 2], &[0, 0, 2, 0], [2, 2, 0]), 1);
+    assert_eq!(read(&[0, 2, 2], &[0, 0, 2, 0], [2, 1, 1]), 1);
+    assert_eq!(read(&[0, 2, 2], &[0, 0, 2, 0, 0], [2, 1, 1]), 0);
+    // Two rows are ten numbers, and nine are one.
+    let rows = [0, 0, 2, 0, 0, 0, 0, 0, 0, 1];
+    assert_eq!(read(&[0, 2], &rows[..9], [2, 1, 2]), 1);
+    assert_eq!(read(&[0, 2], &rows, [2, 1, 2]), 0);
 }
 
 /// What is known of a store that is cut: it, the room that it needs, its cut places and new tables, and

@@ -3,15 +3,39 @@
 mod common;
 
 use common::store;
-use splitter::{Link, Refusal, Room, Store, StoreRef};
+use splitter::{Link, LinkKind, Refusal, Room, Store, StoreRef};
 
-const LINKS: [[u32; 3]; 5] = [[2, 4, 0], [0, 6, 1], [1, 0, 2], [0, 0, 2], [0, 3, 0]];
+/// Among them one at a position and one without to the same child, and one to the parent itself.
+const LINKS: [Link; 9] = [
+    Link::offset(2, 4, 0),
+    Link::order_only(0, 1),
+    Link::offset(0, 6, 1),
+    Link::order_only(2, 1),
+    Link::offset(1, 0, 2),
+    Link::offset(0, 0, 2),
+    Link::order_only(0, 0),
+    Link::order_only(1, 0),
+    Link::offset(0, 3, 0),
+];
 
-fn link([parent, position, child]: [u32; 3]) -> Link {
-    Link {
-        parent,
-        position,
-        child,
+/// The same in the order of rows: by parent, offsets by position, then order-only links by child.
+const ROWS: [[u32; 5]; 9] = [
+    [0, 0, 2, 2, 0],
+    [0, 3, 2, 0, 0],
+    [0, 6, 2, 1, 0],
+    [0, 0, 0, 0, 1],
+    [0, 0, 0, 1, 1],
+    [1, 0, 2, 2, 0],
+    [1, 0, 0, 0, 1],
+    [2, 4, 2, 0, 0],
+    [2, 0, 0, 1, 1],
+];
+
+/// Adds a link by the call for its kind.
+fn add(store: &mut Store, link: Link) -> Result<(), Refusal> {
+    match link.kind {
+        LinkKind::Offset => store.add_link(link.parent, link.position, link.child),
+        _ => store.add_order_link(link.parent, link.child),
     }
 }
 
@@ -45,45 +69,87 @@ fn link_rows_are_in_order() {
         });
     }
     for store in &mut stores[1..3] {
-        for [parent, position, child] in LINKS {
-            assert_eq!(store.add_link(parent, position, child), Ok(()));
+        for link in LINKS {
+            assert_eq!(add(store, link), Ok(()));
         }
     }
-    assert_eq!(stores[0].add_links(LINKS.map(link)), Ok(()));
+    assert_eq!(stores[0].add_links(LINKS), Ok(()));
+    assert_eq!(stores[3].add_order_link(1, 0), Ok(()));
     assert_eq!(stores[3].add_link(1, 0, 2), Ok(()));
-    let rest = LINKS.map(link).into_iter().filter(|link| link.parent != 1);
+    let rest = LINKS.into_iter().filter(|link| link.parent != 1);
     assert_eq!(stores[3].add_links(rest), Ok(()));
 
-    let mut sorted = LINKS.map(link);
+    let mut sorted = LINKS;
     sorted.sort();
     for store in stores {
         let view = store.view();
+        assert_eq!(view.link_rows(), ROWS);
         assert!(view.links().eq(sorted));
-        assert!(view.offsets_of(0).eq(sorted[..3].iter().copied()));
-        assert_eq!(view.offsets_of(3).len(), 0);
-        assert_eq!(view.child(2, 4), Some(0));
-        assert_eq!(view.child(2, 5), None);
         assert!(view.is_sound());
     }
 }
 
-/// A parent or a child that is not in use, a position that is past the parent's end or taken.
+/// Offsets and order-only links of an object, each by themselves. Only offsets stand at a position.
+#[test]
+fn links_by_kind() {
+    let mut store = three();
+    store.add_links(LINKS).unwrap();
+    let view = store.view();
+    let offsets =
+        [[0, 2], [3, 0], [6, 1]].map(|[position, child]| Link::offset(0, position, child));
+    assert!(view.offsets_of(0).eq(offsets));
+    assert!(view.offsets_of(1).eq([Link::offset(1, 0, 2)]));
+    assert_eq!(view.offsets_of(3).len(), 0);
+    assert!(view.orders_of(0).eq([0, 1]));
+    assert!(view.orders_of(2).eq([1]));
+    assert_eq!(view.orders_of(3).len(), 0);
+    assert_eq!([view.child(2, 4), view.child(2, 5)], [Some(0), None]);
+    assert_eq!([view.child(0, 0), view.child(2, 0)], [Some(2), None]);
+}
+
+/// A parent or a child that is not in use, a position that is past the parent's end or taken, an order-only
+/// link that is there.
 #[test]
 fn links_that_do_not_fit() {
     let mut store = three();
     store.add_link(0, 6, 1).unwrap();
+    store.add_order_link(0, 1).unwrap();
     let before = store.clone();
-    for [parent, position, child] in [[3, 0, 0], [0, 0, 3], [0, 7, 1], [0, u32::MAX, 1], [0, 6, 2]]
-    {
-        assert_eq!(
-            store.add_link(parent, position, child),
-            Err(Refusal::Unsound)
-        );
-        let links = [[1, 0, 0], [parent, position, child]].map(link);
+    let offsets = [[3, 0, 0], [0, 0, 3], [0, 7, 1], [0, u32::MAX, 1], [0, 6, 2]];
+    let offsets = offsets.map(|[parent, position, child]| Link::offset(parent, position, child));
+    let orders = [[3, 0], [0, 3], [u32::MAX, u32::MAX], [0, 1]];
+    let orders = orders.map(|[parent, child]| Link::order_only(parent, child));
+    for link in offsets.into_iter().chain(orders) {
+        assert_eq!(add(&mut store, link), Err(Refusal::Unsound));
+        let links = [Link::offset(1, 0, 0), link];
         assert_eq!(store.add_links(links), Err(Refusal::Unsound));
     }
-    assert_eq!(store.add_links([link([1, 0, 0]); 2]), Err(Refusal::Unsound));
     assert_eq!(store, before);
+}
+
+/// What can only be said of links by themselves: one twice, two offsets at one position, an order-only link
+/// with a position, and a kind that there is not.
+#[test]
+fn links_that_are_none() {
+    let mut store = three();
+    let (offset, order_only) = (Link::offset(1, 0, 0), Link::order_only(1, 0));
+    let elsewhere = Link { child: 2, ..offset };
+    let placed = Link {
+        position: 2,
+        ..order_only
+    };
+    let kinds = [0, 1, 2, u32::MAX].map(|kind| Link {
+        kind: LinkKind::Unknown(kind),
+        ..order_only
+    });
+    let twice = [[offset, offset], [order_only, order_only]];
+    let others = [[offset, elsewhere], [offset, placed]];
+    let of_no_kind = kinds.map(|link| [offset, link]);
+    for links in [&twice[..], &others, &of_no_kind].concat() {
+        assert_eq!(store.add_links(links), Err(Refusal::Unsound));
+    }
+    assert_eq!(store, three());
+    assert_eq!(store.add_links([order_only, offset]), Ok(()));
 }
 
 #[test]
@@ -106,7 +172,7 @@ fn room_is_exact() {
     };
     assert_eq!(store.room(), left);
     let (data, objects, links, counts) = store.into_parts();
-    assert_eq!([data.len(), objects.len(), links.len()], [34, 12, 8]);
+    assert_eq!([data.len(), objects.len(), links.len()], [34, 12, 10]);
     assert_eq!(counts, [28, 4, 1]);
 }
 
@@ -152,20 +218,18 @@ fn rows_end_at_the_maxima() {
         assert_eq!(store.add_object(&[0; 8]), Ok(number));
     }
     assert_eq!(store.add_object(&[]), Err(Refusal::NoRoom));
-    let nth = |n: u32| [n / 7, n % 7, n % objects];
-    store
-        .add_links((0..links - 1).rev().map(nth).map(link))
-        .unwrap();
+    // Of each eight links seven are offsets.
+    let nth = |n: u32| match n % 8 {
+        7 => Link::order_only(n / 8, n % objects),
+        position => Link::offset(n / 8, position, n % objects),
+    };
+    store.add_links((0..links - 1).rev().map(nth)).unwrap();
     let [last, past] = [nth(links - 1), nth(links)];
-    assert_eq!(
-        store.add_links([last, past].map(link)),
-        Err(Refusal::NoRoom)
-    );
-    assert_eq!(store.add_link(last[0], last[1], last[2]), Ok(()));
-    assert_eq!(
-        store.add_link(past[0], past[1], past[2]),
-        Err(Refusal::NoRoom)
-    );
+    assert_eq!(store.add_links([last, past]), Err(Refusal::NoRoom));
+    assert_eq!(add(&mut store, last), Ok(()));
+    assert_eq!(add(&mut store, past), Err(Refusal::NoRoom));
+    let order_only = Link::order_only(past.parent, 0);
+    assert_eq!(add(&mut store, order_only), Err(Refusal::NoRoom));
     assert_eq!(store.view().links().len(), links as usize);
     assert!(store.view().is_sound());
 }
@@ -173,11 +237,12 @@ fn rows_end_at_the_maxima() {
 #[test]
 fn parts_that_are_sound() {
     let mut store = three();
-    store.add_links(LINKS.map(link)).unwrap();
+    store.add_links(LINKS).unwrap();
     let (data, objects, links, counts) = store.clone().into_parts();
+    assert_eq!(links, ROWS.as_flattened());
     let same = Store::from_parts(data.clone(), objects.clone(), links.clone(), counts);
     assert_eq!(same, Ok(store));
-    let swapped = [&links[4..8], &links[..4], &links[8..]].concat();
+    let swapped = [&links[5..10], &links[..5], &links[10..]].concat();
     let unsound = Store::from_parts(data, objects, swapped, counts);
     assert_eq!(unsound, Err(Refusal::Unsound));
 }
@@ -185,7 +250,7 @@ fn parts_that_are_sound() {
 /// A view of anything is read as far as it goes.
 #[test]
 fn views_of_anything() {
-    let (data, links) = ([1, 2, 3], [7; 9]);
+    let (data, links) = ([1, 2, 3], [7; 14]);
     let objects = [0, 2, 2, 9, 3, 1, 1];
     let counts = [u32::MAX; 3];
     let view = StoreRef::new(&data, &objects, &links, &counts);
@@ -193,7 +258,11 @@ fn views_of_anything() {
     assert_eq!(view.data(), data);
     assert_eq!(view.object(0), Some(&data[..2]));
     assert_eq!([1, 2, 3].map(|number| view.object(number)), [None; 3]);
-    assert_eq!(view.links().len(), 2);
-    assert_eq!(view.offsets_of(7).len(), 2);
-    assert_eq!(view.child(8, 7), None);
+    let link = Link {
+        kind: LinkKind::Unknown(7),
+        ..Link::offset(7, 7, 7)
+    };
+    assert!(view.links().eq([link; 2]));
+    assert_eq!([view.offsets_of(7).len(), view.orders_of(7).len()], [0; 2]);
+    assert_eq!([view.child(8, 7), view.child(7, 7)], [None; 2]);
 }

@@ -167,9 +167,10 @@ splitter dump FILE [OBJECT] [--marks] [--all] [--json | --quiet]
 
 Shows what is in a store file, also where its store is not sound: the objects as
 a tree from the tables that it lists, each with what it is, how long it is and
-at which positions it leads to others, and those that no table leads to. With
-OBJECT, a tree from that object, who leads to it, and its bytes; one that no
-table leads to is taken for a table.
+at which positions it leads to others, and those that no table leads to. What
+an order-only link leads to is named, and not followed. With OBJECT, a tree from
+that object, who leads to it, and its bytes; one that no table leads to is taken
+for a table.
 
     --marks        tables are mark-to-base, whatever the file says
     --all          show long lists whole

@@ -254,24 +254,13 @@ impl Display for Fault {
                 "table {parent} has no link at position {position}, where its {} is wanted",
                 part.name()
             ),
-            Self::Order { rows: [a, b] } => {
-                write!(f, "link rows {} and {} ", a.row, b.row)?;
-                let [before, behind] = [a.link, b.link];
-                match (before.place() == behind.place(), before.kind) {
-                    (false, _) => write!(
-                        f,
-                        "are out of order: {} comes before {}",
-                        Standing(before),
-                        Standing(behind)
-                    ),
-                    (true, LinkKind::Offset) => write!(
-                        f,
-                        "both stand at position {} of object {}",
-                        before.position, before.parent
-                    ),
-                    (true, _) => write!(f, "are both {}", Standing(before)),
-                }
-            }
+            Self::Order { rows: [a, b] } => write!(
+                f,
+                "link rows {} and {} {}",
+                a.row,
+                b.row,
+                disorder(a.link, b.link)
+            ),
             Self::NoSlot { row, part } => write!(
                 f,
                 "link row {} of {} stands at position {}, which is no slot; it leads to object {}",
@@ -313,26 +302,27 @@ fn way(objects: &[u32]) -> String {
     }
 }
 
-/// A link by what tells it from all others.
-struct Standing(Link);
-
-impl Display for Standing {
-    fn fmt(&self, f: &mut Formatter) -> fmt::Result {
-        let Self(Link {
-            parent,
-            kind,
-            position,
-            child,
-        }) = self;
-        match kind {
-            LinkKind::OrderOnly => {
-                write!(
-                    f,
-                    "the order-only link of object {parent} to object {child}"
-                )
-            }
-            _ => write!(f, "object {parent} at position {position}"),
+/// What is wrong with two links of which one stands directly before the other.
+fn disorder(before: Link, behind: Link) -> String {
+    if before.place() != behind.place() {
+        let [before, behind] = [before, behind].map(standing);
+        return format!("are out of order: {before} comes before {behind}");
+    }
+    match before.kind {
+        LinkKind::Offset => {
+            let (position, parent) = (before.position, before.parent);
+            format!("both stand at position {position} of object {parent}")
         }
+        _ => format!("are both {}", standing(before)),
+    }
+}
+
+/// A link by what tells it from all others.
+fn standing(link: Link) -> String {
+    let (parent, position, child) = (link.parent, link.position, link.child);
+    match link.kind {
+        LinkKind::OrderOnly => format!("the order-only link of object {parent} to object {child}"),
+        _ => format!("object {parent} at position {position}"),
     }
 }
 

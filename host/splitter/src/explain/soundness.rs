@@ -55,22 +55,19 @@ fn object_row(store: StoreRef) -> Option<Fault> {
 }
 
 fn link_row(store: StoreRef) -> Option<Fault> {
-    let rows = store.link_rows();
-    let numbered = |row: usize| LinkRow {
-        row,
-        link: Link::of_row(&rows[row]),
-    };
-    for (row, numbers) in rows.iter().enumerate() {
-        let fault = link_numbers(store, numbered(row), numbers[2]);
+    let mut before: Option<LinkRow> = None;
+    for (row, numbers) in store.link_rows().iter().enumerate() {
+        let link = Link::of_row(numbers);
+        let row = LinkRow { row, link };
+        let behind = before.filter(|before| before.link.place() >= link.place());
+        let out_of_order = behind.map(|before| Fault::Order {
+            rows: [before, row],
+        });
+        let fault = link_numbers(store, row, numbers[2]).or(out_of_order);
         if fault.is_some() {
             return fault;
         }
-        if row > 0 {
-            let rows = [row - 1, row].map(numbered);
-            if rows[0].link.place() >= rows[1].link.place() {
-                return Some(Fault::Order { rows });
-            }
-        }
+        before = Some(row);
     }
     None
 }
@@ -78,10 +75,6 @@ fn link_row(store: StoreRef) -> Option<Fault> {
 /// A number of a link row that cannot be: parent, child, kind, width, or position.
 fn link_numbers(store: StoreRef, row: LinkRow, width: u32) -> Option<Fault> {
     let [_, objects, _] = store.counts();
-    let fault = |column, found: u32, wanted, because| {
-        let place = Place::Link { row, column };
-        Some(Fault::number(place, found as usize, wanted, because))
-    };
     let in_use = Wanted::Below(objects.into());
     let because = "how many objects are in use";
     let Link {
@@ -91,38 +84,60 @@ fn link_numbers(store: StoreRef, row: LinkRow, width: u32) -> Option<Fault> {
         child,
     } = row.link;
     let Some(bytes) = store.object(parent) else {
-        return fault("parent", parent, in_use, because);
+        return wrong(row, "parent", parent, in_use, because);
     };
     if child >= objects {
-        return fault("child", child, in_use, because);
+        return wrong(row, "child", child, in_use, because);
     }
     if let LinkKind::Unknown(kind) = kind {
         let because = "an offset or an order-only link";
-        return fault("kind", kind, Wanted::Either(0, 1), because);
+        return wrong(row, "kind", kind, Wanted::Either(0, 1), because);
     }
     if width != kind.width() {
-        return fault("width", width, Wanted::Exactly(kind.width().into()), "");
+        let wanted = Wanted::Exactly(kind.width().into());
+        return wrong(row, "width", width, wanted, "");
     }
-    if kind == LinkKind::OrderOnly {
-        return match position {
-            0 => None,
-            _ => fault("position", position, Wanted::Exactly(0), ""),
-        };
+    match (kind, position) {
+        (LinkKind::Offset, _) => outside(row, bytes),
+        (_, 0) => None,
+        _ => wrong(row, "position", position, Wanted::Exactly(0), ""),
     }
-    match bytes.len().checked_sub(2) {
+}
+
+/// An offset that does not lie within its parent.
+fn outside(row: LinkRow, parent: &[u8]) -> Option<Fault> {
+    let position = row.link.position;
+    match parent.len().checked_sub(2) {
         Some(last) if position as usize <= last => None,
         Some(last) => {
-            let because = "to lie within its parent";
-            fault("position", position, Wanted::AtMost(last as u64), because)
+            let wanted = Wanted::AtMost(last as u64);
+            wrong(
+                row,
+                "position",
+                position,
+                wanted,
+                "to lie within its parent",
+            )
         }
         None => {
             let place = Place::Length {
-                object: parent,
+                object: row.link.parent,
                 part: Part::Object,
             };
-            let because = "to have a link";
-            let found = bytes.len();
-            Some(Fault::number(place, found, Wanted::AtLeast(2), because))
+            let (found, wanted) = (parent.len(), Wanted::AtLeast(2));
+            Some(Fault::number(place, found, wanted, "to have a link"))
         }
     }
+}
+
+/// A number of a link row that is not what it must be.
+fn wrong(
+    row: LinkRow,
+    column: &'static str,
+    found: u32,
+    wanted: Wanted,
+    because: &'static str,
+) -> Option<Fault> {
+    let place = Place::Link { row, column };
+    Some(Fault::number(place, found as usize, wanted, because))
 }

@@ -2,6 +2,8 @@
 #ifndef EXPECT_H
 #define EXPECT_H
 
+#include "splitter.h"
+
 #include <stddef.h>
 #include <stdint.h>
 #include <stdio.h>
@@ -26,11 +28,19 @@ static void put(uint8_t *data, const uint16_t *words, size_t count) {
     }
 }
 
-static void row(uint32_t *links, uint32_t parent, uint32_t position, uint32_t child) {
-    links[0] = parent;
-    links[1] = position;
-    links[2] = 2;
-    links[3] = child;
+/* Writes a link row, and gives the place of the next one. */
+static uint32_t *row(uint32_t *links, uint32_t parent, uint32_t position, uint32_t width, uint32_t child, uint32_t kind) {
+    const uint32_t numbers[SPLITTER_LINK_NUMBERS] = {parent, position, width, child, kind};
+    memcpy(links, numbers, sizeof numbers);
+    return links + SPLITTER_LINK_NUMBERS;
+}
+
+static uint32_t *offset(uint32_t *links, uint32_t parent, uint32_t position, uint32_t child) {
+    return row(links, parent, position, 2, child, SPLITTER_OFFSET);
+}
+
+static uint32_t *order_only(uint32_t *links, uint32_t parent, uint32_t child) {
+    return row(links, parent, 0, 0, child, SPLITTER_ORDER_ONLY);
 }
 
 /* Whether so many bytes are zero. */

@@ -3,19 +3,20 @@
 
 #include "expect.h"
 
-#if SPLITTER_INTERFACE != 2
-#error "these calls are those of interface 2"
+#if SPLITTER_INTERFACE != 3
+#error "these calls are those of interface 3"
 #endif
 
 /* Two classes, each with an anchor of 40,000 bytes on the one base, and exactly the room that a cut at 1
  * needs: 7 objects, 4 links and those of both arrays. */
 enum { ANCHOR = 40000, HEADS = 12 + 8 + 6 + 10 + 6 + 6, USED = HEADS + 2 * ANCHOR, ROOM = 12 + 2 * (6 + 6 + 4) };
-enum { OBJECTS = 8, LINKS = 8, ALL_OBJECTS = OBJECTS + 7, ALL_LINKS = LINKS + 4 + 4 };
+enum { OBJECTS = 8, LINKS = 9, ALL_OBJECTS = OBJECTS + 7, ALL_LINKS = LINKS + 4 + 4 };
+enum { LENT_LINKS = SPLITTER_LINK_NUMBERS * ALL_LINKS };
 
 typedef struct {
     uint8_t *data;
     uint32_t objects[2 * ALL_OBJECTS];
-    uint32_t links[4 * ALL_LINKS];
+    uint32_t links[LENT_LINKS];
     uint32_t counts[3];
 } store;
 
@@ -30,12 +31,11 @@ typedef struct {
 } scratch;
 
 /* Table, coverage of marks 10 and 20, coverage of base 60, marks of classes 1 and 0, base array, and the
- * anchor that both marks have, object 5. The anchors of the base are objects 6 and 7. */
+ * anchor that both marks have, object 5. The anchors of the base are objects 6 and 7. An order-only link
+ * leads from the mark array back to the table. */
 static void make(store *s) {
     static const uint16_t heads[] = {1, 0, 0, 2, 0, 0, 1, 2, 10, 20, 1, 1, 60, 2, 1, 0, 0, 0, 1, 0, 0, 1, 5, 6};
     static const uint32_t ends[] = {0, 12, 20, 26, 36, 42, HEADS, HEADS + ANCHOR, USED};
-    static const uint32_t links[LINKS][3] = {
-        {0, 2, 1}, {0, 4, 2}, {0, 8, 3}, {0, 10, 4}, {3, 4, 5}, {3, 8, 5}, {4, 2, 6}, {4, 4, 7}};
     s->data = (uint8_t *)calloc(USED + ROOM, 1);
     memset(s->objects, 0xA5, sizeof s->objects);
     memset(s->links, 0xA5, sizeof s->links);
@@ -44,9 +44,9 @@ static void make(store *s) {
         s->objects[2 * i] = ends[i];
         s->objects[2 * i + 1] = ends[i + 1];
     }
-    for (uint32_t i = 0; i < LINKS; i++) {
-        row(s->links + 4 * i, links[i][0], links[i][1], links[i][2]);
-    }
+    uint32_t *links = offset(offset(offset(offset(s->links, 0, 2, 1), 0, 4, 2), 0, 8, 3), 0, 10, 4);
+    links = order_only(offset(offset(links, 3, 4, 5), 3, 8, 5), 3, 0);
+    offset(offset(links, 4, 2, 6), 4, 4, 7);
     s->counts[0] = USED;
     s->counts[1] = OBJECTS;
     s->counts[2] = LINKS;
@@ -61,21 +61,21 @@ static uint32_t edition = SPLITTER_EDITION_1;
 
 static uint32_t plan(const store *s, uint32_t table, scratch *w, uint16_t *places, size_t places_len, uint32_t *count) {
     memset(w, 0xA5, sizeof *w);
-    return cut_plan_markbasepos(s->data, USED + ROOM, s->objects, 2 * ALL_OBJECTS, s->links, 4 * ALL_LINKS, s->counts, table, edition,
+    return cut_plan_markbasepos(s->data, USED + ROOM, s->objects, 2 * ALL_OBJECTS, s->links, LENT_LINKS, s->counts, table, edition,
         w->walk, 2 * OBJECTS, w->glyph_set, SPLITTER_GLYPH_SET, w->glyphs, 2, w->classes, 2, w->cuts, 2,
         places, places_len, count);
 }
 
 static uint32_t split(store *s, uint32_t table, scratch *w, uint32_t *tables, size_t tables_len, uint32_t *count) {
     memset(w, 0xA5, sizeof *w);
-    return split_markbasepos(s->data, USED + ROOM, s->objects, 2 * ALL_OBJECTS, s->links, 4 * ALL_LINKS, s->counts, table, edition,
+    return split_markbasepos(s->data, USED + ROOM, s->objects, 2 * ALL_OBJECTS, s->links, LENT_LINKS, s->counts, table, edition,
         w->walk, 2 * OBJECTS, w->glyph_set, SPLITTER_GLYPH_SET, w->glyphs, 2, w->classes, 2, w->cuts, 2,
         tables, tables_len, count);
 }
 
 static uint32_t attachment(const store *s, uint32_t table, uint16_t mark, uint32_t anchors[2], uint32_t *found) {
     anchors[0] = anchors[1] = *found = 77;
-    return read_mark(s->data, USED + ROOM, s->objects, 2 * ALL_OBJECTS, s->links, 4 * ALL_LINKS, s->counts, table,
+    return read_mark(s->data, USED + ROOM, s->objects, 2 * ALL_OBJECTS, s->links, LENT_LINKS, s->counts, table,
         mark, 60, anchors, found);
 }
 
