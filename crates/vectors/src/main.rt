@@ -23,7 +23,7 @@ use splits::Outcome;
 use splits::split_agrees;
 
 fn main() {
-    let mut text = [0u8; 262144];
+    let mut text = [0u8; 524288];
     let length = io::read_full(STDIN_FILENO, &mut text);
     replay(&text[..length]);
 }

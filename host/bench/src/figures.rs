@@ -15,6 +15,8 @@ pub struct Figures {
     pub size: usize,
     /// How the objects are numbered.
     pub order: Order,
+    /// Whether a third of the links are order-only.
+    pub has_orders: bool,
     /// Whether it is one of those that grow.
     pub grows: bool,
     /// In use: data bytes, objects, links.
@@ -70,6 +72,7 @@ impl Figures {
             shape: input.shape,
             size: input.size,
             order: input.order,
+            has_orders: input.has_orders,
             grows: input.grows,
             counts: input.counts(),
             glyphs: needs.first.glyphs,

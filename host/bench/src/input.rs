@@ -75,6 +75,8 @@ pub struct Input {
     pub size: usize,
     /// How the objects are numbered.
     pub order: Order,
+    /// Whether a third of the links are order-only.
+    pub has_orders: bool,
     /// Whether it is one of those whose objects grow, links and all the rest with them.
     pub grows: bool,
     /// How often each side takes its turn in a run.
@@ -96,11 +98,25 @@ impl Input {
             shape,
             size,
             order,
+            has_orders: false,
             grows: Shape::GROWING.contains(&shape),
             repetitions,
             cases: (0..stores)
                 .map(|seed| shape.build(size, order, seed))
                 .collect(),
+        }
+    }
+
+    /// The same with order-only links beside the offsets.
+    fn with_orders(self) -> Self {
+        let cases = self.cases.into_iter().zip(0..);
+        Self {
+            has_orders: true,
+            grows: false,
+            cases: cases
+                .map(|(case, seed)| large::with_orders(case, seed))
+                .collect(),
+            ..self
         }
     }
 
@@ -111,6 +127,7 @@ impl Input {
             shape: Shape::Format2,
             size: cases[0].store.counts[1] as usize,
             order: Order::Made,
+            has_orders: false,
             grows: false,
             repetitions,
             cases,
@@ -125,8 +142,20 @@ impl Input {
     /// Its shape and size.
     pub fn name(&self) -> String {
         let [_, objects, links] = self.counts();
-        let (shape, order) = (self.shape.name(), order_name(self.order));
-        format!("{shape}, {objects} objects ({order}), {links} links")
+        let (table, order) = (
+            table_name(self.shape, self.has_orders),
+            order_name(self.order),
+        );
+        format!("{table}, {objects} objects ({order}), {links} links")
+    }
+}
+
+/// What tables are like, and whether they stand among order-only links.
+pub fn table_name(shape: Shape, has_orders: bool) -> String {
+    let name = shape.name();
+    match has_orders {
+        true => format!("{name}, order-only links"),
+        false => name.into(),
     }
 }
 
@@ -144,6 +173,7 @@ pub fn small() -> Vec<Input> {
         .into_iter()
         .map(|shape| Input::of(shape, 1_000, Order::Made, SMALL))
         .collect();
+    inputs.extend(with_orders(&[(1_000, SMALL)]));
     inputs.push(Input::few_objects());
     inputs.extend(many_glyphs(&[(1_000, SMALL)]));
     inputs
@@ -164,6 +194,7 @@ pub fn all() -> Vec<Input> {
             inputs.push(Input::of(shape, most, order, LARGE));
         }
     }
+    inputs.extend(with_orders(&[(1_000, SMALL), (10_000, MIDDLE)]));
     inputs.push(Input::few_objects());
     inputs.extend(many_glyphs(&[
         (1_000, SMALL),
@@ -171,6 +202,15 @@ pub fn all() -> Vec<Input> {
         (65_536, LARGE),
     ]));
     inputs
+}
+
+/// Those that grow, with order-only links beside the offsets.
+fn with_orders(sizes: &[(usize, (u64, usize))]) -> Vec<Input> {
+    let of = |shape| {
+        let input = move |&(size, turns)| Input::of(shape, size, Order::Made, turns).with_orders();
+        sizes.iter().map(input)
+    };
+    Shape::GROWING.into_iter().flat_map(of).collect()
 }
 
 /// Many glyphs in four objects, dense, sparse, and one in a class.

@@ -2,7 +2,7 @@
 
 use crate::{
     figures::{growth, noise, Compared, Figures, Second, Spread},
-    input::{order_name, Shape},
+    input::{order_name, table_name, Shape},
     timing::Sides,
 };
 use differential::generate::large::Order;
@@ -40,6 +40,9 @@ sides; the plot shows the former. One is a class table as variable fonts have it
 Mark-to-base tables have 1,000 and 10,000 anchors of 205 to 235 bytes, and five other objects; a class for a hundred anchors, a mark for
 eight, and marks in no order of classes. A full base array has 150 bases and an anchor in each slot; a sparse one has 450 bases and an
 anchor in one slot of three, so that both have about as many links.
+
+Those with order-only links are the same stores, in which a third of all links are order-only: an object has half as many of them as it has
+offsets. The crate knows none, and the oracle has the offsets alone.
 
 Class tables of four objects cover 1,000, 10,000 and 65,536 glyphs, in sixteen classes in short runs or with one glyph a class. Dense glyphs
 stand one beside the other, sparse ones as far apart as there is room (half of all glyphs at most). They show what it takes to read, sort and
@@ -139,7 +142,7 @@ fn row(input: &Figures, compared: &Compared) -> Vec<String> {
     let [data, objects, links] = input.counts.map(|count| thousands(count as usize));
     let Sides { ours, oracle } = &compared.times;
     vec![
-        input.shape.name().to_string(),
+        table_name(input.shape, input.has_orders),
         order_name(input.order).to_string(),
         objects,
         links,
@@ -161,7 +164,7 @@ fn second_row(input: &Figures) -> Vec<String> {
         ratios: plan_ratios,
     } = &input.second_plan;
     vec![
-        input.shape.name().to_string(),
+        table_name(input.shape, input.has_orders),
         order_name(input.order).to_string(),
         thousands(objects as usize),
         thousands(input.cuts.first),

@@ -54,7 +54,7 @@ const SIDES: [Side; 2] = [
     },
 ];
 
-/// The plot of all inputs whose objects are numbered as they were made.
+/// The plot of all inputs whose objects are numbered as they were made, and whose links are all offsets.
 pub fn svg(figures: &[Figures]) -> String {
     let mut text = String::new();
     draw(&mut text, figures).expect("room for text");
@@ -168,9 +168,10 @@ impl Panel {
     /// Medians of one side, those that grow joined by lines, and quartiles as bars.
     fn lines(&self, svg: &mut String, figures: &[Figures], of: Of, side: Side) -> fmt::Result {
         for (shape, colour) in COLOURS {
-            let is_of = |input: &&Figures| input.shape == shape;
+            let is_of = |input: &&Figures| {
+                input.shape == shape && input.order == Order::Made && !input.has_orders
+            };
             let inputs = figures.iter().filter(is_of);
-            let inputs = inputs.filter(|input| input.order == Order::Made);
             let spread = |input| (side.of)(of(input));
             let grow = inputs.clone().filter(|input| input.grows);
             let points = grow.map(|input| self.point(input, spread(input).median()));

@@ -9,15 +9,15 @@ use crate::model::{
     marks::MARK_COVERAGE_POS,
     numbers::u16_at,
 };
-use oracle::{Graph, Store};
+use oracle::{link, Graph, Store};
 use std::collections::HashMap;
 
-/// Objects with bytes and links.
+/// Objects with bytes and offsets. Order-only links lead nowhere: no text knows them.
 pub trait Objects {
     /// An object's bytes.
     fn bytes(&self, object: u32) -> &[u8];
 
-    /// The position of each of an object's links, and the object that it leads to.
+    /// The position of each of an object's offsets, and the object that it leads to.
     fn links(&self, object: u32) -> Vec<(u32, u32)>;
 }
 
@@ -29,8 +29,9 @@ impl Objects for Store {
     fn links(&self, object: u32) -> Vec<(u32, u32)> {
         let rows = self.links_in_use();
         let start = rows.partition_point(|row| row[0] < object);
-        let rows = rows[start..].iter().take_while(|row| row[0] == object);
-        rows.map(|row| (row[1], row[3])).collect()
+        let is_offset = |row: &&link::Row| row[0] == object && link::is_offset(row);
+        let offsets = rows[start..].iter().take_while(is_offset);
+        offsets.map(|row| (row[1], row[3])).collect()
     }
 }
 
@@ -50,7 +51,7 @@ impl Objects for Graph {
 pub struct Node<'a> {
     /// What it holds.
     pub content: Content<'a>,
-    /// The position of each link, and the place of its object in the walk.
+    /// The position of each offset, and the place of its object in the walk.
     pub links: Vec<(u32, usize)>,
 }
 

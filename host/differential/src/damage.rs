@@ -6,6 +6,7 @@ mod editions;
 mod links;
 mod lookups;
 mod marks;
+mod orders;
 mod parts;
 mod room;
 mod scramble;
@@ -52,6 +53,7 @@ pub fn all() -> Vec<Damage> {
     damages(&[
         ([12, 12, 0], editions::OTHERS),
         ([1, 1, 1], soundness::DAMAGES),
+        ([1, 1, 1], orders::DAMAGES),
         ([2, 2, 2], table::NUMBERS),
         ([3, 3, 3], table::LENGTHS),
         ([4, 4, 4], parts::UNREADABLE),
@@ -70,6 +72,7 @@ pub fn marks() -> Vec<Damage> {
     damages(&[
         ([12, 12, 0], editions::OTHERS),
         ([1, 1, 1], soundness::DAMAGES),
+        ([1, 1, 1], orders::DAMAGES),
         ([2, 2, 2], table::NUMBERS),
         ([3, 3, 3], marks::LENGTHS),
         ([4, 4, 4], marks::UNREADABLE),
@@ -87,6 +90,7 @@ pub fn lookups() -> Vec<Damage> {
     damages(&[
         ([12, 12, 0], editions::OTHERS),
         ([1, 1, 1], soundness::DAMAGES),
+        ([1, 1, 1], orders::DAMAGES),
         ([2, 2, 2], table::NUMBERS),
         ([2, 0, 0], lookups::NUMBERS),
         ([9, 0, 0], lookups::LISTS),

@@ -1,6 +1,6 @@
 //! Changes to a store's rows and bytes, which leave what is not in use as it is.
 
-use oracle::Store;
+use oracle::{link, Store};
 
 /// An object's bytes.
 pub fn bytes(store: &Store, object: u32) -> &[u8] {
@@ -14,11 +14,12 @@ pub fn head(store: &Store, object: u32) -> usize {
     row.map_or(store.data.len(), |row| row[0] as usize)
 }
 
-/// The object that a link leads to.
+/// The object that an offset leads to.
 pub fn child_at(store: &Store, parent: u32, position: u32) -> Option<u32> {
     let links = store.links_in_use();
-    let place = links.binary_search_by_key(&[parent, position], |link| [link[0], link[1]]);
-    Some(links[place.ok()?][3])
+    let place = links.partition_point(|row| link::rank(row) < [parent, link::OFFSET, position, 0]);
+    let row = links.get(place)?;
+    is_at(row, parent, position).then_some(row[3])
 }
 
 /// Writes a number at a position of an object.
@@ -27,7 +28,7 @@ pub fn set_word(store: &mut Store, object: u32, position: usize, word: u16) {
     store.data[at..at + 2].copy_from_slice(&word.to_be_bytes());
 }
 
-/// Gives an object other bytes; those behind it move. Links that no longer fit go.
+/// Gives an object other bytes; those behind it move. Offsets that no longer fit go.
 pub fn replace(store: &mut Store, object: u32, bytes: &[u8]) {
     let place = 2 * object as usize;
     let [head, tail] = [store.objects[place], store.objects[place + 1]];
@@ -39,27 +40,51 @@ pub fn replace(store: &mut Store, object: u32, bytes: &[u8]) {
         *number = moved(*number);
     }
     store.counts[0] = moved(store.counts[0]);
-    remove_links(store, |link| {
-        link[0] == object && link[1] as usize + 2 > bytes.len()
+    remove_links(store, |row| {
+        link::is_offset(row) && row[0] == object && row[1] as usize + 2 > bytes.len()
     });
 }
 
 /// Removes some links.
-pub fn remove_links(store: &mut Store, goes: impl Fn(&[u32; 4]) -> bool) {
+pub fn remove_links(store: &mut Store, goes: impl Fn(&link::Row) -> bool) {
     let in_use = store.links_in_use();
-    let kept: Vec<_> = in_use.iter().filter(|link| !goes(link)).copied().collect();
-    let end = 4 * store.counts[2] as usize;
+    let kept: Vec<_> = in_use.iter().filter(|row| !goes(row)).copied().collect();
+    let end = link::NUMBERS * store.counts[2] as usize;
     store.counts[2] = kept.len() as u32;
     store.links.splice(..end, kept.into_flattened());
 }
 
-/// Adds a link, or leads the one that is there to another object.
+/// Adds an offset, or leads the one that is there to another object.
 pub fn link(store: &mut Store, parent: u32, position: u32, child: u32) {
-    remove_links(store, |link| link[..2] == [parent, position]);
-    let row = [parent, position, 2, child];
-    let place = 4 * store.links_in_use().partition_point(|link| *link < row);
+    unlink(store, parent, position);
+    add_row(store, link::offset(parent, position, child));
+}
+
+/// Removes the offset at a position, if there is one.
+pub fn unlink(store: &mut Store, parent: u32, position: u32) {
+    remove_links(store, |row| is_at(row, parent, position));
+}
+
+/// Adds an order-only link, if it is not there yet.
+pub fn order(store: &mut Store, parent: u32, child: u32) {
+    let row = link::order_only(parent, child);
+    if !store.links_in_use().contains(&row) {
+        add_row(store, row);
+    }
+}
+
+/// Adds a row in its place.
+pub fn add_row(store: &mut Store, row: link::Row) {
+    let rank = link::rank(&row);
+    let rows = store.links_in_use();
+    let place = link::NUMBERS * rows.partition_point(|row| link::rank(row) < rank);
     store.links.splice(place..place, row);
     store.counts[2] += 1;
+}
+
+/// Whether a row is the offset of a parent at a position.
+fn is_at(row: &link::Row, parent: u32, position: u32) -> bool {
+    link::is_offset(row) && row[..2] == [parent, position]
 }
 
 /// Adds an object behind all others.

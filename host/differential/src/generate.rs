@@ -1,5 +1,5 @@
 //! Valid stores of PairPos tables, of both formats, of MarkBasePos tables, and of PairPos tables in
-//! lookups, each from its seed.
+//! lookups, each from its seed. Most have order-only links, from and to everything.
 
 mod draft;
 mod format1;
@@ -9,6 +9,7 @@ mod growth;
 pub mod large;
 mod lookups;
 mod marks;
+mod orders;
 
 use crate::{
     edit,
@@ -76,7 +77,7 @@ pub fn lookups(seed: u64) -> Listed {
         false => format2::draft(&mut draft, &mut random),
     };
     let list = lookups::draft(&mut draft, &mut random, table);
-    let (case, numbers) = lay_out(draft, table, &mut random, pair_landing);
+    let (case, numbers) = lay_out(draft, &[table, list], &mut random, pair_landing);
     Listed {
         store: case.store,
         list: numbers[list],
@@ -89,21 +90,22 @@ pub fn lookups(seed: u64) -> Listed {
 type Landing = fn(&Case, &mut Random) -> Option<(u32, usize)>;
 
 fn finish(draft: Draft, table: usize, random: &mut Random, landing: Landing) -> Case {
-    lay_out(draft, table, random, landing).0
+    lay_out(draft, &[table], random, landing).0
 }
 
-/// The finished store, and the numbers of its objects.
+/// The finished store, and the numbers of its objects. The first of those that a call names is the table.
 fn lay_out(
     mut draft: Draft,
-    table: usize,
+    named: &[usize],
     random: &mut Random,
     landing: Landing,
 ) -> (Case, Vec<u32>) {
     growth::surround(&mut draft, random);
+    orders::draft(&mut draft, random, named);
     let (store, numbers) = draft.lay_out(random);
     let mut case = Case {
         store,
-        table: numbers[table],
+        table: numbers[named[0]],
     };
     if random.one_in(2) {
         if let Some((object, len)) = landing(&case, random) {
@@ -151,13 +153,13 @@ fn landing(opening: Opening<impl Opened>, random: &mut Random) -> Option<(u32, u
         let up_to_here = (0..=here.item).rev();
         let mut links = up_to_here.map(|item| table.links_of_item(item));
         let links = links.find(|links| !links.is_empty())?;
-        let [_, _, _, mut object] = random.pick(&links);
+        let [_, _, _, mut object, _] = random.pick(&links);
         if !table.is_free(object) {
-            let below = objects.links_of(object);
+            let below = objects.offsets_of(object);
             object = below.get(random.below(below.len().max(1)))?[3];
         }
         let len = (objects.bytes(object).len() + target).checked_sub(here.total)?;
-        let last = objects.links_of(object).last();
+        let last = objects.offsets_of(object).last();
         let least = last.map_or(0, |link| link[1] as usize + 2);
         let is_free = table.is_free(object);
         (is_free && (least..70_000).contains(&len)).then_some((object, len))

@@ -9,7 +9,7 @@ use crate::{
     },
     Call, Edition, Random, Scratch,
 };
-use oracle::Store;
+use oracle::{link, Store};
 
 /// What a split of a table needs to be lent.
 #[derive(Clone, Copy, Debug, Default, PartialEq, Eq)]
@@ -80,7 +80,7 @@ impl Need {
         let [data, objects, links] = self.room;
         let data: Vec<u8> = junk(random, data, spare);
         let objects: Vec<u32> = junk(random, 2 * objects, spare);
-        let links: Vec<u32> = junk(random, 4 * links, spare);
+        let links: Vec<u32> = junk(random, link::NUMBERS * links, spare);
         store.data.extend(data);
         store.objects.extend(objects);
         store.links.extend(links);

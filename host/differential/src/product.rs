@@ -1,6 +1,6 @@
 //! Where the crate's text multiplies row by columns in 16 bits.
 
-use crate::model::table::PairPos;
+use crate::model::{objects::Link, table::PairPos};
 
 const WRAP: usize = 65_536;
 
@@ -13,12 +13,12 @@ pub fn shows(pairpos: &PairPos, cuts: &[u16]) -> Option<bool> {
     let header = &pairpos.header;
     let kept = *cuts.first()? as usize * header.columns;
     let all = header.items * header.columns;
-    let offsets = header.format.offsets().len();
-    let devices = &pairpos.links()[offsets..];
+    let parts = header.format.offsets().len();
+    let devices = &pairpos.offsets()[parts..];
     if pairpos.parts.class_defs.is_none() || devices.is_empty() || all <= WRAP {
         return None;
     }
-    let record = |link: &[u32; 4]| (link[1] as usize - 16) / header.record_size();
+    let record = |link: &Link| (link[1] as usize - 16) / header.record_size();
     let mut records = devices.iter().map(record);
     Some(records.any(|record| is_mistaken(record, kept, all)))
 }

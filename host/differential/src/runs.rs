@@ -43,6 +43,7 @@ pub fn whole(
     }
     counted_alike(Kind::Pairs, &split)?;
     frame(&split)?;
+    tally.add_orders(&split);
     again(subject, &split)?;
     if split.tables().len() <= MOST_TABLES {
         pairs_stay(&split, &mut random, tally)?;
@@ -69,6 +70,7 @@ pub fn marks_whole(
     }
     counted_alike(Kind::Marks, &split)?;
     frame(&split)?;
+    tally.add_orders(&split);
     again(&Marks(subject), &split)?;
     another_format(subject, &split, random.pick(&[0, 2, 0x0100, 0xFFFF]))?;
     if split.tables().len() <= MOST_TABLES {
@@ -99,6 +101,7 @@ pub fn lookups_whole(
         }
     }
     entered(subject, &split, tally)?;
+    tally.add_orders(&split);
     again(&InLookups(subject), &split)?;
     applied_stay(&split, &mut random, tally)?;
     applied_agree(subject, &split, &mut random, tally)

@@ -1,9 +1,11 @@
 //! How often each case occurred.
 
 use crate::{
+    check::Split,
     model::{cuts::Weighed, opened::Opened, reach::Seen},
     Edition,
 };
+use oracle::link;
 use std::fmt::{self, Display, Formatter};
 
 /// How many answer numbers there are.
@@ -32,6 +34,8 @@ pub struct Tally {
     pub ways: [usize; 3],
     /// Tables of which all lists of cuts were measured.
     pub listed: usize,
+    /// Order-only links in stores that were cut: all, those of kept tables, and those to new lookups.
+    pub orders: [usize; 3],
     /// Lookups that were written anew.
     pub rewritten: usize,
     /// Lookups that were applied before and after a split, and those of which nothing is promised.
@@ -87,6 +91,24 @@ impl Tally {
     }
 }
 
+impl Tally {
+    /// Counts the order-only links that a split leaves, if it cuts.
+    pub fn add_orders(&mut self, split: &Split) {
+        if split.after.count == 0 {
+            return;
+        }
+        let objects_before = split.before.store.counts[1];
+        let rows = split.after.store.links_in_use().iter();
+        for row in rows.filter(|row| !link::is_offset(row)) {
+            let is_kept = row[0] == split.before.table;
+            let is_new = row[3] >= objects_before;
+            for (count, counts) in self.orders.iter_mut().zip([true, is_kept, is_new]) {
+                *count += usize::from(counts);
+            }
+        }
+    }
+}
+
 fn cut_class(count: usize) -> usize {
     match count {
         0..=2 => count,
@@ -113,6 +135,13 @@ impl Display for Tally {
                 f,
                 "editions: other cuts {other_cuts}; what a cut shares {shared}, a cut at an empty slot \
                  {empty}, item 0 too large {at_0}; all lists of cuts measured {listed}"
+            )?;
+        }
+        let [orders, kept, redirected] = self.orders;
+        if orders > 0 {
+            writeln!(
+                f,
+                "order-only links {orders}, of kept tables {kept}, redirected {redirected}"
             )?;
         }
         let [applied, left_out] = self.applied;

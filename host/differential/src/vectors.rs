@@ -111,6 +111,7 @@ impl Sample {
             Kind::Marks => &mut self.mark_tally,
         };
         let answers = Answers::of(case, tally)?;
+        tally.add_orders(&answers.split);
         self.kinds[answers.kind()] += 1;
         self.marks += usize::from(kind == Kind::Marks);
         self.in_lookups += usize::from(case.functions == Functions::InLookups);

@@ -10,7 +10,7 @@ use differential::{
     Edition::First,
     Random, Subject,
 };
-use oracle::Store;
+use oracle::{link, Store};
 
 const TABLE: u32 = 0;
 
@@ -73,9 +73,10 @@ fn w7_three_sets_are_cut_at_2() {
     assert_eq!(new_data, bytes(new_words));
 
     assert_eq!(object(&call.store, 0), bytes([1, 0, 4, 0, 2, 0, 0]));
-    let rows = [[0, 2, 2, 10], [0, 10, 2, 2], [0, 12, 2, 3]];
-    let of_sets = [[2, 0, 2, 5], [3, 0, 2, 6], [4, 0, 2, 7]];
-    let new_rows = [[8, 2, 2, 9], [8, 10, 2, 4]];
+    let row = link::offset;
+    let rows = [row(0, 2, 10), row(0, 10, 2), row(0, 12, 3)];
+    let of_sets = [row(2, 0, 5), row(3, 0, 6), row(4, 0, 7)];
+    let new_rows = [row(8, 2, 9), row(8, 10, 4)];
     let rows = [&rows[..], &of_sets, &new_rows].concat();
     assert_eq!(call.store.links_in_use(), rows);
 }

@@ -2,6 +2,7 @@
 
 use differential::{
     check::Split,
+    compare::Objects,
     damage::{self, Damage},
     generate::{self, Case},
     lend,
@@ -9,7 +10,7 @@ use differential::{
     Attachment, Call, Edition, InLookups, LookupSubject, MarkSubject, Marks, Model, Pair, Random,
     Scratch, Splits, Subject,
 };
-use oracle::Store;
+use oracle::{link, Store};
 use splitter::{
     apply_lookup, read_mark, read_pair, split_in_lookups, Kind, Lookup, PairValues, Refusal,
     StoreRef, Values,
@@ -165,7 +166,7 @@ fn in_use(store: splitter::Store) -> Store {
     let (mut data, mut objects, mut links, counts) = store.into_parts();
     data.truncate(counts[0] as usize);
     objects.truncate(2 * counts[1] as usize);
-    links.truncate(4 * counts[2] as usize);
+    links.truncate(link::NUMBERS * counts[2] as usize);
     Store {
         data,
         objects,
@@ -342,7 +343,7 @@ fn enough(call: &Call<u32>) -> Call<u32> {
     let mut call = call.clone();
     call.store.data.resize(call.store.data.len() + 1_000_000, 0);
     call.store.objects.resize(131_072, 0);
-    call.store.links.resize(1_048_576, 0);
+    call.store.links.resize(link::NUMBERS * 262_144, 0);
     call.scratch = Scratch {
         walk: vec![1; 131_072],
         glyph_set: vec![1; 8_192],
@@ -359,9 +360,8 @@ fn enough(call: &Call<u32>) -> Call<u32> {
 fn lookups_are_applied() {
     let (mut found, mut others) = (0, 0);
     for case in (0..120).map(generate::lookups) {
-        let links = case.store.links_in_use().iter();
-        let lookups = links.filter(|link| link[0] == case.list).take(4);
-        for lookup in lookups.map(|link| link[3]) {
+        let lookups = case.store.links(case.list).into_iter().take(4);
+        for (_, lookup) in lookups {
             let subtables = Subtables::of(&case.store, lookup).unwrap();
             let read = Lookup::read(lent(&case.store), lookup).unwrap();
             assert!(read.subtables().eq(subtables.numbers().iter().copied()));

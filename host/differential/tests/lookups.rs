@@ -12,7 +12,7 @@ use differential::{
     Edition::First,
     InLookups, LookupSubject, Pair, Random, Subject, Tally,
 };
-use oracle::Store;
+use oracle::{link, Store};
 
 const TABLE: u32 = 0;
 
@@ -108,7 +108,7 @@ fn all_that_is_written() {
     let new_data = &after.data_in_use()[store.data.len()..];
     assert_eq!(new_data, bytes(new_words.concat()));
 
-    let row = |parent: u32, position: u32, child: u32| [parent, position, 2, child];
+    let row = link::offset;
     let rows = [
         vec![row(0, 2, 11), row(0, 10, 2), row(0, 12, 3)],
         vec![row(5, 6, 0), row(5, 8, 1), row(5, 12, 0)],

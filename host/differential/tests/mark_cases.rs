@@ -127,7 +127,7 @@ const CASES: &[(&str, Has)] = &[
 ];
 
 fn links<'a>(marks: &MarkBasePos<'a>, object: u32) -> &'a [Link] {
-    marks.objects.links_of(object)
+    marks.objects.offsets_of(object)
 }
 
 fn mark_coverage(marks: &MarkBasePos) -> u32 {

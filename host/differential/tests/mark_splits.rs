@@ -11,7 +11,7 @@ use differential::{
     Edition::First,
     MarkSubject, Marks, Random, Tally,
 };
-use oracle::Store;
+use oracle::{link, Store};
 
 const TABLE: u32 = 0;
 
@@ -84,21 +84,22 @@ fn all_that_is_written() {
     for (row, child) in [(0, 19), (2, 20), (3, 21)] {
         rows[row][3] = child;
     }
+    let row = link::offset;
     rows.extend([
-        [11, 2, 2, 12],
-        [11, 4, 2, 2],
-        [11, 8, 2, 13],
-        [11, 10, 2, 14],
+        row(11, 2, 12),
+        row(11, 4, 2),
+        row(11, 8, 13),
+        row(11, 10, 14),
     ]);
-    rows.extend([[13, 4, 2, 7], [14, 2, 2, 9]]);
+    rows.extend([row(13, 4, 7), row(14, 2, 9)]);
     rows.extend([
-        [15, 2, 2, 16],
-        [15, 4, 2, 2],
-        [15, 8, 2, 17],
-        [15, 10, 2, 18],
+        row(15, 2, 16),
+        row(15, 4, 2),
+        row(15, 8, 17),
+        row(15, 10, 18),
     ]);
-    rows.extend([[17, 4, 2, 5], [18, 2, 2, 10]]);
-    rows.extend([[20, 4, 2, 6], [20, 8, 2, 8]]);
+    rows.extend([row(17, 4, 5), row(18, 2, 10)]);
+    rows.extend([row(20, 4, 6), row(20, 8, 8)]);
     assert_eq!(after.links_in_use(), rows);
 }
 
@@ -276,7 +277,9 @@ fn all_cuts(classes: u16) -> (Store, u32) {
     let mut call = lend::marks_exactly(&store, TABLE, First, &mut Random::new(0));
     call.store.data.resize(MAXIMA[0] + 100, 7);
     call.store.objects.resize(2 * (MAXIMA[1] + 100), 7);
-    call.store.links.resize(4 * (MAXIMA[2] + 100), 7);
+    call.store
+        .links
+        .resize(link::NUMBERS * (MAXIMA[2] + 100), 7);
     assert_eq!(marks_agree(&Archive, &call), Ok(()));
     let answer = Archive.split_markbasepos(&mut call);
     (store, answer)
@@ -299,12 +302,15 @@ fn half_of_the_links_can_be_split() {
         let mut store = marks(2, &[], 0);
         let slots = [65_535].into_iter().chain([0; 2 * 65_535]);
         edit::replace(&mut store, BASE_ARRAY, &bytes(slots));
-        let rows = (0..links).flat_map(|slot| [BASE_ARRAY, 2 + 2 * slot, 2, BASE_COVERAGE]);
+        let row = |slot| link::offset(BASE_ARRAY, 2 + 2 * slot, BASE_COVERAGE);
+        let rows = (0..links).flat_map(row);
         store.links.extend(rows);
         store.counts[2] += links;
         let mut call = lend::marks_exactly(&store, TABLE, First, &mut Random::new(0));
         assert_eq!(call.list.len(), 2);
-        call.store.links.resize(4 * (MAXIMA[2] + 100), 7);
+        call.store
+            .links
+            .resize(link::NUMBERS * (MAXIMA[2] + 100), 7);
         assert_eq!(marks_agree(&Archive, &call), Ok(()));
         Archive.split_markbasepos(&mut call)
     };

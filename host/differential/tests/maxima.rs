@@ -8,7 +8,7 @@ use differential::{
     Edition::First,
     Random, Subject, Tally,
 };
-use oracle::Store;
+use oracle::{link, Store};
 
 /// A format 1 table, object 0, whose slots all lead to one set of 65,538 bytes: each is a cut.
 fn all_cuts(slots: u16) -> Store {
@@ -21,8 +21,12 @@ fn all_cuts(slots: u16) -> Store {
     for object in [table, coverage::write(&glyphs), set] {
         store.push_object(&object);
     }
-    let rows = (0..slots as u32).flat_map(|slot| [0, 10 + 2 * slot, 2, 2]);
-    store.links = [0, 2, 2, 1].into_iter().chain(rows).collect();
+    let sets = (0..slots as u32).map(|slot| link::offset(0, 10 + 2 * slot, 2));
+    store.links = [link::offset(0, 2, 1)]
+        .into_iter()
+        .chain(sets)
+        .flatten()
+        .collect();
     store.counts[2] = slots as u32 + 1;
     store
 }
@@ -32,7 +36,9 @@ fn answer(store: &Store) -> u32 {
     let mut call = lend::exactly(store, 0, First, &mut Random::new(0));
     call.store.data.resize(MAXIMA[0] + 100, 7);
     call.store.objects.resize(2 * (MAXIMA[1] + 100), 7);
-    call.store.links.resize(4 * (MAXIMA[2] + 100), 7);
+    call.store
+        .links
+        .resize(link::NUMBERS * (MAXIMA[2] + 100), 7);
     let scratch = &mut call.scratch;
     scratch.walk.resize(2 * (MAXIMA[1] + 100), 7);
     assert_eq!(split_agrees(&Archive, &call), Ok(()));
@@ -85,7 +91,7 @@ fn links_end_at_their_maximum() {
         let mut store = all_cuts(1);
         let behind = edit::add(&mut store, &vec![0; 300_000]);
         let more = count as u32 - store.counts[2];
-        let rows = (0..more).flat_map(|position| [behind, position, 2, 2]);
+        let rows = (0..more).flat_map(|position| link::offset(behind, position, 2));
         store.links.extend(rows);
         store.counts[2] = count as u32;
         answer(&store)

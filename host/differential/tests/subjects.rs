@@ -11,7 +11,7 @@ use differential::{
     Edition::First,
     InLookups, LookupSubject, MarkSubject, Marks, Model, Pair, Random, Subject, Tally,
 };
-use oracle::Store;
+use oracle::{link, Store};
 
 /// A wrong way to split, which may ask the model for the right one.
 struct Wrong(Way);
@@ -239,14 +239,13 @@ fn what_is_not_the_oracles_is_found() {
 fn what_is_not_entered_is_found() {
     let wrong: [fn(&mut Split); 4] = [
         |split| {
-            let old = split.before.store.links_in_use().to_vec();
-            let rows = split.after.store.links.as_chunks_mut::<4>().0;
-            let now = |row: &[u32; 4]| old.iter().find(|it| it[..2] == row[..2] && it != &row);
-            let row = rows
-                .iter_mut()
-                .find(|row| row[0] != split.before.table && now(row).is_some());
-            let row = row.unwrap();
-            *row = *now(row).unwrap();
+            let rows = split.before.store.links_in_use().iter();
+            let moved = rows.copied().find(|&[parent, position, _, child, kind]| {
+                let now = edit::child_at(&split.after.store, parent, position);
+                kind == link::OFFSET && parent != split.before.table && now != Some(child)
+            });
+            let [parent, position, _, child, _] = moved.unwrap();
+            edit::link(&mut split.after.store, parent, position, child);
         },
         |split| {
             let new = split.after.store.counts[1] - 1;
@@ -254,7 +253,7 @@ fn what_is_not_entered_is_found() {
             edit::set_word(&mut split.after.store, new, 2, u16::from(!flag));
         },
         |split| {
-            let last = 4 * split.after.store.counts[2] as usize - 1;
+            let last = link::NUMBERS * split.after.store.counts[2] as usize - 2;
             split.after.store.links[last] ^= 1;
         },
         |split| {

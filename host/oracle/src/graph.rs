@@ -15,6 +15,7 @@ mod pairpos_graph;
 mod tests;
 
 use crate::{
+    link,
     read::collections::IntSet,
     serialize::{Link, LinkWidth, ObjIdx},
     Store,
@@ -67,9 +68,9 @@ pub struct Graph {
 
 /// Loading a store, splitting, and looking at what there is.
 impl Graph {
-    /// The objects and links that a store has in use.
+    /// The objects and offsets that a store has in use. The text knows no other links.
     ///
-    /// Fails where a row leads outside the data or the objects, or a width is not 2.
+    /// Fails where a row leads outside the data or the objects, or the width of an offset is not 2.
     pub fn load(store: &Store) -> Result<Self, RepackError> {
         let mut graph = Self::default();
         graph.data.extend_from_slice(store.data_in_use());
@@ -80,7 +81,8 @@ impl Graph {
             }
             graph.push_vertex(head..tail);
         }
-        for &[parent, position, width, child] in store.links_in_use() {
+        let rows = store.links_in_use().iter();
+        for &[parent, position, width, child, _] in rows.filter(|row| link::is_offset(row)) {
             if width != 2 {
                 return Err(RepackError::GraphErrorInvalidObjIndex);
             }

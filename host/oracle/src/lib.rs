@@ -29,6 +29,7 @@
 extern crate self as write_fonts;
 
 mod graph;
+pub mod link;
 pub mod read;
 mod serialize;
 mod split;

@@ -1,6 +1,6 @@
 //! The object store as its caller lends it.
 
-use crate::ObjIdx;
+use crate::{link, ObjIdx};
 
 /// An object store in flat rows of numbers.
 ///
@@ -11,7 +11,7 @@ pub struct Store {
     pub data: Vec<u8>,
     /// Rows of two: head, tail.
     pub objects: Vec<u32>,
-    /// Rows of four: parent, position, width, child. They ascend by parent and position.
+    /// Rows of five: parent, position, width, child, kind. They ascend by parent, kind, position and child.
     pub links: Vec<u32>,
     /// How many data bytes, object rows and link rows are in use.
     pub counts: [u32; 3],
@@ -29,7 +29,7 @@ impl Store {
     }
 
     /// The link rows in use, or as many as there are.
-    pub fn links_in_use(&self) -> &[[u32; 4]] {
+    pub fn links_in_use(&self) -> &[link::Row] {
         in_use(self.links.as_chunks().0, self.counts[2])
     }
 
@@ -46,12 +46,22 @@ impl Store {
         objects as ObjIdx
     }
 
-    /// Adds a link of width 2 in its place among the rows, and drops what lay beyond.
+    /// Adds an offset of two bytes in its place among the rows, and drops what lay beyond.
     pub fn push_link(&mut self, parent: ObjIdx, position: u32, child: ObjIdx) {
-        let row = [parent as u32, position, 2, child as u32];
-        let place = self.links_in_use().partition_point(|r| r[..2] < row[..2]);
-        self.links.truncate(4 * self.counts[2] as usize);
-        self.links.splice(4 * place..4 * place, row);
+        self.push_row(link::offset(parent as u32, position, child as u32));
+    }
+
+    /// Adds an order-only link in its place among the rows, and drops what lay beyond.
+    pub fn push_order_link(&mut self, parent: ObjIdx, child: ObjIdx) {
+        self.push_row(link::order_only(parent as u32, child as u32));
+    }
+
+    fn push_row(&mut self, row: link::Row) {
+        let rank = link::rank(&row);
+        let rows = self.links_in_use();
+        let place = link::NUMBERS * rows.partition_point(|row| link::rank(row) < rank);
+        self.links.truncate(link::NUMBERS * self.counts[2] as usize);
+        self.links.splice(place..place, row);
         self.counts[2] += 1;
     }
 }

@@ -6,7 +6,7 @@
 mod marks;
 
 use marks::{push_anchor, Marks, BASE_ARRAY, BASE_COVERAGE, MARK_ARRAY, MARK_COVERAGE, TABLE};
-use oracle::{split_markbase, write::words, Graph, ObjIdx, RepackError, Store};
+use oracle::{link, split_markbase, write::words, Graph, ObjIdx, RepackError, Store};
 
 /// With an anchor of this length a base makes its class, without marks, one byte too large.
 const TOO_LARGE: usize = 65_510;
@@ -151,7 +151,7 @@ fn a_table_that_is_too_long_is_split() {
 fn a_link_that_is_missing_says_nothing_to_split() {
     for missing in [2, 4, 8, 10] {
         let mut store = with_anchor(&one_base());
-        let is_kept = |row: &&[u32; 4]| (row[0], row[1]) != (TABLE as u32, missing);
+        let is_kept = |row: &&link::Row| (row[0], row[1]) != (TABLE as u32, missing);
         let kept_rows = store.links_in_use().iter().filter(is_kept);
         store.links = kept_rows.flatten().copied().collect();
         store.counts[2] -= 1;
@@ -299,7 +299,8 @@ fn a_link_of_an_array_at_no_slot_fails_after_a_table_was_added() {
 fn a_link_at_a_slot_of_one_array_alone_fails_where_both_are_one_object() {
     let both = |slot| {
         let mut store = Marks::new(2, &[1], 1).store();
-        store.links = [[0, 2, 2, 1], [0, 4, 2, 2], [0, 8, 2, 3], [0, 10, 2, 3]].concat();
+        let rows = [(2, 1), (4, 2), (8, 3), (10, 3)];
+        store.links = rows.map(|(at, child)| link::offset(0, at, child)).concat();
         push_anchor(&mut store, MARK_ARRAY, slot, TOO_LARGE);
         store
     };

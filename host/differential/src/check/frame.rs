@@ -2,7 +2,7 @@
 
 use super::{ensure, same, Outcome, Split};
 use crate::{edit, model::soundness::sound, Splits};
-use oracle::Store;
+use oracle::{link, Store};
 
 /// A split leaves scratch zero, and changes nothing but what it must.
 pub fn frame(split: &Split) -> Outcome {
@@ -26,7 +26,8 @@ pub(super) fn frame_but_children(split: &Split, now: impl Fn(u32) -> u32) -> Out
     let count = after.count as usize;
     same("list", &after.list[count..], &before.list[count..])?;
     rest_stays(&before.store, &after.store)?;
-    others_stay(&before.store, &after.store, before.table, now)
+    others_stay(&before.store, &after.store, before.table)?;
+    links_stay(&before.store, &after.store, before.table, now)
 }
 
 /// What lies past the new counts stays.
@@ -35,11 +36,12 @@ fn rest_stays(old: &Store, new: &Store) -> Outcome {
     same("data", &new.data[data..], &old.data[data..])?;
     let (rows, old_rows) = (&new.objects[2 * objects..], &old.objects[2 * objects..]);
     same("objects", rows, old_rows)?;
-    same("links", &new.links[4 * links..], &old.links[4 * links..])
+    let end = link::NUMBERS * links;
+    same("links", &new.links[end..], &old.links[end..])
 }
 
-/// Every other old object keeps its place, its bytes and its links, these as they lead now.
-fn others_stay(old: &Store, new: &Store, table: u32, now: impl Fn(u32) -> u32) -> Outcome {
+/// Every other old object keeps its place and its bytes.
+fn others_stay(old: &Store, new: &Store, table: u32) -> Outcome {
     for object in (0..old.counts[1]).filter(|&object| object != table) {
         let row = object as usize;
         same(
@@ -49,16 +51,34 @@ fn others_stay(old: &Store, new: &Store, table: u32, now: impl Fn(u32) -> u32) -
         )?;
         same("bytes", edit::bytes(new, object), edit::bytes(old, object))?;
     }
-    let others = |store: &Store| -> Vec<[u32; 4]> {
-        let links = store.links_in_use().iter();
-        let other = |link: &&[u32; 4]| link[0] < old.counts[1] && link[0] != table;
-        links.filter(other).copied().collect()
+    Ok(())
+}
+
+/// Every other old object keeps its links of both kinds, and the table its order-only ones, row by row as they
+/// lead now; new objects have offsets alone.
+fn links_stay(old: &Store, new: &Store, table: u32, now: impl Fn(u32) -> u32) -> Outcome {
+    let is_new = |row: &link::Row| row[0] >= old.counts[1];
+    let stays = |row: &&link::Row| !is_new(row) && (row[0] != table || !link::is_offset(row));
+    let kept = |store: &Store| -> Vec<link::Row> {
+        let rows = store.links_in_use().iter();
+        rows.filter(stays).copied().collect()
     };
-    let mut old_links = others(old);
-    for [_, _, _, child] in &mut old_links {
+    same("links", &kept(new), &led(&kept(old), now))?;
+    let mut rows = new.links_in_use().iter();
+    let order = rows.find(|row| is_new(row) && !link::is_offset(row));
+    order.map_or(Ok(()), |row| Err(format!("{row:?} is of a new object")))
+}
+
+/// Links as they lead now, those of a parent in order: order-only ones go by their children.
+pub(super) fn led(rows: &[link::Row], now: impl Fn(u32) -> u32) -> Vec<link::Row> {
+    let mut rows = rows.to_vec();
+    for [_, _, _, child, _] in &mut rows {
         *child = now(*child);
     }
-    same("links", &others(new), &old_links)
+    for of_parent in rows.chunk_by_mut(|a, b| a[0] == b[0]) {
+        of_parent.sort_unstable_by_key(link::rank);
+    }
+    rows
 }
 
 /// Splitting the kept table again, with scratch enough, changes nothing.

@@ -2,11 +2,12 @@
 
 use super::{
     ensure,
-    frame::frame_but_children,
+    frame::{frame_but_children, led},
     pairs::{first_glyphs, second_glyphs},
     same, Outcome, Split,
 };
 use crate::{
+    compare::Objects as _,
     edit,
     model::{
         lookups::{self, applied::Subtables, Lookup, LOOKUP_HEADER},
@@ -19,8 +20,8 @@ use oracle::Store;
 use std::collections::HashMap;
 
 /// A split leaves what the subject's plain split leaves, and behind it a new lookup for each one of pairs
-/// that names the table, in the order of the list; all links to these lead to the new ones. Nothing else
-/// changes.
+/// that names the table, in the order of the list; all links to these, of both kinds, lead to the new ones.
+/// Nothing else changes.
 pub fn entered(subject: &impl Subject, split: &Split, tally: &mut Tally) -> Outcome {
     if split.after.count == 0 {
         return frame_but_children(split, |child| child);
@@ -66,10 +67,7 @@ fn behind_the_plain_split(split: &Split, plain: &Split, now: impl Fn(u32) -> u32
     same("data", &ours.data[..data], theirs.data_in_use())?;
     let rows = theirs.objects_in_use();
     same("objects", &ours.objects_in_use()[..objects], rows)?;
-    let mut rows = theirs.links_in_use().to_vec();
-    for [_, _, _, child] in &mut rows {
-        *child = now(*child);
-    }
+    let rows = led(theirs.links_in_use(), now);
     same("links", &ours.links_in_use()[..links], &rows)
 }
 
@@ -176,12 +174,11 @@ fn lookups_of_pairs(split: &Split) -> Vec<[u32; 2]> {
         return Vec::new();
     }
     let list = split.before.lookup_list;
-    let links = |store: &Store| -> Vec<[u32; 4]> {
-        let links = store.links_in_use().iter();
-        links.filter(|link| link[0] == list).copied().collect()
-    };
-    let (old, new) = (links(&split.before.store), links(&split.after.store));
-    let mut lookups: Vec<[u32; 2]> = old.iter().zip(&new).map(|(a, b)| [a[3], b[3]]).collect();
+    let (old, new) = (
+        split.before.store.links(list),
+        split.after.store.links(list),
+    );
+    let mut lookups: Vec<[u32; 2]> = old.iter().zip(&new).map(|(a, b)| [a.1, b.1]).collect();
     lookups.retain(|&[old, _]| edit::bytes(&split.before.store, old).starts_with(&[0, 2]));
     lookups.dedup();
     lookups

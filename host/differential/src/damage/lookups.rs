@@ -12,6 +12,7 @@ use crate::{
     },
     Call, Edition, Random,
 };
+use oracle::link;
 
 pub const NUMBERS: &[Named] = &[
     ("a list behind the last object in use", |call, _| {
@@ -119,7 +120,7 @@ pub const LISTS: &[Named] = &[
         stray(call, lookup, LOOKUP_HEADER + 2 * slot + 1)
     }),
     ("a link at the set of a filter", |call, random| {
-        let mut lookups = list_links(call).into_iter().map(|link| link[3]);
+        let mut lookups = listed(call).into_iter();
         let filters = |lookup: &u32| word(call, *lookup, 2).is_some_and(|it| it & FILTERS != 0);
         let lookup = lookups.find(|lookup| filters(lookup) && !is_itself(call, *lookup))?;
         let last = edit::bytes(&call.store, lookup).len() - 2;
@@ -155,9 +156,33 @@ pub const LISTS: &[Named] = &[
                 .map(|lookup| lookup.number)
                 .collect();
             let list = call.lookup_list;
-            edit::remove_links(&mut call.store, |link| {
-                link[0] == list && named.contains(&link[3])
+            edit::remove_links(&mut call.store, |row| {
+                link::is_offset(row) && row[0] == list && named.contains(&row[3])
             });
+            Some(())
+        },
+    ),
+    (
+        "lookups of pairs that are placed after the table, and do not name it",
+        |call, _| {
+            for lookup in rewritten(call)? {
+                for slot in listings(&lookup, call.table) {
+                    edit::unlink(&mut call.store, lookup.number, slot);
+                }
+                edit::order(&mut call.store, lookup.number, call.table);
+            }
+            Some(())
+        },
+    ),
+    (
+        "a list that is placed after what names the table, and does not lead to it",
+        |call, _| {
+            let list = call.lookup_list;
+            for Lookup { number, .. } in rewritten(call)? {
+                let goes = |row: &link::Row| row[0] == list && row[3] == number;
+                edit::remove_links(&mut call.store, goes);
+                edit::order(&mut call.store, list, number);
+            }
             Some(())
         },
     ),
@@ -209,17 +234,18 @@ fn listings(lookup: &Lookup, table: u32) -> impl Iterator<Item = u32> + '_ {
     listings.map(|(slot, _)| slot)
 }
 
-fn list_links(call: &Call<u32>) -> Vec<[u32; 4]> {
-    let links = call.store.links_in_use().iter();
-    let of_list = links.filter(|link| link[0] == call.lookup_list);
-    of_list.copied().collect()
+/// The lookups that the list leads to, slot by slot.
+fn listed(call: &Call<u32>) -> Vec<u32> {
+    let rows = call.store.links_in_use().iter();
+    let of_list = rows.filter(|row| link::is_offset(row) && row[0] == call.lookup_list);
+    of_list.map(|row| row[3]).collect()
 }
 
 /// Any lookup of the list, whatever its type.
 fn any_lookup(call: &Call<u32>, random: &mut Random) -> Option<u32> {
-    let links = list_links(call);
-    let link = links.get(random.below(links.len().max(1)))?;
-    (!is_itself(call, link[3])).then_some(link[3])
+    let lookups = listed(call);
+    let &lookup = lookups.get(random.below(lookups.len().max(1)))?;
+    (!is_itself(call, lookup)).then_some(lookup)
 }
 
 /// Whether a lookup is the list: what is wrong with it might then be wrong with the list, and is tried there.
@@ -269,15 +295,14 @@ pub fn scramble_lookups(call: &Call<u32>, random: &mut Random) -> Call<u32> {
 
 /// The list, and objects that it leads to.
 fn around_the_list(call: &Call<u32>) -> Vec<u32> {
-    let lookups = list_links(call).into_iter().map(|link| link[3]);
-    [call.lookup_list].into_iter().chain(lookups).collect()
+    [&[call.lookup_list], &listed(call)[..]].concat()
 }
 
 /// Leads a link of the list, or of a lookup, to some object.
 fn relink(call: &mut Call<u32>, random: &mut Random) {
     let parents = around_the_list(call);
     let [_, objects, links] = call.store.counts.map(|count| count as usize);
-    let rows = call.store.links.as_chunks_mut::<4>().0;
+    let rows = call.store.links.as_chunks_mut::<{ link::NUMBERS }>().0;
     let in_use = links.min(rows.len());
     let mut of_list: Vec<_> = rows[..in_use]
         .iter_mut()

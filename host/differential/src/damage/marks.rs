@@ -12,6 +12,7 @@ use crate::{
     },
     Call, Random,
 };
+use oracle::link;
 
 pub const LENGTHS: &[Named] = &[
     ("a table of no bytes", |call, _| resize_table(call, 0)),
@@ -26,8 +27,15 @@ pub const LENGTHS: &[Named] = &[
 
 pub const UNREADABLE: &[Named] = &[
     ("a part that is not linked", |call, random| {
-        let (table, offset) = (call.table, random.pick(&OFFSETS) as u32);
-        edit::remove_links(&mut call.store, |link| link[..2] == [table, offset]);
+        let offset = random.pick(&OFFSETS) as u32;
+        edit::unlink(&mut call.store, call.table, offset);
+        Some(())
+    }),
+    ("a part that is linked by order only", |call, random| {
+        let offset = random.pick(&OFFSETS);
+        let part = part(call, offset)?;
+        edit::unlink(&mut call.store, call.table, offset as u32);
+        edit::order(&mut call.store, call.table, part);
         Some(())
     }),
     ("a part of no bytes", |call, random| {
@@ -136,7 +144,7 @@ pub const LINKS: &[Named] = &[
         Some(())
     }),
     ("an anchor that leads to the table", |call, random| {
-        let [_, _, _, anchor] = anchor_link(call, random)?;
+        let [_, _, _, anchor, _] = anchor_link(call, random)?;
         let last = edit::bytes(&call.store, anchor).len().checked_sub(2)?;
         edit::link(&mut call.store, anchor, last as u32, call.table);
         Some(())
@@ -250,10 +258,11 @@ fn stray_of_array(call: &mut Call<u32>, offset: usize, position: usize) -> Optio
     fits.then(|| edit::link(&mut call.store, array, position as u32, coverage))
 }
 
-/// Some link of an array.
-fn anchor_link(call: &Call<u32>, random: &mut Random) -> Option<[u32; 4]> {
+/// Some offset of an array.
+fn anchor_link(call: &Call<u32>, random: &mut Random) -> Option<link::Row> {
     let array = part(call, random.pick(&ARRAYS))?;
-    let links = call.store.links_in_use().iter();
-    let links: Vec<_> = links.filter(|link| link[0] == array).copied().collect();
-    (!links.is_empty()).then(|| random.pick(&links))
+    let rows = call.store.links_in_use().iter();
+    let of_array = rows.filter(|row| link::is_offset(row) && row[0] == array);
+    let of_array: Vec<_> = of_array.copied().collect();
+    (!of_array.is_empty()).then(|| random.pick(&of_array))
 }

@@ -10,8 +10,14 @@ use crate::{
 pub const UNREADABLE: &[Named] = &[
     ("a part that is not linked", |call, random| {
         let offset = offset(call, random)?;
-        let table = call.table;
-        edit::remove_links(&mut call.store, |link| link[..2] == [table, offset]);
+        edit::unlink(&mut call.store, call.table, offset);
+        Some(())
+    }),
+    ("a part that is linked by order only", |call, random| {
+        let offset = offset(call, random)?;
+        let part = edit::child_at(&call.store, call.table, offset)?;
+        edit::unlink(&mut call.store, call.table, offset);
+        edit::order(&mut call.store, call.table, part);
         Some(())
     }),
     ("a part of no bytes", |call, random| {

@@ -2,6 +2,7 @@
 
 use super::Named;
 use crate::Call;
+use oracle::link;
 
 pub const STORE: &[Named] = &[
     ("the data one byte short", |call, _| {
@@ -21,13 +22,14 @@ pub const STORE: &[Named] = &[
     ("the links a part of a row short", |call, random| {
         needs_room(call)?;
         let len = call.store.links.len();
-        call.store.links.truncate(len - random.within(1..=3));
+        let less = random.within(1..=link::NUMBERS - 1);
+        call.store.links.truncate(len - less);
         Some(())
     }),
     ("the links one row short", |call, _| {
         needs_room(call)?;
         let len = call.store.links.len();
-        call.store.links.truncate(len - 4);
+        call.store.links.truncate(len - link::NUMBERS);
         Some(())
     }),
 ];

@@ -1,6 +1,7 @@
 //! Calls in which anything may be wrong.
 
 use crate::{edit, model::numbers, Call, Random};
+use oracle::link;
 
 /// Changes a few things of a call at random.
 pub fn scramble(call: &Call<u32>, random: &mut Random) -> Call<u32> {
@@ -58,9 +59,9 @@ fn shorten_any(call: &mut Call<u32>, random: &mut Random) {
 /// Leads some link to another object.
 fn relink(call: &mut Call<u32>, random: &mut Random) {
     let [_, objects, links] = call.store.counts.map(|count| count as usize);
-    if links > 0 && 4 * links <= call.store.links.len() {
+    if links > 0 && link::NUMBERS * links <= call.store.links.len() {
         let child = random.below(objects.max(1)) as u32;
-        call.store.links[4 * random.below(links) + 3] = child;
+        call.store.links[link::NUMBERS * random.below(links) + 3] = child;
     }
 }
 
@@ -72,7 +73,7 @@ fn cover(call: &mut Call<u32>, random: &mut Random) {
     let store = &mut call.store;
     let fits = data <= store.data.len()
         && 2 * objects <= store.objects.len()
-        && 4 * links <= store.links.len();
+        && link::NUMBERS * links <= store.links.len();
     if fits {
         let coverage = edit::add(store, &numbers::bytes(glyphs));
         edit::link(store, call.table, 2, coverage);
@@ -81,10 +82,10 @@ fn cover(call: &mut Call<u32>, random: &mut Random) {
 
 /// Changes a byte among the first of the table, or of an object that it leads to.
 fn change_byte(call: &mut Call<u32>, random: &mut Random) {
-    let links = call.store.links_in_use().iter();
-    let children = links
-        .filter(|link| link[0] == call.table)
-        .map(|link| link[3]);
+    let rows = call.store.links_in_use().iter();
+    let children = rows
+        .filter(|row| link::is_offset(row) && row[0] == call.table)
+        .map(|row| row[3]);
     let mut objects: Vec<u32> = children.take(4).collect();
     objects.push(call.table);
     let object = random.pick(&objects);

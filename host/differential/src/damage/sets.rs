@@ -2,6 +2,7 @@
 
 use super::{table::header, Named};
 use crate::{
+    compare::Objects,
     edit,
     model::{
         header::Format,
@@ -78,12 +79,11 @@ fn record_size(call: &Call<u32>) -> Option<usize> {
 /// Some linked set that is nothing else of the table.
 fn any_set(call: &Call<u32>, random: &mut Random) -> Option<u32> {
     record_size(call)?;
-    let links = call.store.links_in_use().iter();
-    let of_table: Vec<_> = links.filter(|link| link[0] == call.table).collect();
-    let [.., coverage] = **of_table.first()?;
-    let sets = of_table.iter().filter(|link| link[1] >= 10);
+    let of_table = call.store.links(call.table);
+    let &(_, coverage) = of_table.first()?;
+    let sets = of_table.iter().filter(|(position, _)| *position >= 10);
     let sets: Vec<u32> = sets
-        .map(|link| link[3])
+        .map(|&(_, child)| child)
         .filter(|&it| it != coverage)
         .collect();
     sets.get(random.below(sets.len().max(1))).copied()

@@ -1,7 +1,8 @@
 //! Stores that are not sound.
 
 use super::Named;
-use crate::{Call, Random};
+use crate::{edit, Call, Random};
+use oracle::link;
 
 pub const DAMAGES: &[Named] = &[
     ("one data byte more in use than lent", |call, _| {
@@ -13,7 +14,7 @@ pub const DAMAGES: &[Named] = &[
         Some(())
     }),
     ("one link more in use than lent", |call, _| {
-        call.store.counts[2] = call.store.links.len() as u32 / 4 + 1;
+        call.store.counts[2] = (call.store.links.len() / link::NUMBERS) as u32 + 1;
         Some(())
     }),
     ("the greatest of all counts", |call, random| {
@@ -26,10 +27,15 @@ pub const DAMAGES: &[Named] = &[
         Some(())
     }),
     ("a part of a link row", |call, random| {
-        let in_use = 4 * call.store.counts[2] as usize;
-        let less = random.within(1..=3);
+        let in_use = link::NUMBERS * call.store.counts[2] as usize;
+        let less = random.within(1..=link::NUMBERS - 1);
         call.store.links.truncate(in_use.checked_sub(less)?);
         Some(())
+    }),
+    ("as many numbers as rows of four would have", |call, _| {
+        let in_use = call.store.counts[2] as usize;
+        call.store.links.truncate((link::NUMBERS - 1) * in_use);
+        (in_use > 0).then_some(())
     }),
     ("a head above its tail", |call, random| {
         let row = object_row(call, random);
@@ -56,7 +62,7 @@ pub const DAMAGES: &[Named] = &[
     }),
     ("a parent that is not in use", |call, _| {
         let objects = call.store.counts[1];
-        last_link(call)?[0] = objects;
+        links(call).last_mut()?[0] = objects;
         Some(())
     }),
     ("a child that is not in use", |call, random| {
@@ -64,22 +70,27 @@ pub const DAMAGES: &[Named] = &[
         any_link(call, random)?[3] = objects;
         Some(())
     }),
-    ("a width other than 2", |call, random| {
+    ("a kind that there is not", |call, random| {
+        let kind = random.pick(&[2, 3, u32::MAX]);
+        any_link(call, random)?[4] = kind;
+        Some(())
+    }),
+    ("an offset of a width other than 2", |call, random| {
         let width = random.pick(&[0, 1, 3, 4, u32::MAX]);
-        any_link(call, random)?[2] = width;
+        any_offset(call, random)?[2] = width;
         Some(())
     }),
     (
         "a position whose second byte is past the parent",
         |call, _| {
-            let parent = last_link(call)?[0] as usize;
+            let parent = last_offset(call)?[0] as usize;
             let [head, tail] = call.store.objects_in_use()[parent];
-            last_link(call)?[1] = tail - head - 1;
+            last_offset(call)?[1] = tail - head - 1;
             Some(())
         },
     ),
     ("a position that wraps with the width", |call, random| {
-        last_link(call)?[1] = u32::MAX - random.below(2) as u32;
+        last_offset(call)?[1] = u32::MAX - random.below(2) as u32;
         Some(())
     }),
     ("two links in the wrong order", |call, random| {
@@ -87,11 +98,22 @@ pub const DAMAGES: &[Named] = &[
         std::mem::swap(first, second);
         Some(())
     }),
-    ("two links at one position", |call, random| {
-        let [first, second] = two_links(call, random)?;
-        second[..2].copy_from_slice(&first[..2]);
+    ("the same link twice", |call, random| {
+        let row = *any_link(call, random)?;
+        edit::add_row(&mut call.store, row);
         Some(())
     }),
+    (
+        "two offsets at one position, in order of their children",
+        |call, random| {
+            let objects = call.store.counts[1] as usize;
+            let mut row = *any_offset(call, random)?;
+            let other = (row[3] as usize + 1 + random.below((objects - 1).max(1))) % objects;
+            row[3] = other as u32;
+            edit::add_row(&mut call.store, row);
+            (objects > 1).then_some(())
+        },
+    ),
 ];
 
 /// Some object's row.
@@ -101,23 +123,34 @@ fn object_row<'a>(call: &'a mut Call<u32>, random: &mut Random) -> &'a mut [u32]
 }
 
 /// The link rows in use.
-fn links(call: &mut Call<u32>) -> &mut [[u32; 4]] {
-    let in_use = 4 * call.store.counts[2] as usize;
+pub(super) fn links(call: &mut Call<u32>) -> &mut [link::Row] {
+    let in_use = link::NUMBERS * call.store.counts[2] as usize;
     call.store.links[..in_use].as_chunks_mut().0
 }
 
-fn last_link(call: &mut Call<u32>) -> Option<&mut [u32; 4]> {
-    links(call).last_mut()
-}
-
-fn any_link<'a>(call: &'a mut Call<u32>, random: &mut Random) -> Option<&'a mut [u32; 4]> {
+fn any_link<'a>(call: &'a mut Call<u32>, random: &mut Random) -> Option<&'a mut link::Row> {
     let links = links(call);
     let place = random.below(links.len().max(1));
     links.get_mut(place)
 }
 
+pub(super) fn any_offset<'a>(
+    call: &'a mut Call<u32>,
+    random: &mut Random,
+) -> Option<&'a mut link::Row> {
+    let offsets = links(call).iter_mut().filter(|row| link::is_offset(row));
+    let mut offsets: Vec<_> = offsets.collect();
+    let place = random.below(offsets.len().max(1));
+    (place < offsets.len()).then(|| offsets.swap_remove(place))
+}
+
+fn last_offset(call: &mut Call<u32>) -> Option<&mut link::Row> {
+    let rows = links(call).iter_mut();
+    rows.rev().find(|row| link::is_offset(row))
+}
+
 /// Two link rows, one behind the other.
-fn two_links<'a>(call: &'a mut Call<u32>, random: &mut Random) -> Option<&'a mut [[u32; 4]; 2]> {
+fn two_links<'a>(call: &'a mut Call<u32>, random: &mut Random) -> Option<&'a mut [link::Row; 2]> {
     let links = links(call);
     let place = random.below(links.len().max(2) - 1);
     links.get_mut(place..place + 2)?.first_chunk_mut()

@@ -8,9 +8,10 @@ use crate::{
     },
     Call,
 };
+use oracle::link;
 use splitter::{
     explain::{Fault, LinkRow, Part, Place, Wanted},
-    Room,
+    Link, LinkKind, Room,
 };
 
 /// Mends what a fault names, if one of its numbers can be what is wanted.
@@ -37,11 +38,12 @@ pub fn mend(call: &mut Call<u32>, fault: &Fault) -> Option<()> {
             edit::link(&mut call.store, *parent, *position, object);
             Some(())
         }
-        Fault::Order { rows: [_, second] } => {
-            let (rows, place) = (link_rows(call), second.row);
-            match rows[place - 1][..2] == rows[place][..2] {
+        Fault::Order {
+            rows: [first, second],
+        } => {
+            match stand_at_one_place(first.link, second.link) {
                 true => remove_row(call, second.row),
-                false => rows.sort_unstable(),
+                false => link_rows(call).sort_unstable_by_key(link::rank),
             }
             Some(())
         }
@@ -53,7 +55,9 @@ pub fn mend(call: &mut Call<u32>, fault: &Fault) -> Option<()> {
             let &[.., last, table] = &objects[..] else {
                 return None;
             };
-            edit::remove_links(&mut call.store, |link| [link[0], link[3]] == [last, table]);
+            edit::remove_links(&mut call.store, |row| {
+                link::is_offset(row) && [row[0], row[3]] == [last, table]
+            });
             Some(())
         }
         Fault::NotListed { list, table } => enter(call, *list, *table),
@@ -117,7 +121,7 @@ fn set(call: &mut Call<u32>, place: &Place, number: usize) -> Option<()> {
             match name {
                 "data" => store.data.resize(used + number, 1),
                 "objects" => store.objects.resize(2 * (used + number), 1),
-                _ => store.links.resize(4 * (used + number), 1),
+                _ => store.links.resize(link::NUMBERS * (used + number), 1),
             }
         }
         Place::List => call.list.resize(number, 1),
@@ -134,20 +138,34 @@ fn buffer(name: &str) -> Option<usize> {
 
 /// A link of no object, or outside its parent, goes; another number is set.
 fn set_link(call: &mut Call<u32>, row: LinkRow, column: &str, number: u32) {
-    match column {
-        "width" => link_rows(call)[row.row][2] = number,
-        "child" => link_rows(call)[row.row][3] = number,
-        _ => remove_row(call, row.row),
-    }
+    let is_offset = row.link.kind == LinkKind::Offset;
+    let place = match column {
+        "width" => 2,
+        "child" => 3,
+        "kind" => 4,
+        "position" if !is_offset => 1,
+        _ => return remove_row(call, row.row),
+    };
+    link_rows(call)[row.row][place] = number;
 }
 
-fn link_rows(call: &mut Call<u32>) -> &mut [[u32; 4]] {
-    let in_use = 4 * call.store.counts[2] as usize;
+/// Whether two links are one offset, or one order-only link.
+fn stand_at_one_place(first: Link, second: Link) -> bool {
+    let place = |link: Link| match link.kind {
+        LinkKind::Offset => link.position,
+        _ => link.child,
+    };
+    [first.parent, place(first)] == [second.parent, place(second)] && first.kind == second.kind
+}
+
+fn link_rows(call: &mut Call<u32>) -> &mut [link::Row] {
+    let in_use = link::NUMBERS * call.store.counts[2] as usize;
     call.store.links[..in_use].as_chunks_mut().0
 }
 
 fn remove_row(call: &mut Call<u32>, row: usize) {
-    call.store.links.drain(4 * row..4 * row + 4);
+    let start = link::NUMBERS * row;
+    call.store.links.drain(start..start + link::NUMBERS);
     call.store.counts[2] -= 1;
 }
 
@@ -183,7 +201,9 @@ fn shorten(call: &mut Call<u32>, lookup: u32, slots: u16) -> Option<()> {
     let kept = count.checked_sub(slots)?;
     let [start, end] = [kept, count].map(|slot| LOOKUP_HEADER + 2 * usize::from(slot));
     bytes.drain(start..end);
-    edit::remove_links(store, |link| link[0] == lookup && link[1] as usize >= start);
+    edit::remove_links(store, |row| {
+        link::is_offset(row) && row[0] == lookup && row[1] as usize >= start
+    });
     edit::replace(store, lookup, &bytes);
     edit::set_word(store, lookup, 4, kept);
     Some(())

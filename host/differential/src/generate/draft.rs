@@ -1,8 +1,8 @@
 //! A store in the making.
 
 use crate::Random;
-use oracle::Store;
-use std::collections::BTreeMap;
+use oracle::{link, Store};
+use std::collections::{BTreeMap, BTreeSet};
 
 /// Objects and links before they have their places in a store.
 #[derive(Clone, Debug, Default)]
@@ -10,6 +10,8 @@ pub struct Draft {
     objects: Vec<Vec<u8>>,
     /// The child by parent and position.
     links: BTreeMap<(usize, usize), usize>,
+    /// Parent and child of each order-only link.
+    orders: BTreeSet<(usize, usize)>,
 }
 
 impl Draft {
@@ -32,6 +34,19 @@ impl Draft {
     /// Links a position of an object to another object.
     pub fn link(&mut self, parent: usize, position: usize, child: usize) {
         self.links.insert((parent, position), child);
+    }
+
+    /// Says that an object is placed after another.
+    pub fn order(&mut self, parent: usize, child: usize) {
+        self.orders.insert((parent, child));
+    }
+
+    /// The parent and the child of each link that is an offset.
+    pub fn ends(&self) -> Vec<(usize, usize)> {
+        let links = self.links.iter();
+        links
+            .map(|(&(parent, _), &child)| (parent, child))
+            .collect()
     }
 
     /// The object that a position is linked to.
@@ -66,18 +81,22 @@ impl Draft {
             numbers[object] = store.push_object(&self.objects[object]) as u32;
         }
         leave_gap(&mut store, random);
-        store.links = self.rows(&numbers);
-        store.counts[2] = self.links.len() as u32;
+        let rows = self.rows(&numbers);
+        store.counts[2] = rows.len() as u32;
+        store.links = rows.into_flattened();
         (store, numbers)
     }
 
-    fn rows(&self, numbers: &[u32]) -> Vec<u32> {
-        let row = |(&(parent, position), &child): (&(usize, usize), &usize)| {
-            [numbers[parent], position as u32, 2, numbers[child]]
-        };
-        let mut rows: Vec<[u32; 4]> = self.links.iter().map(row).collect();
-        rows.sort_unstable();
-        rows.into_flattened()
+    fn rows(&self, numbers: &[u32]) -> Vec<link::Row> {
+        let offsets = self.links.iter().map(|(&(parent, position), &child)| {
+            link::offset(numbers[parent], position as u32, numbers[child])
+        });
+        let orders = self.orders.iter();
+        let orders =
+            orders.map(|&(parent, child)| link::order_only(numbers[parent], numbers[child]));
+        let mut rows: Vec<link::Row> = offsets.chain(orders).collect();
+        rows.sort_unstable_by_key(link::rank);
+        rows
     }
 }
 

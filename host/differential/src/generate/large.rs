@@ -18,6 +18,7 @@ use crate::{
     },
     Random,
 };
+use oracle::link;
 use std::ops::RangeInclusive;
 
 /// How the objects of a store are numbered.
@@ -207,6 +208,29 @@ pub fn marks(anchors: usize, fill: Fill, order: Order, seed: u64) -> Case {
         }
     }
     laid_out(&draft, table, order, &mut random)
+}
+
+/// The same store with order-only links: an object has half as many as it has offsets, as far as there are
+/// objects, and is placed after some from the first to the last.
+pub fn with_orders(mut case: Case, seed: u64) -> Case {
+    let mut random = Random::new(seed);
+    let store = &mut case.store;
+    let objects = store.counts[1] as usize;
+    let mut rows = Vec::new();
+    let mut offset_count = 0;
+    for offsets in store.links_in_use().chunk_by(|a, b| a[0] == b[0]) {
+        offset_count += offsets.len();
+        let count = (offset_count / 2).min(objects);
+        offset_count -= 2 * count;
+        let first = random.below(objects);
+        let children = (0..count).map(|place| (first + place * objects / count) % objects);
+        let orders = children.map(|child| link::order_only(offsets[0][0], child as u32));
+        rows.extend(offsets.iter().copied().chain(orders));
+    }
+    rows.sort_unstable_by_key(link::rank);
+    store.counts[2] = rows.len() as u32;
+    store.links = rows.into_flattened();
+    case
 }
 
 /// A format 2 table each of whose records has its devices, from among those near to it.

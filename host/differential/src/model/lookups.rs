@@ -70,13 +70,13 @@ pub fn read(objects: Objects, list: u32) -> Option<Vec<Lookup>> {
         .collect()
 }
 
-/// What each of so many slots leads to; nothing where a link stands at none of them.
+/// What each of so many slots leads to; nothing where an offset stands at none of them.
 fn slots(objects: Objects, parent: u32, first: usize, count: u16) -> Option<Vec<Option<u32>>> {
     let mut slots = vec![None; count.into()];
-    for link in objects.links_of(parent) {
-        let past_first = (link[1] as usize).checked_sub(first)?;
+    for offset in objects.offsets_of(parent) {
+        let past_first = (offset[1] as usize).checked_sub(first)?;
         let slot = slots.get_mut(past_first / 2)?;
-        *slot = (past_first % 2 == 0).then_some(Some(link[3]))?;
+        *slot = (past_first % 2 == 0).then_some(Some(offset[3]))?;
     }
     Some(slots)
 }

@@ -90,14 +90,14 @@ impl<'a> MarkBasePos<'a> {
 
     /// The links of the mark array that stand at slots, each with its mark.
     fn mark_links(&self) -> impl Iterator<Item = (usize, Link)> + 'a {
-        let links = self.objects.links_of(self.mark_array).iter();
+        let links = self.objects.offsets_of(self.mark_array).iter();
         links.filter_map(|&link| Some((mark_at(link[1] as usize)?, link)))
     }
 
     /// The links of the base array that stand at slots, each with its base and its class.
     fn base_links(&self) -> impl Iterator<Item = ([usize; 2], Link)> + 'a {
         let class_count = self.class_count;
-        let links = self.objects.links_of(self.base_array).iter();
+        let links = self.objects.offsets_of(self.base_array).iter();
         links.filter_map(move |&link| {
             let slot = base_slot_at(link[1] as usize)?;
             Some(([slot / class_count, slot % class_count], link))
@@ -184,7 +184,7 @@ impl Opened for MarkBasePos<'_> {
 
     fn links_are_at_slots(&self) -> bool {
         let all_stand = |object, is_slot: fn(usize) -> bool| {
-            let links = self.objects.links_of(object).iter();
+            let links = self.objects.offsets_of(object).iter();
             links.map(|link| link[1] as usize).all(is_slot)
         };
         all_stand(self.table, |position| OFFSETS.contains(&position))
@@ -206,7 +206,7 @@ impl Opened for MarkBasePos<'_> {
     }
 
     fn parts(&self) -> Vec<u32> {
-        let links = self.objects.links_of(self.table).iter();
+        let links = self.objects.offsets_of(self.table).iter();
         links.map(|link| link[3]).collect()
     }
 

@@ -1,11 +1,11 @@
 //! The objects and links of a sound store.
 
 use super::soundness::sound;
-use oracle::Store;
+use oracle::{link, Store};
 use std::ops::Range;
 
-/// A link row: parent, position, width, child.
-pub type Link = [u32; 4];
+/// A link row: parent, position, width, child, kind.
+pub type Link = link::Row;
 
 /// What a sound store has in use.
 #[derive(Clone, Copy, Debug)]
@@ -46,28 +46,31 @@ impl<'a> Objects<'a> {
         &self.data[head as usize..tail as usize]
     }
 
-    /// All links, in order of parent and position.
+    /// All links of both kinds, in order of parent, kind, position and child.
     pub fn links(&self) -> &'a [Link] {
         self.links
     }
 
-    /// The links of a parent.
-    pub fn links_of(&self, parent: u32) -> &'a [Link] {
+    /// The offsets of a parent. They alone are followed, asked, counted and copied.
+    pub fn offsets_of(&self, parent: u32) -> &'a [Link] {
         let start = self.links.partition_point(|link| link[0] < parent);
-        let end = self.links.partition_point(|link| link[0] <= parent);
-        &self.links[start..end]
+        let links = &self.links[start..];
+        let is_offset_of = |link: &Link| link[0] == parent && link::is_offset(link);
+        &links[..links.partition_point(is_offset_of)]
     }
 
-    /// The links of a parent at some of its positions.
-    pub fn links_within(&self, parent: u32, positions: Range<usize>) -> &'a [Link] {
-        let links = self.links_of(parent);
-        let below = |bound| links.partition_point(|link| (link[1] as usize) < bound);
-        &links[below(positions.start)..below(positions.end)]
+    /// The offsets of a parent at some of its positions.
+    pub fn offsets_within(&self, parent: u32, positions: Range<usize>) -> &'a [Link] {
+        let offsets = self.offsets_of(parent);
+        let below = |bound| offsets.partition_point(|link| (link[1] as usize) < bound);
+        &offsets[below(positions.start)..below(positions.end)]
     }
 
-    /// The object that the link at a position leads to.
+    /// The object that the offset at a position leads to.
     pub fn child_at(&self, parent: u32, position: usize) -> Option<u32> {
-        let link = self.links_within(parent, position..position + 1).first()?;
-        Some(link[3])
+        let offset = self
+            .offsets_within(parent, position..position + 1)
+            .first()?;
+        Some(offset[3])
     }
 }

@@ -1,4 +1,4 @@
-//! What can be reached along links.
+//! What can be reached along offsets: order-only links are not followed.
 
 use super::objects::{Link, Objects};
 
@@ -41,7 +41,7 @@ impl<'a> Seen<'a> {
             }
             self.marks[object as usize] = self.now;
             size += self.objects.bytes(object).len();
-            pending.extend(self.objects.links_of(object).iter().map(|link| link[3]));
+            pending.extend(self.objects.offsets_of(object).iter().map(|link| link[3]));
         }
         size
     }
@@ -50,6 +50,6 @@ impl<'a> Seen<'a> {
 /// Whether an object can be reached from itself.
 pub fn reaches_itself(objects: Objects, object: u32) -> bool {
     let mut seen = Seen::nothing(objects);
-    seen.count(objects.links_of(object));
+    seen.count(objects.offsets_of(object));
     seen.has(object)
 }

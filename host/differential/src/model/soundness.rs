@@ -1,6 +1,6 @@
 //! When a store is sound, and how much room it has.
 
-use oracle::Store;
+use oracle::{link, Store};
 
 /// The most that a store may have in use: data bytes, objects, links.
 pub const MAXIMA: [usize; 3] = [16_777_216, 65_536, 262_144];
@@ -12,7 +12,7 @@ pub fn room(store: &Store) -> [usize; 3] {
     let lent = [
         store.data.len(),
         store.objects.len() / 2,
-        store.links.len() / 4,
+        store.links.len() / link::NUMBERS,
     ];
     std::array::from_fn(|i| lent[i].min(MAXIMA[i]))
 }
@@ -40,16 +40,31 @@ fn objects_fit(store: &Store) -> bool {
     })
 }
 
-/// Width 2, between objects in use, within the parent, strictly ascending by parent and position.
+/// Between objects in use, each of the shape of its kind, strictly ascending by parent, kind, position and
+/// child, and no two offsets of one parent at one position.
 fn links_fit(store: &Store) -> bool {
     let objects = store.objects_in_use();
     let links = store.links_in_use();
-    let fits = |&[parent, position, width, child]: &[u32; 4]| {
+    let fits = |link: &link::Row| {
+        let [parent, _, _, child, _] = *link;
         let Some([head, tail]) = objects.get(parent as usize) else {
             return false;
         };
-        let child_in_use = (child as usize) < objects.len();
-        child_in_use && width == 2 && position as usize + 2 <= (tail - head) as usize
+        (child as usize) < objects.len() && has_shape(link, (tail - head) as usize)
     };
-    links.iter().all(fits) && links.is_sorted_by(|a, b| a[..2] < b[..2])
+    links.iter().all(fits)
+        && links.is_sorted_by(|a, b| link::rank(a) < link::rank(b) && !are_at_one_position(a, b))
+}
+
+/// Kind 0: width 2, position + 2 within the parent, which has so many bytes. Kind 1: position 0, width 0.
+fn has_shape(&[_, position, width, _, kind]: &link::Row, len: usize) -> bool {
+    match kind {
+        link::OFFSET => width == 2 && position as usize + 2 <= len,
+        link::ORDER_ONLY => position == 0 && width == 0,
+        _ => false,
+    }
+}
+
+fn are_at_one_position(a: &link::Row, b: &link::Row) -> bool {
+    link::is_offset(a) && link::is_offset(b) && a[..2] == b[..2]
 }

@@ -87,15 +87,15 @@ impl<'a> PairPos<'a> {
         self.objects.bytes(self.table)
     }
 
-    /// The table's links.
-    pub fn links(&self) -> &'a [Link] {
-        self.objects.links_of(self.table)
+    /// The table's offsets.
+    pub fn offsets(&self) -> &'a [Link] {
+        self.objects.offsets_of(self.table)
     }
 
     /// The links of an item.
     pub fn item_links(&self, item: usize) -> &'a [Link] {
         let positions = self.item_positions(item..item + 1);
-        self.objects.links_within(self.table, positions)
+        self.objects.offsets_within(self.table, positions)
     }
 
     /// The pair sets that slots of format 1 lead to, each once.
@@ -205,7 +205,7 @@ impl Opened for PairPos<'_> {
 
     fn links_are_at_slots(&self) -> bool {
         let at_slot = |link: &Link| self.header.is_slot(link[1] as usize);
-        self.links().iter().all(at_slot)
+        self.offsets().iter().all(at_slot)
     }
 
     fn sets_are_sorted(&self) -> bool {
@@ -223,8 +223,8 @@ impl Opened for PairPos<'_> {
     }
 
     fn parts(&self) -> Vec<u32> {
-        let offsets = self.header.format.offsets().len();
-        let parts = self.links()[..offsets].iter();
+        let count = self.header.format.offsets().len();
+        let parts = self.offsets()[..count].iter();
         parts.map(|link| link[3]).collect()
     }
 

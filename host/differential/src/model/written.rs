@@ -12,7 +12,7 @@ pub struct Written {
     pub new_tables: Vec<u32>,
     /// The bytes of the new objects, in order.
     pub new_objects: Vec<Vec<u8>>,
-    /// All link rows.
+    /// All link rows, of both kinds.
     pub links: Vec<Link>,
     /// What becomes of the old table.
     pub kept: Kept,

@@ -11,7 +11,7 @@ use crate::{
     },
     Call,
 };
-use oracle::Store;
+use oracle::{link, Store};
 
 /// Makes runs of what is lent to no use: scratch, list, and all past the counts.
 pub fn lent(mut call: Call<u32>) -> Call<u32> {
@@ -19,7 +19,7 @@ pub fn lent(mut call: Call<u32>) -> Call<u32> {
     let [data, objects, links] = store.counts.map(|count| count as usize);
     store.data[data..].fill(0xA5);
     store.objects[2 * objects..].fill(6);
-    store.links[4 * links..].fill(7);
+    store.links[link::NUMBERS * links..].fill(7);
     let scratch = &mut call.scratch;
     scratch.walk.fill(11);
     scratch.glyph_set.fill(12);
@@ -54,7 +54,7 @@ pub fn below(old: &Store, table: u32) -> Store {
         return plain;
     };
     let mut seen = Seen::nothing(pairpos.objects);
-    seen.count(pairpos.links());
+    seen.count(pairpos.offsets());
     for object in (0..old.counts[1]).filter(|&object| object != table && !seen.has(object)) {
         let (head, bytes) = (edit::head(old, object), edit::bytes(old, object));
         plain.data[head..head + bytes.len()].copy_from_slice(bytes);
@@ -95,7 +95,7 @@ fn plain_bytes(pairpos: &PairPos, object: u32) -> Vec<u8> {
     let header = &pairpos.header;
     let offsets = header.format.offsets().len();
     let mut bytes = pairpos.objects.bytes(object).to_vec();
-    let is_part = pairpos.links()[..offsets]
+    let is_part = pairpos.offsets()[..offsets]
         .iter()
         .any(|link| link[3] == object);
     if is_part {

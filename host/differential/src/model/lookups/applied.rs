@@ -69,7 +69,7 @@ impl<'a> Subtables<'a> {
 
     fn reaches(&self, subtable: u32, table: u32) -> bool {
         let mut seen = Seen::nothing(self.objects);
-        seen.count(self.objects.links_of(subtable));
+        seen.count(self.objects.offsets_of(subtable));
         seen.has(table)
     }
 }

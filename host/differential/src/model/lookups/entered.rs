@@ -2,6 +2,7 @@
 
 use super::{Lookup, LOOKUP_HEADER};
 use crate::model::{numbers::bytes, objects::Link, table::PairPos, written::Written};
+use oracle::link;
 use std::collections::HashMap;
 
 /// What a split writes together with new lookups, in which the new tables follow each listing of the old
@@ -16,10 +17,19 @@ pub fn enter(pairpos: &PairPos, mut written: Written, lookups: Vec<Lookup>) -> O
         written.links.extend(links(number, &slots));
         new_numbers.insert(lookup.number, number);
     }
-    for [_, _, _, child] in &mut written.links {
-        *child = *new_numbers.get(child).unwrap_or(child);
-    }
+    redirect(&mut written.links, |child| {
+        *new_numbers.get(&child).unwrap_or(&child)
+    });
     Some(written)
+}
+
+/// Leads links of both kinds to where their children now are, each parent's rows in order again: those of
+/// order-only links go by their children.
+fn redirect(links: &mut [Link], now: impl Fn(u32) -> u32) {
+    for [_, _, _, child, _] in &mut *links {
+        *child = now(*child);
+    }
+    links.sort_unstable_by_key(link::rank);
 }
 
 /// The slots of a new lookup: later subtables move up in order.
@@ -47,6 +57,6 @@ fn links(lookup: u32, slots: &[Option<u32>]) -> impl Iterator<Item = Link> + '_ 
     let slots = slots.iter().enumerate();
     slots.filter_map(move |(slot, child)| {
         let position = LOOKUP_HEADER + 2 * slot;
-        Some([lookup, position as u32, 2, (*child)?])
+        Some(link::offset(lookup, position as u32, (*child)?))
     })
 }

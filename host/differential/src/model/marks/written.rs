@@ -10,6 +10,7 @@ use crate::model::{
     objects::Link,
     written::{Kept, Written},
 };
+use oracle::link;
 use std::ops::Range;
 
 /// Some mark classes of the old table, and the marks of theirs in the old order.
@@ -106,9 +107,10 @@ impl Piece {
             let is_ours = column < self.classes.len();
             is_ours.then_some((parts.base_array(), base_slot(slot), link))
         });
-        let links = of_marks.chain(of_bases);
-        let moved = links
-            .map(|(array, position, [_, _, width, child])| [array, position as u32, width, child]);
+        let offsets = of_marks.chain(of_bases);
+        let moved = offsets.map(|(array, position, [_, _, _, child, _])| {
+            link::offset(array, position as u32, child)
+        });
         moved.collect()
     }
 }
@@ -139,13 +141,14 @@ fn table_links(marks: &MarkBasePos, table: u32, parts: &Parts) -> [Link; 4] {
         (MARK_ARRAY_POS, parts.mark_array()),
         (BASE_ARRAY_POS, parts.base_array()),
     ]
-    .map(|(position, child)| [table, position as u32, 2, child])
+    .map(|(position, child)| link::offset(table, position as u32, child))
 }
 
-/// The old links, of which three of the kept table lead to its new parts.
+/// The old links, of which three offsets of the kept table lead to its new parts.
 fn old_links(marks: &MarkBasePos, kept_parts: &Parts) -> Vec<Link> {
     let mut links = marks.objects.links().to_vec();
-    for link in links.iter_mut().filter(|link| link[0] == marks.table) {
+    let is_offset = |link: &&mut Link| link[0] == marks.table && link::is_offset(link);
+    for link in links.iter_mut().filter(is_offset) {
         link[3] = match link[1] as usize {
             MARK_COVERAGE_POS => kept_parts.coverage(),
             MARK_ARRAY_POS => kept_parts.mark_array(),

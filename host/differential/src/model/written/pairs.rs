@@ -8,6 +8,7 @@ use crate::model::{
     objects::Link,
     table::PairPos,
 };
+use oracle::link;
 use std::ops::Range;
 
 /// Some items of the old table, and the covered glyphs of theirs with reduced classes.
@@ -100,16 +101,16 @@ fn new_table(pairpos: &PairPos, items: &Range<usize>) -> Vec<u8> {
     new
 }
 
-/// The links that stay, then those of each new table. `kept_parts` is the kept table's coverage.
+/// The links that stay, then those of each new table. `kept_parts` is the kept table's coverage. Of the
+/// table's order-only links all stay, and new objects have none.
 fn links(pairpos: &PairPos, new: &[Piece], new_tables: &[u32], kept_parts: u32) -> Vec<Link> {
     let cut_off = pairpos.header.item_pos(new[0].items.start);
-    let stays = |link: &&Link| link[0] != pairpos.table || (link[1] as usize) < cut_off;
+    let is_offset = |link: &Link| link[0] == pairpos.table && link::is_offset(link);
+    let stays = |link: &&Link| !is_offset(link) || (link[1] as usize) < cut_off;
     let old_links = pairpos.objects.links().iter();
     let mut links: Vec<Link> = old_links.filter(stays).copied().collect();
-    for link in &mut links {
-        if link[0] == pairpos.table {
-            link[3] = kept_child(link, kept_parts);
-        }
+    for link in links.iter_mut().filter(|link| is_offset(link)) {
+        link[3] = kept_child(link, kept_parts);
     }
     for (piece, &table) in new.iter().zip(new_tables) {
         links.extend(header_links(pairpos, table));
@@ -129,11 +130,11 @@ fn kept_child(link: &Link, kept_parts: u32) -> u32 {
 
 /// Links to a new table's own parts, which follow it, and to class definition 2, which is shared.
 fn header_links(pairpos: &PairPos, table: u32) -> Vec<Link> {
-    let link = |position, child| [table, position as u32, 2, child];
-    let mut links = vec![link(COVERAGE_POS, table + 1)];
+    let offset = |position, child| link::offset(table, position as u32, child);
+    let mut links = vec![offset(COVERAGE_POS, table + 1)];
     if let Some(class_defs) = &pairpos.parts.class_defs {
-        links.push(link(CLASS_DEF1_POS, table + 2));
-        links.push(link(CLASS_DEF2_POS, class_defs.second_object));
+        links.push(offset(CLASS_DEF1_POS, table + 2));
+        links.push(offset(CLASS_DEF2_POS, class_defs.second_object));
     }
     links
 }
@@ -146,8 +147,8 @@ fn moved_links<'a>(
 ) -> impl Iterator<Item = Link> + 'a {
     let positions = pairpos.item_positions(piece.items.clone());
     let shift = positions.start - pairpos.header.format.min_size();
-    let links = pairpos.objects.links_within(pairpos.table, positions);
-    links
+    let offsets = pairpos.objects.offsets_within(pairpos.table, positions);
+    offsets
         .iter()
-        .map(move |&[_, position, width, child]| [table, position - shift as u32, width, child])
+        .map(move |&[_, position, _, child, _]| link::offset(table, position - shift as u32, child))
 }

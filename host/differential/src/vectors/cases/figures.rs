@@ -35,6 +35,8 @@ pub fn all() -> Vec<Case> {
     add("one set in two slots", one_set(2, 40_000));
     add("one set in forty slots, each a cut", one_set(40, 65_535));
     add("loops beside the table", loops());
+    add("order-only links of all to all", ordered());
+    add("a table that is placed after all others", placed_last());
     add("no rows", format2([4, 0], [0, 3], &[], &no_classes()));
     add("rows of one field", rows_of_one_field());
     for (total, name) in [
@@ -44,6 +46,7 @@ pub fn all() -> Vec<Case> {
         add(name, devices(total));
     }
     add("one device of all rows, each a cut", one_device_of_all());
+    add("order-only links beside devices", ordered_devices());
     add(
         "more records than sixteen bits count",
         many_records(&[464, 32_700, 65_535]),
@@ -83,6 +86,7 @@ pub fn second() -> Vec<Case> {
             one_device_of_all(),
         ),
         ("rows past the limit by both editions", devices(65_536)),
+        ("order-only links, seen by no edition", ordered()),
         (
             "a row that does not fit, and no cut",
             one_row(0x000F, 8_189),
@@ -101,7 +105,7 @@ fn case(name: &str, store: Store, edition: Edition) -> Case {
 }
 
 /// Some of both formats, all of them cut.
-pub fn to_damage() -> [Call<u32>; 7] {
+pub fn to_damage() -> [Call<u32>; 8] {
     let stores = [
         format1(&[10, 20, 30], &[30_000; 3]),
         devices(65_536),
@@ -109,6 +113,7 @@ pub fn to_damage() -> [Call<u32>; 7] {
         one_device_of_all(),
         loops(),
         shared(),
+        ordered_devices(),
         classes_past_the_rows(),
     ];
     stores.map(|store| lent(store, Edition::First))
@@ -192,6 +197,30 @@ fn loops() -> Store {
     store
 }
 
+/// Each of these is placed after each, itself too: a kept set, one that is cut off, what they lead to, the table
+/// and its coverage.
+fn ordered() -> Store {
+    let mut store = format1(&[10, 20, 30], &[30_000; 3]);
+    let objects = [TABLE, 1, 2, 4, 5, 7];
+    for parent in objects {
+        for child in objects {
+            store.push_order_link(parent, child);
+        }
+    }
+    store
+}
+
+/// An object without bytes is placed after the table, and the table after all.
+fn placed_last() -> Store {
+    let mut store = format1(&[10, 20, 30, 40], &[40_000; 3]);
+    let nothing = store.push_object(&[]);
+    for child in 0..=nothing {
+        store.push_order_link(TABLE, child);
+    }
+    store.push_order_link(nothing, TABLE);
+    store
+}
+
 fn no_classes() -> Vec<u8> {
     bytes([2, 0])
 }
@@ -227,6 +256,16 @@ fn devices(total: usize) -> Store {
     let last = pairpos.and_then(|pairpos| pairpos.weigh(Edition::First).pop());
     let length = total - last.expect("a last row").total;
     edit::replace(&mut store, large as u32, &vec![0; length]);
+    store
+}
+
+/// The table, its parts and its devices are placed after the one before them, and the first after the last.
+fn ordered_devices() -> Store {
+    let mut store = devices(65_536);
+    let count = store.counts[1] as usize;
+    for parent in 0..count {
+        store.push_order_link(parent, (parent + count - 1) % count);
+    }
     store
 }
 

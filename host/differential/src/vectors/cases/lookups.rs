@@ -25,6 +25,7 @@ pub fn all() -> Vec<Case> {
         ("as many subtables as can be counted", many_slots(65_534)),
         ("one subtable more than can be counted", many_slots(65_535)),
         ("a list that leads to itself", list_of_itself()),
+        ("order-only links of lookups to lookups", ordered()),
     ];
     let case = |(name, listed)| case(name, listed, Edition::First);
     stores.map(case).into()
@@ -35,6 +36,7 @@ pub fn second() -> Vec<Case> {
     let stores = [
         ("a table in which all sets share", one_lookup_of_shares()),
         ("lookups that name each other, once more", each_other()),
+        ("order-only links of lookups, once more", ordered()),
     ];
     let case = |(name, listed)| case(name, listed, Edition::Second);
     stores.map(case).into()
@@ -49,8 +51,8 @@ fn case(name: &str, (store, list): (Store, u32), edition: Edition) -> Case {
 }
 
 /// Some, all of them cut.
-pub fn to_damage() -> [Call<u32>; 3] {
-    let listed = [one_lookup(2), each_other(), other_types()];
+pub fn to_damage() -> [Call<u32>; 4] {
+    let listed = [one_lookup(2), each_other(), other_types(), ordered()];
     listed.map(|(store, list)| lent(store, list, Edition::First))
 }
 
@@ -116,6 +118,19 @@ fn each_other() -> (Store, u32) {
     let second = push_lookup(&mut store, [2, FILTERS], &slots);
     edit::link(&mut store, first, 6, second);
     let list = push_list(&mut store, &[second, first, first].map(Some));
+    (store, list)
+}
+
+/// The table, its coverage, two lookups and the list: each is placed after each, itself too. The later lookup is
+/// written first, so the rows to them change places.
+fn ordered() -> (Store, u32) {
+    let (mut store, list) = each_other();
+    let objects = [TABLE, 1, list - 2, list - 1, list].map(|object| object as usize);
+    for parent in objects {
+        for child in objects {
+            store.push_order_link(parent, child);
+        }
+    }
     (store, list)
 }
 

@@ -32,6 +32,8 @@ pub fn all() -> Vec<Case> {
         ),
         ("one array of two tables", array_of_two_tables()),
         ("many classes, each a cut", many_cuts()),
+        ("order-only links of arrays and anchors", ordered(40_000)),
+        ("order-only links, and nothing to cut off", ordered(6)),
         ("another format of marks", another_format()),
     ];
     let case = |(name, store)| case(name, store, Edition::First);
@@ -45,6 +47,10 @@ pub fn second() -> Vec<Case> {
         ("a first class that is too large", empty_class()),
         ("one anchor of all classes", one_anchor()),
         ("many classes, each too large", many_cuts()),
+        (
+            "order-only links of marks, seen by no edition",
+            ordered(40_000),
+        ),
     ];
     let case = |(name, store)| case(name, store, Edition::Second);
     stores.map(case).into()
@@ -59,10 +65,11 @@ fn case(name: &str, store: Store, edition: Edition) -> Case {
 }
 
 /// Some, all of them cut.
-pub fn to_damage() -> [Call<u32>; 3] {
+pub fn to_damage() -> [Call<u32>; 4] {
     [
         three_classes(40_000),
         one_anchor(),
+        ordered(40_000),
         glyphs_past_the_arrays(),
     ]
     .map(|store| lent(store, Edition::First))
@@ -87,6 +94,23 @@ fn three_classes(length: usize) -> Store {
     }
     for position in [8, 12] {
         push_anchor(&mut store, BASE_ARRAY, position, 6);
+    }
+    store
+}
+
+/// Both arrays and the table are placed after each other and themselves, anchors after the table, and the table
+/// after anchors.
+fn ordered(length: usize) -> Store {
+    let mut store = three_classes(length);
+    let parts = [TABLE, MARK_ARRAY, BASE_ARRAY].map(|part| part as usize);
+    for parent in parts {
+        for child in parts {
+            store.push_order_link(parent, child);
+        }
+    }
+    for anchor in 5..store.counts[1] as usize {
+        store.push_order_link(anchor, TABLE as usize);
+        store.push_order_link(TABLE as usize, anchor);
     }
     store
 }

@@ -7,7 +7,7 @@ use crate::{
     model::numbers::bytes,
     Call, Edition, Model, Random, Subject,
 };
-use oracle::Store;
+use oracle::{link, Store};
 
 /// Two neighbours in the order in which refusals are looked for.
 pub struct Neighbours {
@@ -54,7 +54,7 @@ fn no_edition(call: &mut Call<u32>) {
 }
 
 fn rows_turned(call: &mut Call<u32>) {
-    call.store.links.rotate_left(4);
+    call.store.links.rotate_left(link::NUMBERS);
 }
 
 fn not_in_use(call: &mut Call<u32>) {
