@@ -401,6 +401,31 @@ fn refused_tables() {
     assert_eq!(directory.names(), ["a.krns"]);
 }
 
+/// Order-only links, which lead round through the table, are in the file that is written. One that has none
+/// stays of version 1.
+#[test]
+fn order_only_links_are_written() {
+    let directory = Directory::new("order-only");
+    let output = directory.file("b.krns");
+    let mut ordered = three_sets();
+    for (parent, child) in [(0, 2), (0, 0), (2, 0), (1, 0)] {
+        ordered.add_order_link(parent, child).unwrap();
+    }
+    for (store, version, orders) in [(three_sets(), 1, &[][..]), (ordered, 3, &[0, 2])] {
+        let file = directory.store("a.krns", store, &[0]);
+        let plan = would_cut(run!("plan", file));
+        assert_eq!(plan.contains("11 links (4 order-only)"), version == 3);
+        done(run!("split", file, "-o", output, "--check"));
+        let written = [&file, &output].map(|file| fs::read(file).unwrap()[5]);
+        assert_eq!(written, [version; 2]);
+        let split = read_store(&output);
+        assert_eq!(split.tables(), pairs(&[0, 8]));
+        let view = split.store().view();
+        assert!(view.orders_of(0).eq(orders.iter().copied()));
+        assert_eq!(view.orders_of(8).len(), 0);
+    }
+}
+
 /// A store that can be no larger: a plan tells the cuts, and a split what there is no room for.
 #[test]
 fn a_store_at_its_maxima() {

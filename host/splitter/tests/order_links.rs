@@ -4,8 +4,10 @@ mod common;
 
 use common::{bytes, cut_marks, format1, listed, marks, w10, w12, w7, LIST, LOOKUP};
 use splitter::{
-    apply_lookup, explain_in_lookups, read_mark, read_pair, split_in_lookups, Edition, Explanation,
-    Kind, Link, Lookup, Reach, Refusal, Room, Scratch, Store,
+    apply_lookup,
+    explain::{Call, Lent},
+    explain_in_lookups, read_mark, read_pair, split_in_lookups, split_in_lookups_into, Edition,
+    Explanation, Kind, Link, Lookup, Reach, Refusal, Room, Scratch, Store,
 };
 
 /// Tables that are cut, table 0 of each store.
@@ -123,24 +125,46 @@ fn they_link_no_part() {
     assert_eq!(read_pair(&store, table, 1, 2), Ok(None));
 }
 
-/// They need no room: exactly what a split needs without them, and one link less.
+/// They need no room: exactly what is needed without them is enough, and one link less is too little.
 #[test]
 fn they_need_no_room() {
-    let mut scratch = Scratch::new();
-    for (kind, (store, room)) in [(Kind::Pairs, w7()), (Kind::Marks, cut_marks())] {
-        let short = Room {
-            links: room.links - 1,
-            ..room
-        };
-        for (room, enough) in [(room, true), (short, false)] {
-            let mut ordered = with_orders(&store);
+    let (edition, lent) = (Edition::First, Lent::ENOUGH);
+    let split = Call::Split {
+        edition: edition.number(),
+        lent,
+    };
+    let in_lookups = Call::InLookups {
+        list: LIST,
+        edition: edition.number(),
+        lent,
+    };
+    for (kind, call, (store, enough)) in [
+        (Kind::Pairs, split, w7()),
+        (Kind::Marks, split, cut_marks()),
+        (Kind::Pairs, in_lookups, listed()),
+    ] {
+        let mut ordered = with_orders(&store);
+        let mut with = |room| {
             ordered.reserve(room);
-            let split = kind.split_into(&mut ordered, 0, Edition::First, &mut scratch, &mut [0; 3]);
-            match enough {
-                true => assert_eq!(ordered.room(), Room::default()),
-                false => assert_eq!(split, Err(Refusal::NoRoom)),
-            }
-        }
+            let explanation = kind.explain_call(call, &ordered, 0);
+            let (scratch, list) = (&mut Scratch::new(), &mut [0; 3]);
+            let answer = match call == in_lookups {
+                true => split_in_lookups_into(&mut ordered, LIST, 0, edition, scratch, list),
+                false => kind.split_into(&mut ordered, 0, edition, scratch, list),
+            };
+            assert_eq!(answer.err(), explanation.refusal());
+            (explanation.to_string(), ordered.room())
+        };
+        let (need, links) = (enough.links, enough.links - 1);
+        let short = Room { links, ..enough };
+        let why = format!(
+            "the room for new links is {links}; it must be at least {need}, for what the split adds"
+        );
+        assert_eq!(with(short), (why, short));
+        assert_eq!(
+            with(enough),
+            ("nothing is at fault".into(), Room::default())
+        );
     }
 }
 
