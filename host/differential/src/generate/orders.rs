@@ -49,7 +49,7 @@ impl Objects {
     }
 }
 
-/// Of what an object leads to, at most so many are near.
+/// At each of two steps down, at most so many objects are near.
 const MOST_NEAR: usize = 12;
 
 /// At most so many order-only links come at a time.
