@@ -1,7 +1,13 @@
-// Stores at their maxima, looked at whole: 65,536 objects in one chain, 262,144 links, and a way back to the first object or none.
+// Stores at their maxima, looked at whole: 65,536 objects in one chain, 262,144 links, and a way back to the first object, an order-only one, or none.
 use libc::STDOUT_FILENO;
 use store_link_rows::put_link;
+use store_reader::CHILD;
+use store_reader::KIND;
 use store_reader::ORDERS;
+use store_reader::PARENT;
+use store_reader::PER_LINK;
+use store_reader::POSITION;
+use store_reader::WIDTH;
 use store_reader::first_row;
 use store_reader::is_sound;
 use store_reader::object_bytes;
@@ -30,6 +36,11 @@ fn main() {
     print(
         b"the same without its last object's links: ",
         look(&data, &objects, &links, 262140, &mut walk),
+    );
+    order_last(&mut links);
+    print(
+        b"the same with order-only links of its last object: ",
+        look(&data, &objects, &links, 262144, &mut walk),
     );
     hand_out(b"its last object: ", &data, &objects, &links, 65535);
     hand_out(b"an object behind it: ", &data, &objects, &links, 65536);
@@ -70,6 +81,20 @@ fn lay_links(links: &mut [u32; 1310720], back: u32) {
             );
             k += 1;
         }
+    }
+}
+
+// The last object is placed after the first four, and leads nowhere.
+fn order_last(links: &mut [u32; 1310720]) {
+    let mut child: usize = 0;
+    while child < 4 {
+        let at = PER_LINK * (262140 + child);
+        links[at + PARENT] = 65535;
+        links[at + POSITION] = 0;
+        links[at + WIDTH] = 0;
+        links[at + CHILD] = child as u32;
+        links[at + KIND] = 1;
+        child += 1;
     }
 }
 

@@ -33,6 +33,7 @@ fn new_tables_are_entered_in_lookups() {
     let tally = run(lookups);
     let [applied, left_out] = tally.applied;
     assert!(tally.rewritten > 2_000 && applied > 2_000 && left_out > 300);
+    assert!(tally.orders[2] > 1_000);
 }
 
 #[test]

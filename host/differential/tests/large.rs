@@ -106,3 +106,20 @@ fn as_the_oracle(case: &Case) -> Outcome {
     let split = Split::by(&Marks(&Archive), &call);
     marks_as_the_oracle(&split, &mut Tally::default())
 }
+
+/// One order-only link for two offsets, and the table is cut where it was.
+#[test]
+fn a_third_of_the_links_are_order_only() {
+    let pairs = [large::format1, large::format2].map(|build| build(1_000, Order::Made, 0));
+    let marks = [Fill::Full, Fill::Sparse].map(|fill| large::marks(1_000, fill, Order::Made, 0));
+    let needs: [fn(&Store, u32, Edition) -> Need; 2] = [Need::of, Need::of_marks];
+    for (cases, need) in [pairs, marks].into_iter().zip(needs) {
+        for case in cases {
+            let [objects, offsets, cuts] = figures_by(need, &case);
+            let with_orders = large::with_orders(case, 0);
+            let [same_objects, links, same_cuts] = figures_by(need, &with_orders);
+            assert_eq!([same_objects, same_cuts], [objects, cuts]);
+            assert!((offsets / 2 - 1..=offsets / 2).contains(&(links - offsets)));
+        }
+    }
+}

@@ -11,6 +11,7 @@ use differential::{
         reach::Seen,
     },
 };
+use oracle::link;
 
 /// Something that a store may have.
 type Has = fn(&MarkBasePos) -> bool;
@@ -61,7 +62,7 @@ const CASES: &[(&str, Has)] = &[
         mark_coverage(marks) == marks.mark_array
     }),
     ("an array that another object leads to", |marks| {
-        let leads = |link: &&Link| link[3] == marks.base_array;
+        let leads = |link: &&Link| link::is_offset(link) && link[3] == marks.base_array;
         let other = |link: &&Link| link[0] != marks.table;
         marks
             .objects

@@ -58,6 +58,7 @@ fn mark_split(store: &Store) -> Split {
     split
 }
 
+/// The split, which is the model's.
 fn split_in_lookups(store: &Store, list: u32) -> Split {
     let case = Listed {
         store: store.clone(),
@@ -68,7 +69,6 @@ fn split_in_lookups(store: &Store, list: u32) -> Split {
     assert_eq!(lookups_agree(&Archive, &call), Ok(()));
     let split = Split::by(&InLookups(&Archive), &call);
     assert_eq!(split.answer, 0);
-    assert_eq!(entered(&Archive, &split, &mut Tally::default()), Ok(()));
     split
 }
 
@@ -188,14 +188,19 @@ fn an_order_only_link_is_no_offset() {
     assert_eq!(answer(&store), 4);
 }
 
-/// The table is object 0, the new ones are 8 and its coverage, and 10, the kept coverage.
-#[test]
-fn order_only_links_stay_where_they_are() {
+/// W7 with order-only links of the table, of its coverage, of the set that is cut off, and of another object.
+fn ordered() -> Store {
     let mut store = w7();
     for (parent, child) in [(0, 0), (0, 1), (0, 4), (1, 0), (4, 0), (4, 4), (7, 1)] {
         store.push_order_link(parent, child);
     }
-    let split = split(&store);
+    store
+}
+
+/// The table is object 0, the new ones are 8 and its coverage, and 10, the kept coverage.
+#[test]
+fn order_only_links_stay_where_they_are() {
+    let split = split(&ordered());
     assert_eq!(split.new_tables(), [8]);
     let (row, order) = (link::offset, link::order_only);
     let rows = [
@@ -206,6 +211,38 @@ fn order_only_links_stay_where_they_are() {
         vec![row(8, 2, 9), row(8, 10, 4)],
     ];
     assert_eq!(split.after.store.links_in_use(), rows.concat());
+}
+
+/// A split in which an order-only link has become another.
+fn with_another(split: &Split, old: [u32; 2], new: [u32; 2]) -> Split {
+    let mut split = split.clone();
+    let [old, new] = [old, new].map(|[parent, child]| link::order_only(parent, child));
+    let rows = split.after.store.links.as_chunks_mut().0;
+    *rows.iter_mut().find(|row| **row == old).unwrap() = new;
+    let in_use = split.after.store.counts[2] as usize;
+    rows[..in_use].sort_unstable_by_key(link::rank);
+    split
+}
+
+/// A link of the table moved to the new table, to its coverage, to the kept coverage and to another object, and
+/// one of another that leads elsewhere.
+#[test]
+fn a_link_that_does_not_stay_is_found() {
+    let split = split(&ordered());
+    let wrong = [
+        ([0, 4], [8, 4]),
+        ([0, 4], [9, 4]),
+        ([0, 4], [10, 4]),
+        ([0, 4], [2, 4]),
+        ([0, 1], [0, 10]),
+        ([4, 0], [4, 1]),
+        ([7, 1], [7, 2]),
+    ];
+    for (old, new) in wrong {
+        let found = frame(&with_another(&split, old, new)).unwrap_err();
+        let is_of_links = found.starts_with("links[") || found.ends_with("of a new object");
+        assert!(is_of_links, "{found}");
+    }
 }
 
 /// New arrays have the anchors of the old ones, and not their order-only links: the room for 4K links and
@@ -237,8 +274,7 @@ fn arrays_are_copied_without_their_order_only_links() {
 }
 
 /// Lookups 5 and 6 are written anew as 13 and 12, since the list leads to 6 first; 7 is not of pairs.
-#[test]
-fn order_only_links_to_lookups_are_redirected() {
+fn redirected() -> Split {
     let mut store = format1_records(&[10, 20, 30], &[7_500; 3]);
     let [first, second] = [(); 2].map(|()| push_lookup(&mut store, [2, 0], &[Some(TABLE)]));
     let other = push_lookup(&mut store, [4, 0], &[Some(TABLE)]);
@@ -249,7 +285,13 @@ fn order_only_links_to_lookups_are_redirected() {
             store.push_order_link(parent as usize, child as usize);
         }
     }
-    let split = split_in_lookups(&store, list);
+    split_in_lookups(&store, list)
+}
+
+#[test]
+fn order_only_links_to_lookups_are_redirected() {
+    let split = redirected();
+    assert_eq!(entered(&Archive, &split, &mut Tally::default()), Ok(()));
     let after = &split.after.store;
     assert_eq!(after.counts[1], 14);
     for object in 0..after.counts[1] {
@@ -259,6 +301,21 @@ fn order_only_links_to_lookups_are_redirected() {
         };
         assert_eq!(orders(after, object), children, "{object}");
     }
+}
+
+/// A link to the old lookup, one redirected that was to another, one of the new lookup; and two out of order.
+#[test]
+fn a_link_that_is_not_redirected_is_found() {
+    let split = redirected();
+    let is_found = |split: &Split| entered(&Archive, split, &mut Tally::default()).is_err();
+    for (old, new) in [([1, 12], [1, 6]), ([1, 7], [1, 11]), ([5, 0], [13, 0])] {
+        assert!(is_found(&with_another(&split, old, new)), "{new:?}");
+    }
+    let mut out_of_order = split.clone();
+    let rows = out_of_order.after.store.links.as_chunks_mut().0;
+    let first = rows.iter().position(|row| *row == link::order_only(1, 12));
+    rows.swap(first.unwrap(), first.unwrap() + 1);
+    assert!(!is_found(&split) && is_found(&out_of_order));
 }
 
 /// An object is placed after each of 20,000 lookups, all of which are written anew, the last of them first.

@@ -11,7 +11,7 @@ use crate::{
 use oracle::link;
 use splitter::{
     explain::{Fault, LinkRow, Part, Place, Wanted},
-    Link, LinkKind, Room,
+    Room,
 };
 
 /// Mends what a fault names, if one of its numbers can be what is wanted.
@@ -38,12 +38,11 @@ pub fn mend(call: &mut Call<u32>, fault: &Fault) -> Option<()> {
             edit::link(&mut call.store, *parent, *position, object);
             Some(())
         }
-        Fault::Order {
-            rows: [first, second],
-        } => {
-            match stand_at_one_place(first.link, second.link) {
-                true => remove_row(call, second.row),
-                false => link_rows(call).sort_unstable_by_key(link::rank),
+        Fault::Order { rows: [_, second] } => {
+            let (rows, place) = (link_rows(call), second.row);
+            match is_one_link(&rows[place - 1], &rows[place]) {
+                true => remove_repeated(call),
+                false => rows.sort_unstable_by_key(link::rank),
             }
             Some(())
         }
@@ -138,24 +137,33 @@ fn buffer(name: &str) -> Option<usize> {
 
 /// A link of no object, or outside its parent, goes; another number is set.
 fn set_link(call: &mut Call<u32>, row: LinkRow, column: &str, number: u32) {
-    let is_offset = row.link.kind == LinkKind::Offset;
-    let place = match column {
-        "width" => 2,
-        "child" => 3,
-        "kind" => 4,
-        "position" if !is_offset => 1,
-        _ => return remove_row(call, row.row),
-    };
-    link_rows(call)[row.row][place] = number;
+    let [_, position, width, child, kind] = &mut link_rows(call)[row.row];
+    match column {
+        "width" => *width = number,
+        "child" => *child = number,
+        // The width says which kind is meant.
+        "kind" => *kind = u32::from(*width == 0),
+        "position" if *kind == link::ORDER_ONLY => *position = number,
+        _ => remove_row(call, row.row),
+    }
 }
 
-/// Whether two links are one offset, or one order-only link.
-fn stand_at_one_place(first: Link, second: Link) -> bool {
-    let place = |link: Link| match link.kind {
-        LinkKind::Offset => link.position,
-        _ => link.child,
+/// Whether two rows are offsets at one position, or the same order-only link.
+fn is_one_link(a: &link::Row, b: &link::Row) -> bool {
+    let place = |row: &link::Row| match link::is_offset(row) {
+        true => [row[0], row[4], row[1]],
+        false => [row[0], row[4], row[3]],
     };
-    [first.parent, place(first)] == [second.parent, place(second)] && first.kind == second.kind
+    place(a) == place(b)
+}
+
+/// Removes each row that is one link with the row before.
+fn remove_repeated(call: &mut Call<u32>) {
+    let mut rows = link_rows(call).to_vec();
+    rows.dedup_by(|after, before| is_one_link(before, after));
+    let end = link::NUMBERS * call.store.counts[2] as usize;
+    call.store.counts[2] = rows.len() as u32;
+    call.store.links.splice(..end, rows.into_flattened());
 }
 
 fn link_rows(call: &mut Call<u32>) -> &mut [link::Row] {

@@ -7,11 +7,11 @@ use crate::Random;
 /// what that leads to.
 pub fn draft(draft: &mut Draft, random: &mut Random, named: &[usize]) {
     let objects = Objects::around(draft, random, named);
-    for _ in 0..random.below(4) {
+    for _ in 0..random.below(6) {
         match random.below(7) {
             0..=1 => scattered(draft, random, &objects),
             2 => ring(draft, random, &objects, named),
-            3 => many_of_one(draft, random, &objects),
+            3 => many_of_one(draft, random, &objects, named),
             4 => many_to_one(draft, random, &objects),
             5 => beside_offsets(draft, random),
             _ => to_themselves(draft, random, &objects),
@@ -49,7 +49,7 @@ impl Objects {
     }
 }
 
-/// Of what an object leads to, at most so many are near.
+/// At each of two steps down, at most so many objects are near.
 const MOST_NEAR: usize = 12;
 
 /// At most so many order-only links come at a time.
@@ -75,9 +75,12 @@ fn ring(draft: &mut Draft, random: &mut Random, objects: &Objects, named: &[usiz
     }
 }
 
-/// One object that is placed after many, some of which come in a row.
-fn many_of_one(draft: &mut Draft, random: &mut Random, objects: &Objects) {
-    let parent = objects.pick(random);
+/// One object that is placed after many, most of which come in a row; often one that a call names.
+fn many_of_one(draft: &mut Draft, random: &mut Random, objects: &Objects, named: &[usize]) {
+    let parent = match random.one_in(2) {
+        true => random.pick(named),
+        false => objects.pick(random),
+    };
     let count = objects.count.min(MOST_LINKS);
     let first = random.below(objects.count - count + 1);
     for child in first..first + count {

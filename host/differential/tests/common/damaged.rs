@@ -70,7 +70,12 @@ impl Kind {
         let mut tally = vec![vec![0; self.order.len()]; self.order.len()];
         for (call, mut random) in (self.calls)() {
             for _ in 0..60 {
-                let mut two = [random.pick(&damages), random.pick(&damages)];
+                // Of each answer as often, whatever the number of its damages.
+                let mut two = [(); 2].map(|()| {
+                    let answer = random.pick(self.order);
+                    let of_answer = damages.iter().filter(|it| it.answers[0] == answer);
+                    random.pick(&of_answer.copied().collect::<Vec<_>>())
+                });
                 two.sort_by_key(|damage| self.place(damage));
                 let [low, high] = two;
                 let [place, higher] = two.map(|damage| self.place(&damage));

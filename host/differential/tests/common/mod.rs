@@ -35,5 +35,7 @@ fn run_by(edition: Edition, whole: impl Fn(Edition, u64, &mut Tally) -> Outcome)
     assert!(many_cuts > 10 && cuts.iter().all(|&count| count > 100));
     assert!(tally.at_limit.iter().all(|&count| count > 100));
     assert!(tally.found > 5_000);
+    let [orders, kept, _] = tally.orders;
+    assert!(orders > 10_000 && kept > 2_000);
     tally
 }
