@@ -9,16 +9,17 @@ use lib.Dec.{leb, ltb}
 use borrow.Author.Tests.{lt-leb, le-leb, lt-ltb, le-ltb}
 use Rattle.folds.specs.Folds.{flat}
 use Rattle.folds.specs.Lists.{sift, part}
+use Rattle.folds.specs.Ascending.{ascending}
 use Rattle.folds.proofs.Tests.{and-first, and-second, and-intro}
 use Rattle.folds.proofs.Folds.{upto-cons}
 use Rattle.folds.proofs.Moved.{length-map}
 use Rattle.folds.proofs.Each.{Each, each-sift, each-then}
+use Rattle.folds.proofs.Ascending.{Rises, Alike, ascending-only, ascending-alike, ascending-rises, length-ascending, rises-at, sift-ascending}
 use Rattle.ot_layouts.specs.Coverage.{Entry, Ascends}
 use Rattle.glyph_rules.specs.Entries.{within}
 use Rattle.glyph_rules.proofs.Entries.{inRange, within-ascends}
-use Rattle.glyph_sort.specs.Pairs.{keyedAt, pairs, keysOf, besideOf, inOrder}
+use Rattle.glyph_sort.specs.Pairs.{keyedAt, pairs, keysOf, besideOf}
 use Rattle.glyph_sort.specs.ByClass.{classPairs, ByClass}
-use Rattle.glyph_sort.proofs.Order.{Rises, Alike, inOrder-only, inOrder-alike, inOrder-rises, length-inOrder, rises-at, sift-inOrder}
 use Rattle.cut_parts.specs.Tables.{Halved}
 use Rattle.cut_parts.specs.Order.{glyphOrder, itemOrder}
 use Rattle.cut_parts.proofs.Sifting.{sift-part, sift-agrees, sift-map, sift-many, part-map}
@@ -59,19 +60,19 @@ rises-keys (e ∷ es) lo m h a s =
     (omega arith, rises-keys es (e .glyph + 1) (glyphKey e) (omega arith) (a .1) (s .1))
 
 -- the entries' numbers by item, in order and turned, are those by glyph
-alike-keys : (es : List Entry) → Small es → Alike (map glyphKey es) (map turned (inOrder (map itemKey es)))
+alike-keys : (es : List Entry) → Small es → Alike (map glyphKey es) (map turned (ascending (map itemKey es)))
 alike-keys es s p =
     sift-many glyphKey p es
     ∙ ap length (sift-agrees (λ e. p (glyphKey e)) (λ e. p (turned (itemKey e))) es (each-then (λ e. (e .glyph < 65536) × (e .class < 65536)) (λ e. p (glyphKey e) ≡ p (turned (itemKey e))) (λ e h. ap p (same e (h .0))) es s))
     ∙ sym (sift-many itemKey (λ z. p (turned z)) es)
-    ∙ sym (inOrder-alike (map itemKey es) (λ z. p (turned z)))
-    ∙ sym (sift-many turned p (inOrder (map itemKey es)))
+    ∙ sym (ascending-alike (map itemKey es) (λ z. p (turned z)))
+    ∙ sym (sift-many turned p (ascending (map itemKey es)))
   where
     same : (e : Entry) → e .glyph < 65536 → glyphKey e ≡ turned (itemKey e)
     same e h = omega arith
 
-in-glyph-order : (es : List Entry) → Ascends 0 es → Small es → inOrder (map turned (inOrder (map itemKey es))) ≡ map glyphKey es
-in-glyph-order es a s = sym (inOrder-only (map glyphKey es) (map turned (inOrder (map itemKey es))) (rises-keys es 0 0 (omega arith) a s) (alike-keys es s))
+in-glyph-order : (es : List Entry) → Ascends 0 es → Small es → ascending (map turned (ascending (map itemKey es))) ≡ map glyphKey es
+in-glyph-order es a s = sym (ascending-only (map glyphKey es) (map turned (ascending (map itemKey es))) (rises-keys es 0 0 (omega arith) a s) (alike-keys es s))
 
 glyphs-back : (es : List Entry) → Small es → keysOf (map glyphKey es) ≡ map (λ e. e .glyph) es
 unfolding keysOf
@@ -88,31 +89,31 @@ items-back (e ∷ es) s = let c : e .class < 65536 = s .0 .1 in let q : glyphKey
 module _ (gs ks : List ℕ) (es : List Entry) (o : ByClass es gs ks) (up : Ascends 0 es) (small : Small es) where
   -- all in order by item
   abbrev zs : List ℕ
-  zs = inOrder (map itemKey es)
+  zs = ascending (map itemKey es)
 
   glyphs-are : gs ≡ map (λ z. z % 65536) zs
   unfolding besideOf classPairs
-  glyphs-are = o .glyphs ∙ ap (λ (x : List ℕ). besideOf (inOrder x)) (pairs-maps (λ e. e .class) (λ e. e .glyph) es)
+  glyphs-are = o .glyphs ∙ ap (λ (x : List ℕ). besideOf (ascending x)) (pairs-maps (λ e. e .class) (λ e. e .glyph) es)
 
   items-are : ks ≡ map (λ z. z / 65536) zs
   unfolding keysOf classPairs
-  items-are = o .classes ∙ ap (λ (x : List ℕ). keysOf (inOrder x)) (pairs-maps (λ e. e .class) (λ e. e .glyph) es)
+  items-are = o .classes ∙ ap (λ (x : List ℕ). keysOf (ascending x)) (pairs-maps (λ e. e .class) (λ e. e .glyph) es)
 
   items-long : length ks ≡ length zs
   items-long = ap length items-are ∙ length-map (λ z. z / 65536) zs
 
   pub items-many : length ks ≡ length es
-  items-many = items-long ∙ length-inOrder (map itemKey es) ∙ length-map itemKey es
+  items-many = items-long ∙ length-ascending (map itemKey es) ∙ length-map itemKey es
 
   pub glyphs-many : length gs ≡ length es
-  glyphs-many = ap length glyphs-are ∙ length-map (λ z. z % 65536) zs ∙ length-inOrder (map itemKey es) ∙ length-map itemKey es
+  glyphs-many = ap length glyphs-are ∙ length-map (λ z. z % 65536) zs ∙ length-ascending (map itemKey es) ∙ length-map itemKey es
 
   item-at : (i : ℕ) → getD ks i 0 ≡ getD zs i 0 / 65536
   item-at i = ap (λ (x : List ℕ). getD x i 0) items-are ∙ List·getD-map (λ z. z / 65536) zs i 0
 
   pub items-ascend : (i j : ℕ) → i ≤ j → j < length ks → getD ks i 0 ≤ getD ks j 0
   items-ascend i j h l =
-      let r : getD zs i 0 ≤ getD zs j 0 = rises-at zs 0 i j (inOrder-rises (map itemKey es)) h (omega (arith, items-long)) in
+      let r : getD zs i 0 ≤ getD zs j 0 = rises-at zs 0 i j (ascending-rises (map itemKey es)) h (omega (arith, items-long)) in
       omega (arith, item-at i, item-at j)
 
   -- the item of a number lies in the range
@@ -143,8 +144,8 @@ module _ (gs ks : List ℕ) (es : List Entry) (o : ByClass es gs ks) (up : Ascen
         same : (e : Entry) → e .glyph < 65536 → itemKey e / 65536 ≡ e .class
         same e h = omega arith
 
-    part-keys : part zs a b ≡ inOrder (map itemKey (within lo hi es))
-    part-keys = sym range-part ∙ sift-inOrder (inKey lo hi) (map itemKey es) ∙ ap inOrder range-keys
+    part-keys : part zs a b ≡ ascending (map itemKey (within lo hi es))
+    part-keys = sym range-part ∙ sift-ascending (inKey lo hi) (map itemKey es) ∙ ap ascending range-keys
 
     part-pairs : pairs (part gs a b) (part ks a b) ≡ map turned (part zs a b)
     part-pairs =
@@ -152,9 +153,9 @@ module _ (gs ks : List ℕ) (es : List Entry) (o : ByClass es gs ks) (up : Ascen
         ∙ ap₂ (λ (x y : List ℕ). pairs x y) (part-map (λ z. z % 65536) zs a b) (part-map (λ z. z / 65536) zs a b)
         ∙ pairs-maps (λ z. z % 65536) (λ z. z / 65536) (part zs a b)
 
-    ordered : inOrder (pairs (part gs a b) (part ks a b)) ≡ map glyphKey (within lo hi es)
+    ordered : ascending (pairs (part gs a b) (part ks a b)) ≡ map glyphKey (within lo hi es)
     ordered =
-        ap inOrder (part-pairs ∙ ap (map turned) part-keys) ∙ in-glyph-order (within lo hi es) (within-ascends lo hi es 0 up) (small-within lo hi es small)
+        ap ascending (part-pairs ∙ ap (map turned) part-keys) ∙ in-glyph-order (within lo hi es) (within-ascends lo hi es 0 up) (small-within lo hi es small)
 
     pub range-glyphs : glyphOrder gs ks a b ≡ map (λ e. e .glyph) (within lo hi es)
     range-glyphs = ap keysOf ordered ∙ glyphs-back (within lo hi es) (small-within lo hi es small)

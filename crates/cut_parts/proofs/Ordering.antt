@@ -9,15 +9,16 @@ use lib.ListN.{length, getD, take, drop, List·getD-eq-default}
 use lib.Seq.{drop-drop}
 use Rattle.folds.specs.Folds.{before}
 use Rattle.folds.specs.Lists.{put, part}
+use Rattle.folds.specs.Ascending.{ascending}
 use Rattle.folds.proofs.Tests.{either}
 use Rattle.folds.proofs.Folds.{length-upto, before-none, before-more}
 use Rattle.folds.proofs.Parts.{length-part, part-same, getD-default}
 use Rattle.folds.proofs.Put.{length-put, put-below, put-above}
 use Rattle.folds.proofs.WrittenPart.{part-written}
 use Rattle.folds.proofs.Moved.{length-map}
+use Rattle.folds.proofs.Ascending.{length-ascending}
 use Rattle.cut_rules.specs.Ranges.{from}
-use Rattle.glyph_sort.specs.Pairs.{keyedAt, pairs, keysOf, besideOf, inOrder}
-use Rattle.glyph_sort.proofs.Order.{length-inOrder}
+use Rattle.glyph_sort.specs.Pairs.{keyedAt, pairs, keysOf, besideOf}
 use Rattle.cut_parts.specs.Tables.{lowAt, highAt, PartEnd, Halved}
 use Rattle.cut_parts.specs.Order.{glyphOrder, itemOrder, Sorted, PartsOrdered}
 use Rattle.cut_parts.proofs.Parting.{halved-none, halved-next}
@@ -27,12 +28,12 @@ use Rattle.cut_parts.proofs.Parting.{halved-none, halved-next}
 pub glyph-order-long : (gs ks : List ℕ) (a b : ℕ) → a ≤ b → b ≤ length gs → length (glyphOrder gs ks a b) ≡ b - a
 unfolding keysOf pairs
 glyph-order-long gs ks a b h l =
-    length-map _ (inOrder (pairs (part gs a b) (part ks a b))) ∙ length-inOrder (pairs (part gs a b) (part ks a b)) ∙ length-upto (keyedAt (part gs a b) (part ks a b)) (length (part gs a b)) ∙ length-part gs a b h l
+    length-map _ (ascending (pairs (part gs a b) (part ks a b))) ∙ length-ascending (pairs (part gs a b) (part ks a b)) ∙ length-upto (keyedAt (part gs a b) (part ks a b)) (length (part gs a b)) ∙ length-part gs a b h l
 
 pub item-order-long : (gs ks : List ℕ) (a b : ℕ) → a ≤ b → b ≤ length gs → length (itemOrder gs ks a b) ≡ b - a
 unfolding besideOf pairs
 item-order-long gs ks a b h l =
-    length-map _ (inOrder (pairs (part gs a b) (part ks a b))) ∙ length-inOrder (pairs (part gs a b) (part ks a b)) ∙ length-upto (keyedAt (part gs a b) (part ks a b)) (length (part gs a b)) ∙ length-part gs a b h l
+    length-map _ (ascending (pairs (part gs a b) (part ks a b))) ∙ length-ascending (pairs (part gs a b) (part ks a b)) ∙ length-upto (keyedAt (part gs a b) (part ks a b)) (length (part gs a b)) ∙ length-part gs a b h l
 
 -- a part that was lent is back
 pub put-back : (xs ys zs : List ℕ) (a b : ℕ) → a ≤ b → ys ≡ zs → length zs ≡ b - a → take a xs ++ (ys ++ drop (b - a) (drop a xs)) ≡ put xs a zs
@@ -171,9 +172,9 @@ module _ (gs ks cs : List ℕ) (n : ℕ) (gs′ ks′ : List ℕ) (at k : ℕ) (
       this : (part gs″ at end ≡ glyphOrder gs ks at end) × (part ks″ at end ≡ itemOrder gs ks at end)
       this = (
         ap₂ (λ (x : List ℕ) (m : ℕ). part x at m) q (sym glyphs-fit) ∙ part-written gs′ at (glyphOrder gs′ ks′ at end) (omega (arith, e .after, glyphs-in))
-            ∙ ap₂ (λ (x y : List ℕ). keysOf (inOrder (pairs x y))) glyph-part item-part,
+            ∙ ap₂ (λ (x y : List ℕ). keysOf (ascending (pairs x y))) glyph-part item-part,
         ap₂ (λ (x : List ℕ) (m : ℕ). part x at m) r (sym items-fit) ∙ part-written ks′ at (itemOrder gs′ ks′ at end) (omega (arith, e .after, e .inside))
-            ∙ ap₂ (λ (x y : List ℕ). besideOf (inOrder (pairs x y))) glyph-part item-part,
+            ∙ ap₂ (λ (x y : List ℕ). besideOf (ascending (pairs x y))) glyph-part item-part,
       )
 
       before-this : (m a b : ℕ) → m < k → Halved ks (lowAt cs m) a → Halved ks (highAt n cs m) b → (part gs″ a b ≡ glyphOrder gs ks a b) × (part ks″ a b ≡ itemOrder gs ks a b)

@@ -4,18 +4,19 @@ use mathlib.Core.Path.{_≡_}
 use mathlib.Core.List.{List}
 use lib.ListN.{length, getD}
 use Rattle.folds.specs.Lists.{part}
+use Rattle.folds.specs.Ascending.{ascending}
 use Rattle.ot_layouts.specs.Coverage.{Entry}
 use Rattle.cut_rules.specs.Ranges.{from}
-use Rattle.glyph_sort.specs.Pairs.{pairs, keysOf, besideOf, inOrder}
+use Rattle.glyph_sort.specs.Pairs.{pairs, keysOf, besideOf}
 use Rattle.cut_parts.specs.Tables.{paired, lowAt, highAt, entriesAt, Halved}
 
 -- the pairs from index a up to b by glyph: their glyphs
 abbrev pub glyphOrder : List ℕ → List ℕ → ℕ → ℕ → List ℕ
-glyphOrder gs ks a b = keysOf (inOrder (pairs (part gs a b) (part ks a b)))
+glyphOrder gs ks a b = keysOf (ascending (pairs (part gs a b) (part ks a b)))
 
 -- and their items
 abbrev pub itemOrder : List ℕ → List ℕ → ℕ → ℕ → List ℕ
-itemOrder gs ks a b = besideOf (inOrder (pairs (part gs a b) (part ks a b)))
+itemOrder gs ks a b = besideOf (ascending (pairs (part gs a b) (part ks a b)))
 
 -- the items ascend, and so do the cuts of n items
 pub record Sorted (gs ks cs : List ℕ) (n : ℕ) : Type 0 where

@@ -12,6 +12,8 @@ use Rattle.folds.specs.Folds as Folds
 use Rattle.folds.specs.Folds.{all, sum, before, orElse, firstAt, flat, upto, run}
 use Rattle.folds.specs.Lists as Lists
 use Rattle.folds.specs.Lists.{find, among, put, join, part, sift, isEmpty, given, isSome, andThen, Bytes}
+use Rattle.folds.specs.Ascending as Ascending
+use Rattle.folds.specs.Ascending.{ascending}
 use Rattle.folds.specs.Moments.{Buffer, came, left}
 use Rattle.folds.proofs.Compared as compared
 use Rattle.folds.proofs.Compared.{same, every}
@@ -51,12 +53,14 @@ pins =
     ∷ same (sift (λ x. ltb 2 x) (3 ∷ 1 ∷ 4 ∷ 2 ∷ [])) (3 ∷ 4 ∷ []) ∷ isEmpty {A = ℕ} [] ∷ not (isEmpty {A = ℕ} (1 ∷ []))
     ∷ eqb (answered (given true 5)) 5 ∷ eqb (answered (given false 5)) 99 ∷ isSome (some 0) ∷ not (isSome none)
     ∷ eqb (answered (andThen (some 3) (λ (n : ℕ). some (n + 1)))) 4 ∷ eqb (answered (andThen {A = ℕ} none (λ n. some n))) 99
+    -- `ascending`: equal numbers stay as many
+    ∷ same (ascending (3 ∷ 1 ∷ 4 ∷ 1 ∷ [])) (1 ∷ 1 ∷ 3 ∷ 4 ∷ []) ∷ same (ascending []) []
     -- `came`, `left`
     ∷ same (came buffer) (1 ∷ []) ∷ same (left buffer) (2 ∷ [])
     ∷ []
 
 pub pinned : every pins ≡ true
-unfolding Folds.computes Lists.computes compared.computes answered pins
+unfolding Folds.computes Lists.computes Ascending.computes compared.computes answered pins
 pinned = refl
 
 -- `Bytes`: 255 is one, and 256 is none

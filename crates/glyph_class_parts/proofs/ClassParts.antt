@@ -11,16 +11,17 @@ use lib.Seq.{getD-append-add}
 use borrow.Author.Tests.{le-leb, lt-leb, lt-ltb, le-ltb, eq-eqb, ne-eqb, leb-true, ltb-true}
 use Rattle.folds.specs.Folds.{flat}
 use Rattle.folds.specs.Lists.{sift, part}
+use Rattle.folds.specs.Ascending.{ascending}
 use Rattle.folds.proofs.Tests.{either, and-both, and-intro, by-test}
 use Rattle.folds.proofs.Folds.{upto-cons}
 use Rattle.folds.proofs.Each.{Each, each-at}
 use Rattle.folds.proofs.Moved.{sift-both}
+use Rattle.folds.proofs.Ascending.{Rises, ascending-rises, ascending-alike, ascending-again, length-ascending}
 use Rattle.ot_layouts.specs.Coverage.{Entry, Ascends, Under}
 use Rattle.ot_layouts.proofs.Runs.{ascends-sift, under-sift}
 use Rattle.glyph_rules.specs.Entries.{within}
-use Rattle.glyph_sort.specs.Pairs.{keyedAt, pairs, inOrder, keysOf, besideOf}
+use Rattle.glyph_sort.specs.Pairs.{keyedAt, pairs, keysOf, besideOf}
 use Rattle.glyph_sort.specs.ByClass.{classPairs, ByClass}
-use Rattle.glyph_sort.proofs.Order.{Rises, inOrder-rises, inOrder-alike, inOrder-again, length-inOrder}
 use Rattle.glyph_sort.proofs.Between.{parted, key-part}
 use Rattle.glyph_class_parts.specs.ClassParts.{startOf, ClassEnd}
 
@@ -124,45 +125,45 @@ module _ (es : List Entry) (up : Ascends 0 es) (under : Under 65536 es) where
   starts-at : (c : ℕ) → length (sift (λ z. ltb z (65536 * c)) (map pairOf es)) ≡ startOf es c
   starts-at c = ap length (sift-map pairOf (λ z. ltb z (65536 * c)) es ∙ ap (map pairOf) (sift-below c es under)) ∙ length-map (within 0 c es) pairOf
 
-  in-class-order : classPairs es ≡ inOrder (map pairOf es)
+  in-class-order : classPairs es ≡ ascending (map pairOf es)
   unfolding classPairs
-  in-class-order = ap inOrder (pairs-map es)
+  in-class-order = ap ascending (pairs-map es)
 
   length-pairs : length (classPairs es) ≡ length es
-  length-pairs = ap length in-class-order ∙ length-inOrder (map pairOf es) ∙ length-map es pairOf
+  length-pairs = ap length in-class-order ∙ length-ascending (map pairOf es) ∙ length-map es pairOf
 
   class-pairs : (c : ℕ) → part (classPairs es) (startOf es c) (startOf es (c + 1)) ≡ map pairOf (within c (c + 1) es)
   unfolding within
   class-pairs c =
       let next : 65536 * c + 65536 ≡ 65536 * (c + 1) = omega arith in
       rw in-class-order
-      (ap₂ (λ (m n : ℕ). part (inOrder (map pairOf es)) m n) (sym (starts-at c)) (sym (starts-at (c + 1)) ∙ ap (λ (n : ℕ). length (sift (λ z. ltb z n) (map pairOf es))) (sym next))
+      (ap₂ (λ (m n : ℕ). part (ascending (map pairOf es)) m n) (sym (starts-at c)) (sym (starts-at (c + 1)) ∙ ap (λ (n : ℕ). length (sift (λ z. ltb z n) (map pairOf es))) (sym next))
       ∙ key-part c (map pairOf es)
-      ∙ ap inOrder (sift-map pairOf (λ z. eqb (z / 65536) c) es ∙ ap (map pairOf) (sift-class c es under))
-      ∙ inOrder-again (map pairOf (within c (c + 1) es)) (class-rises c (within c (c + 1) es) 0 0 (ascends-sift (λ e. leb c (e .class) && ltb (e .class) (c + 1)) es 0 up) (each-passes (λ e. leb c (e .class) && ltb (e .class) (c + 1)) es) (omega arith)))
+      ∙ ap ascending (sift-map pairOf (λ z. eqb (z / 65536) c) es ∙ ap (map pairOf) (sift-class c es under))
+      ∙ ascending-again (map pairOf (within c (c + 1) es)) (class-rises c (within c (c + 1) es) 0 0 (ascends-sift (λ e. leb c (e .class) && ltb (e .class) (c + 1)) es 0 up) (each-passes (λ e. leb c (e .class) && ltb (e .class) (c + 1)) es) (omega arith)))
 
   -- the pairs below class c, and those from it on
   module _ (c : ℕ) where
     low : List ℕ
-    low = sift (λ z. ltb z (65536 * c)) (inOrder (map pairOf es))
+    low = sift (λ z. ltb z (65536 * c)) (ascending (map pairOf es))
 
     high : List ℕ
-    high = sift (leb (65536 * c)) (inOrder (map pairOf es))
+    high = sift (leb (65536 * c)) (ascending (map pairOf es))
 
     low-high : classPairs es ≡ low ++ high
     unfolding low high
-    low-high = in-class-order ∙ parted (65536 * c) (inOrder (map pairOf es)) 0 (inOrder-rises (map pairOf es))
+    low-high = in-class-order ∙ parted (65536 * c) (ascending (map pairOf es)) 0 (ascending-rises (map pairOf es))
 
     low-length : length low ≡ startOf es c
     unfolding low
-    low-length = inOrder-alike (map pairOf es) (λ z. ltb z (65536 * c)) ∙ starts-at c
+    low-length = ascending-alike (map pairOf es) (λ z. ltb z (65536 * c)) ∙ starts-at c
 
     pairs-before : (k : ℕ) → k < startOf es c → getD (classPairs es) k 0 < 65536 * c
     unfolding low high
     pairs-before k l =
         let h : k < length low = omega (arith, low-length) in
         rw (low-high, List·getD-append low high 0 k h)
-        (ltb-true (getD low k 0) (65536 * c) (each-at (λ z. ltb z (65536 * c) ≡ true) low (each-passes (λ z. ltb z (65536 * c)) (inOrder (map pairOf es))) k h 0))
+        (ltb-true (getD low k 0) (65536 * c) (each-at (λ z. ltb z (65536 * c) ≡ true) low (each-passes (λ z. ltb z (65536 * c)) (ascending (map pairOf es))) k h 0))
 
     pairs-from : (k : ℕ) → startOf es c ≤ k → k < length es → 65536 * c ≤ getD (classPairs es) k 0
     unfolding low high
@@ -170,7 +171,7 @@ module _ (es : List Entry) (up : Ascends 0 es) (under : Under 65536 es) where
         let e : length low + (k - length low) ≡ k = omega (arith, low-length) in
         let h : k - length low < length high = omega (arith, low-length, length-append low high, ap length low-high, length-pairs) in
         rw (low-high, ← e, getD-append-add low high (k - length low) 0)
-        (leb-true (65536 * c) (getD high (k - length low) 0) (each-at (λ z. leb (65536 * c) z ≡ true) high (each-passes (leb (65536 * c)) (inOrder (map pairOf es))) (k - length low) h 0))
+        (leb-true (65536 * c) (getD high (k - length low) 0) (each-at (λ z. leb (65536 * c) z ≡ true) high (each-passes (leb (65536 * c)) (ascending (map pairOf es))) (k - length low) h 0))
 
   -- starts do not go down, and are no more than there are entries
   pub starts-rise : (i j : ℕ) → i ≤ j → startOf es i ≤ startOf es j

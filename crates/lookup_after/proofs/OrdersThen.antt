@@ -2,13 +2,12 @@
 use Prim.Native.Nat.{ℕ, _+_}
 use mathlib.Core.Path.{_≡_, refl, ap, ap₂, _∙_}
 use mathlib.Core.Bool.{true}
-use mathlib.Core.List.{List, [], _++_, map, append-nil}
-use mathlib.Core.Option.{none}
+use mathlib.Core.List.{List, _++_, map, append-nil}
 use lib.ListN.{length, getD}
+use Rattle.folds.specs.Ascending.{ascending}
 use Rattle.folds.proofs.Each.{Each, each-flat}
 use Rattle.ot_layouts.specs.Lookup.{lookupHeader}
 use Rattle.store_rules.specs.Store.{Store, Link, linksOf, isOffset, ordersIn, ordersOf}
-use Rattle.store_rules.specs.InOrder.{ascending}
 use Rattle.store_rules.proofs.SlotLinks.{slots-each}
 use Rattle.store_rules.proofs.Orders.{orders-append, orders-offsets}
 use Rattle.pair_rules.specs.Written.{newTables, splitStore}

@@ -10,12 +10,11 @@ use borrow.Author.Tests.{leb-true}
 use Rattle.folds.specs.Folds.{sum}
 use Rattle.folds.specs.Lists.{join}
 use Rattle.folds.proofs.Folds.{all-at}
+use Rattle.folds.proofs.Each.{each-at}
 use Rattle.folds.proofs.Put.{length-put, put-front}
 use Rattle.store_rules.specs.Store.{Store, Link, linksOf}
 use Rattle.store_rules.specs.Appended.{appended}
 use Rattle.store_rules.specs.InOrder.{inOrder}
-use Rattle.store_rules.proofs.LinksAscend.{Climb}
-use Rattle.folds.proofs.Each.{Each, each-then}
 use Rattle.call_rules.specs.declared.Needs.{Needs}
 use Rattle.call_rules.specs.Needs.{lentOf, countsOf, roomShort}
 use Rattle.call_room.proofs.Together.{Holds, holds}
@@ -30,10 +29,8 @@ use Rattle.lookup_rules.specs.Listed.{rewritten}
 use Rattle.lookup_rules.specs.Marks.{Marked}
 use Rattle.lookup_rules.specs.Written.{newSlots, newLookupLinks, redirected, enteredStore, countsFit, linksNeeded, lookupsNeed}
 use Rattle.lookup_rules.proofs.Counts.{all-needed}
-use Rattle.lookup_rules.proofs.RedirectedRows.{Old}
-use Rattle.lookup_links.specs.Redirecting.{OldLink}
 use Rattle.lookup_after.proofs.Entering.{Entering, entering}
-use Rattle.lookup_after.proofs.Unled.{unled, climb-unled, old-links}
+use Rattle.lookup_after.proofs.Unled.{tables-used}
 use Rattle.lookup_after.proofs.NewLookups.{named, room, many-lookups}
 use Rattle.lookup_after.proofs.LookupsStay.{still-good, same-counts, same-lookups, same-links}
 use Rattle.lookup_carrying.specs.Carrying.{allNeeded, CarryingAll, EnteredAt}
@@ -99,6 +96,7 @@ module _ {s : Store} {t : ℕ} {p : PairTable} {n : Needs} {gs ks cs list marks 
         };
         marked = subst (λ (x : List ℕ). Marked x marks) (k .found .lookups) (k .found .marked);
         few = omega (arith, k .few, tables-many s t cs);
+        used = λ j h. each-at (λ c. c < s′ .objectCount) us (tables-used s l t cs e) j h 0;
         fits = same-counts s t cs g us rs each ∙ fit;
         objectsIn = omega (arith, r .objectsIn);
         objectsMost = omega (arith, r .objectsMost);
@@ -106,12 +104,6 @@ module _ {s : Store} {t : ℕ} {p : PairTable} {n : Needs} {gs ks cs list marks 
         bytesMost = subst (λ (x : List (List ℕ)). s′ .byteCount + length (join x) ≤ 16777216) (sym (same-lookups s t cs g us rs each)) (r .bytesMost);
         linksIn = omega (arith, e .linksRoom, links-few, links-then s t cs g, links-length s t cs g);
         linksMost = omega (arith, e .linksMost, links-few, links-then s t cs g);
-        climbs =
-            subst (λ (more : List Link). Climb 0 0 (s′ .objectCount + length rs) (linksOf s′ ++ more)) (sym (same-links s t cs g us rs each (s′ .objectCount)))
-            (climb-unled s l t cs e);
-        olds =
-            subst (λ (more : List Link). Each (OldLink (s′ .objectCount)) (linksOf s′ ++ more)) (sym (same-links s t cs g us rs each (s′ .objectCount)))
-            (each-then (Old (s′ .objectCount) rs) (OldLink (s′ .objectCount)) (λ x o. record { formed = o .formed; below = o .below }) (unled s l t cs e) (old-links s l t cs e));
       }
 
   -- the new lookups are the same, written from the old store or from the one after the split

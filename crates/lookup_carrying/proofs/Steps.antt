@@ -1,18 +1,22 @@
 -- New lookups, their links and the redirection, step by step: what each asks, and that the counts fit. Assumes nothing.
 use Prim.Native.Nat.{ℕ, _+_, _<_, _≤_}
-use mathlib.Core.Path.{refl, sym, subst}
+use mathlib.Core.Path.{refl}
 use mathlib.Core.List.{List}
 use native.Mathlib.Omega.{arith}
 use lib.ListN.{length, getD}
-use Rattle.folds.proofs.Each.{Each}
+use borrow.Author.Tests.{leb-true}
+use Rattle.folds.proofs.Folds.{all-at}
+use Rattle.folds.proofs.Each.{Each, each-of}
 use Rattle.store_rules.specs.Store.{Store, lent}
-use Rattle.store_rules.proofs.LinksAscend.{Climb}
+use Rattle.store_rules.proofs.Sound.{Fits, sound-fits}
 use Rattle.store_link_rows.specs.Copies.{Copied}
 use Rattle.store_link_rows.proofs.Copying.{copied-long}
 use Rattle.store_object_rows.specs.Objects.{Written}
-use Rattle.lookup_rules.specs.Written.{newLookups, newLookupLinks}
+use Rattle.lookup_rules.specs.Written.{newSlots, newLookups, newLookupLinks, countFits, countsFit}
+use Rattle.lookup_rules.proofs.Unled.{climb-unled, old-links}
 use Rattle.lookup_links.specs.Entering.{Entering, EnteringLent}
-use Rattle.lookup_links.specs.Redirecting.{OldLink, Redirecting}
+use Rattle.lookup_links.specs.Redirecting.{Redirecting}
+use Rattle.lookup_links.proofs.Unled.{redirecting}
 use Rattle.lookup_new_objects.specs.Written.{WritingLookups}
 use Rattle.lookup_carrying.specs.Lookups.{LookupsReady}
 use Rattle.lookup_carrying.proofs.Entered.{many-new, all-links}
@@ -63,18 +67,20 @@ module _ {d o ls : List ℕ} (c : List ℕ) {t : ℕ} {us marks ps : List ℕ} (
     pub rows-fit : rows < 4294967296
     rows-fit = omega (arith, w .next, k .linksMost)
 
+    -- the links before they are redirected
+    fit : Fits s
+    fit = sound-fits s (k .sounds)
+
+    tables-used : Each (λ c. c < n) us
+    tables-used = each-of (λ c. c < n) us 0 (k .used)
+
+    counted : (m : ℕ) → m < length ps → length (newSlots s t us (getD ps m 0)) ≤ 65535
+    unfolding countsFit
+    counted m h = leb-true (length (newSlots s t us (getD ps m 0))) 65535 (all-at (λ m. countFits (newSlots s t us (getD ps m 0))) (length ps) (k .fits) m h)
+
     pub redirect-asked : Redirecting ls′ rows marks n
     redirect-asked =
         let long = copied-long ls c (getD c 2 0) (newLookupLinks s t us ps n) (record { behind = omega arith; fits = k .linksIn }) ls′ rows w in
-        let all = all-links d o ls c t us ps (k .linksIn) w in
-        record {
-          leading = record {
-            room = omega (arith, w .next, k .linksIn);
-            lookups = ps;
-            marked = k .marked;
-            numbers = omega (arith, k .objectsMost);
-          };
-          bound = n + length ps;
-          climbs = subst (Climb 0 0 (n + length ps)) (sym all) (k .climbs);
-          olds = subst (Each (OldLink n)) (sym all) (k .olds);
-        }
+        redirecting (record { room = omega (arith, w .next, k .linksIn); lookups = ps; marked = k .marked; numbers = omega (arith, k .objectsMost) })
+        (omega (arith, k .objectsMost)) (all-links d o ls c t us ps (k .linksIn) w)
+        (climb-unled s t us ps s fit fit (omega arith) tables-used counted) (k .objectsMost) (old-links s t us ps s fit fit (omega arith) tables-used counted)

@@ -17,8 +17,8 @@ use Rattle.store_rules.proofs.Sound.{Fits, sound-fits}
 use Rattle.store_reader.specs.declared.LinkRows.{LinkRows}
 use Rattle.store_reader.specs.Rows.{Inside, InOrder, ParentRows}
 use Rattle.store_reader.proofs.Bytes.{inside}
-use Rattle.store_reader.proofs.Rows.{in-order, rows-in-order}
-use Rattle.store_link_rows.proofs.OwnLinks.{positions-low, own-links}
+use Rattle.store_reader.proofs.Rows.{in-order, rows-in-order, positions-low}
+use Rattle.store_link_rows.proofs.OwnLinks.{own-links}
 use Rattle.lookup_rules.specs.Listed.{ofPairs, names, goodLookup}
 use Rattle.lookup_rules.proofs.NewLookup.{exact-long}
 use Rattle.lookup_rules.proofs.Listed.{good-exact}

@@ -1,4 +1,4 @@
-// A list or a lookup by itself: whether it has its length and links at slots alone, and whether a lookup is to be rewritten.
+// A list or a lookup by itself: whether it has its length and offsets at slots alone, and whether a lookup is to be rewritten.
 use ot_lookup::LIST_HEADER;
 use ot_lookup::LOOKUP_HEADER;
 use ot_lookup::is_of_pairs;
@@ -29,7 +29,7 @@ ghost use Rattle.lookup_rules.specs.Listed.{goodList, goodLookup};
 ghost use Rattle.lookup_checks.specs.Objects.{ObjectInUse};
 ghost use Rattle.lookup_checks.specs.Rows.{RowsIn, rowCount, leadsAt, toRewrite};
 
-// Whether a list has its length, and each of its links stands at a slot.
+// Whether a list has its length, and each of its offsets stands at a slot.
 pub fn list_fits(data: &[u8], objects: &[u32], links: &[u32], counts: [u32; 3], list: u32) -> bool
     requires { ⌜ ObjectInUse (storeNowWith «data» objects links counts) list ⌝ }
     ensures { λ r. ⌜ r ≡ goodList (storeCameWith «data» objects links counts) list ⌝ }
@@ -59,10 +59,14 @@ pub fn lookup_fits(
     all_at(links, counts, lookup, LOOKUP_HEADER, subtable_count(bytes))
 }
 
-// Whether each link of `parent` stands at one of `count` slots, the first at `start`.
+// Whether each offset of `parent` stands at one of `count` slots, the first at `start`.
 fn all_at(links: &[u32], counts: [u32; 3], parent: u32, start: u32, count: u16) -> bool
     requires { ⌜ InOrder (now links) (getD counts 2 0) × (parent < 65536) ⌝ }
-    ensures { λ r. ⌜ ((b o : List ℕ) → sound (lent b o (came links) counts) ≡ true → r ≡ allAt (lent b o (came links) counts) parent (isOneOf start count)) ⌝ }
+    ensures { λ r. ⌜
+        ((b o : List ℕ)
+        → sound (lent b o (came links) counts) ≡ true
+        → r ≡ allAt (lent b o (came links) counts) parent (isOneOf start count))
+        ⌝ }
 {
     let rows = rows_of(links, counts[2] as usize, parent);
     rows_at_slots(links, rows, start, count)

@@ -7,9 +7,8 @@ use lib.ListN.{length, getD}
 use Rattle.folds.specs.Folds.{flat}
 use Rattle.store_rules.specs.Store.{Link, lent, linksOf}
 use Rattle.store_rules.proofs.Sound.{sound-fits}
-use Rattle.store_reader.proofs.Rows.{in-order}
+use Rattle.store_reader.proofs.Rows.{in-order, positions-low}
 use Rattle.store_link_rows.specs.Copies.{inUse, Copied}
-use Rattle.store_link_rows.proofs.OwnLinks.{positions-low}
 use Rattle.store_link_rows.proofs.Copying.{Turns, turns-start, turns-link, turns-in-order, turns-room, turns-most, turns-turn, turns-stop}
 use Rattle.lookup_rules.specs.Written.{newLookupLinks}
 use Rattle.lookup_links.specs.Copies.{lookupCopies, LookupReady}

@@ -3,4 +3,5 @@ pub mod Rows
 pub mod Lookup
 pub mod Entering
 pub mod Redirecting
+pub mod Unled
 mod Reordering

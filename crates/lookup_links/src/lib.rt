@@ -151,7 +151,7 @@ fn lead_links(links: &mut [u32], count: usize, marks: &[u32], first: u32)
     }
 }
 
-// The same, and each parent's order-only rows are put in order again.
+// The same, and then the order-only rows of each parent are put in order again, which go by their children.
 pub fn redirect_links(links: &mut [u32], count: usize, marks: &[u32], first: u32)
     requires { ⌜ Redirecting (now links) count (now marks) first ⌝ }
     ensures { λ _. ⌜
@@ -160,5 +160,5 @@ pub fn redirect_links(links: &mut [u32], count: usize, marks: &[u32], first: u32
         ⌝ }
 {
     lead_links(links, count, marks, first);
-    order_rows(links, count);
+    order_rows(links, count, first);
 }

@@ -1,5 +1,5 @@
 -- New lookups by the number of new tables alone. Assumes nothing.
-use Prim.Native.Nat.{ℕ, _+_, _-_, _*_, _<_}
+use Prim.Native.Nat.{ℕ, _+_, _-_, _*_}
 use mathlib.Core.Path.{_≡_, sym, ap, _∙_}
 use mathlib.Core.Bool.{true}
 use mathlib.Core.List.{List}
@@ -15,8 +15,8 @@ use Rattle.store_rules.specs.Store.{Store, Link, linkAt, childAt, bytesOf}
 use Rattle.store_rules.proofs.Sound.{Fits}
 use Rattle.store_reader.specs.declared.LinkRows.{LinkRows}
 use Rattle.store_reader.specs.Rows.{ParentRows}
-use Rattle.store_link_rows.proofs.OwnLinks.{positions-low, own-links}
-use Rattle.store_reader.proofs.Rows.{in-order}
+use Rattle.store_link_rows.proofs.OwnLinks.{own-links}
+use Rattle.store_reader.proofs.Rows.{in-order, positions-low}
 use Rattle.lookup_rules.specs.Listed.{slotsAt, subtableSlots, goodLookup}
 use Rattle.lookup_rules.specs.Written.{newLookup, newSlots, newLookups, listings}
 use Rattle.lookup_rules.proofs.Filled.{lookup-filled, filled-listings}

@@ -14,10 +14,10 @@ use Rattle.store_rules.specs.Store.{Store, perLink, rowChild, bytesOf, allAt}
 use Rattle.store_rules.proofs.Sound.{Fits, sound-fits, size-bytes, size-most}
 use Rattle.store_reader.specs.declared.LinkRows.{LinkRows}
 use Rattle.store_reader.specs.Rows.{Inside, InOrder, ParentRows}
-use Rattle.store_reader.proofs.Rows.{in-order}
+use Rattle.store_reader.proofs.Rows.{in-order, positions-low}
 use Rattle.store_reader.proofs.Bytes.{inside}
-use Rattle.store_link_rows.proofs.OwnLinks.{positions-low, own-many}
-use Rattle.store_reader.proofs.Rows.{in-order}
+use Rattle.store_link_rows.proofs.OwnLinks.{own-many}
+use Rattle.store_reader.proofs.Rows.{in-order, positions-low}
 use Rattle.lookup_rules.specs.Listed.{subtableSlots, goodLookup}
 use Rattle.lookup_rules.specs.Written.{listings}
 use Rattle.lookup_rules.proofs.NewLookup.{exact-long, new-length}

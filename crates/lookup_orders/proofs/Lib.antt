@@ -1,7 +1,5 @@
-pub mod Children
-pub mod SameRows
-mod Heaps
-mod Sorting
+mod Exchanged
 mod Turns
-mod Blocks
+mod OldRows
 mod Seeking
+mod Blocks

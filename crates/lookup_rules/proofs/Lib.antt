@@ -7,6 +7,7 @@ pub mod Once
 pub mod Listed
 pub mod Redirection
 pub mod RedirectedRows
+pub mod Unled
 pub mod Marks
 pub mod NewLookup
 pub mod Counts

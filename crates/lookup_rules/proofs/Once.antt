@@ -1,6 +1,6 @@
 -- "each once", number by number, and what all numbers of a list pass. Assumes nothing.
 use Prim.Native.Nat.{ℕ, _+_, _≤_, _<_}
-use mathlib.Core.Path.{_≡_, refl, sym, ap, subst, _∙_}
+use mathlib.Core.Path.{_≡_, refl, sym, ap, _∙_}
 use mathlib.Core.Bool.{Bool, true, false, cond, not, _||_}
 use mathlib.Core.List.{List, [], _∷_, _++_, append-nil}
 use native.Mathlib.Omega.{arith}
@@ -13,13 +13,13 @@ use Rattle.folds.specs.Lists.{among, sift, isEmpty}
 use Rattle.folds.proofs.Tests.{true-false, by-test, by-index}
 use Rattle.folds.proofs.Agree.{both-ways}
 use Rattle.folds.proofs.Folds.{all-at, all-intro, flat-more, length-upto}
-use Rattle.folds.proofs.FromTheFront.{upto-at, upto-getD}
+use Rattle.folds.proofs.FromTheFront.{upto-at}
 use Rattle.folds.proofs.Failing.{all-same}
 use Rattle.folds.proofs.Among.{among-more, among-at}
 use Rattle.folds.proofs.Picked.{sift-append}
 use Rattle.folds.proofs.Sums.{sum-zero}
 use Rattle.folds.proofs.Tally.{count, tally-same, tally-one, count-le}
-use Rattle.folds.proofs.Each.{Each, each-at, each-upto, each-among, among-each}
+use Rattle.folds.proofs.Each.{Each, each-at, each-of, each-among, among-each}
 use Rattle.lookup_rules.specs.Listed.{eachOnce}
 use Rattle.lookup_rules.proofs.Slots.{among-once, each-once}
 
@@ -94,9 +94,7 @@ module _ (p : ℕ → Bool) where
   tested xs = all (λ m. p (getD xs m 0)) (length xs)
 
   pub tested-each : (xs : List ℕ) → tested xs ≡ true → Each (λ x. p x ≡ true) xs
-  tested-each xs h =
-      subst (Each (λ x. p x ≡ true)) (upto-getD xs 0)
-      (each-upto (λ x. p x ≡ true) (λ m. getD xs m 0) (length xs) (λ m l. all-at (λ m. p (getD xs m 0)) (length xs) h m l))
+  tested-each xs h = each-of (λ x. p x ≡ true) xs 0 (all-at (λ m. p (getD xs m 0)) (length xs) h)
 
   pub each-tested : (xs : List ℕ) → Each (λ x. p x ≡ true) xs → tested xs ≡ true
   each-tested xs a = all-intro (λ m. p (getD xs m 0)) (length xs) (λ m l. each-at (λ x. p x ≡ true) xs a m l 0)

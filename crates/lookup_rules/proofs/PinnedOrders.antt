@@ -1,9 +1,7 @@
 -- Order-only links redirected, held against small whole stores, as one check. Assumes nothing.
-use Prim.Native.Nat.{ℕ, _*_}
 use mathlib.Core.Path.{_≡_, refl}
 use mathlib.Core.Bool.{Bool, true, not}
 use mathlib.Core.List.{List, [], _∷_, _++_}
-use lib.Dec.{eqb}
 use Rattle.folds.proofs.Compared as compared
 use Rattle.folds.proofs.Compared.{same, every}
 use Rattle.store_rules.specs.Store.{Store, sound, ordersOf}

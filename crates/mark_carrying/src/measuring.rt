@@ -25,7 +25,11 @@ ghost use Rattle.mark_carrying.specs.Measuring.{Measured};
 fn links_from(links: &[u32], counts: [u32; 3], object: u32) -> usize
     requires { ⌜ InOrder (now links) (getD counts 2 0) × (object < 65536) ⌝ }
     ensures { λ r. ⌜ r ≤ getD counts 2 0 ⌝ }
-    ensures { λ r. ⌜ ((b o : List ℕ) → sound (lent b o (came links) counts) ≡ true → r ≡ linksFrom (lent b o (came links) counts) object) ⌝ }
+    ensures { λ r. ⌜
+        ((b o : List ℕ)
+        → sound (lent b o (came links) counts) ≡ true
+        → r ≡ linksFrom (lent b o (came links) counts) object)
+        ⌝ }
 {
     let rows = rows_of(links, counts[2] as usize, object);
     rows.after - rows.first

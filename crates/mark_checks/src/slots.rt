@@ -1,4 +1,4 @@
-// Check 7's first half: every link of the table and of its arrays stands at a slot.
+// Check 7's first half: every offset of the table and of its arrays stands at a slot. Order-only links have no position, and are not asked.
 use crate::MarkTable;
 use ot_markbasepos::Holder;
 use ot_markbasepos::is_slot;
@@ -19,7 +19,7 @@ ghost use Rattle.ot_markbasepos.specs.Kinds.{slotOf};
 ghost use Rattle.mark_rules.specs.Table.{allAtSlots};
 ghost use Rattle.mark_checks.specs.Opens.{Opens};
 
-// Whether each link of the table and of its arrays stands at a slot. An object that is both arrays is judged as either.
+// Whether each offset of the table and of its arrays stands at a slot. An object that is both arrays is judged as either.
 pub fn links_at_slots(links: &[u32], counts: [u32; 3], table: u32, opened: MarkTable) -> bool
     requires { ⌜ ((b o : List ℕ) × Opens (lent b o (now links) counts) table opened) ⌝ }
     ensures { λ r. ⌜
@@ -37,10 +37,14 @@ pub fn links_at_slots(links: &[u32], counts: [u32; 3], table: u32, opened: MarkT
     all_at(links, counts, bases.object, Holder::Bases)
 }
 
-// Whether each link of `parent` stands at a slot of what it is.
+// Whether each offset of `parent` stands at a slot of what it is.
 fn all_at(links: &[u32], counts: [u32; 3], parent: u32, holder: Holder) -> bool
     requires { ⌜ InOrder (now links) (getD counts 2 0) × (parent < 65536) ⌝ }
-    ensures { λ r. ⌜ ((b o : List ℕ) → sound (lent b o (came links) counts) ≡ true → r ≡ allAt (lent b o (came links) counts) parent (slotOf holder)) ⌝ }
+    ensures { λ r. ⌜
+        ((b o : List ℕ)
+        → sound (lent b o (came links) counts) ≡ true
+        → r ≡ allAt (lent b o (came links) counts) parent (slotOf holder))
+        ⌝ }
 {
     let rows = rows_of(links, counts[2] as usize, parent);
     rows_at_slots(links, rows, holder)

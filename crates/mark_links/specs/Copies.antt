@@ -1,5 +1,5 @@
 -- Links of a table's arrays copied to new arrays, from the link rows alone. Assumes nothing.
-use Prim.Native.Nat.{ℕ, _+_, _-_, _*_, _/_, _%_, _≤_, _<_}
+use Prim.Native.Nat.{ℕ, _+_, _-_, _*_, _/_, _%_, _≤_}
 use mathlib.Core.List.{List, _++_}
 use lib.ListN.{length, getD}
 use Rattle.ot_layouts.specs.MarkBasePos.{own, heads, markSlot, baseSlot}

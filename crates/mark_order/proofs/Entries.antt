@@ -5,6 +5,7 @@ use mathlib.Core.List.{List, map}
 use native.Mathlib.Omega.{arith}
 use lib.ListN.{length, getD}
 use Rattle.folds.specs.Folds.{upto, run}
+use Rattle.folds.specs.Ascending.{ascending}
 use Rattle.folds.proofs.FromTheFront.{upto-at, upto-getD}
 use Rattle.folds.proofs.Folds.{length-upto, upto-same}
 use Rattle.folds.proofs.Moved.{map-upto}
@@ -12,7 +13,7 @@ use Rattle.ot_layouts.specs.Coverage.{Entry}
 use Rattle.ot_layouts.specs.MarkBasePos.{markClass}
 use Rattle.ot_layouts.proofs.CoverageGlyphs.{Sorted, sorted-run, sorted-ascends, sorted-under}
 use Rattle.glyph_class_parts.specs.ClassParts.{OrderedByClass}
-use Rattle.glyph_sort.specs.Pairs.{pairs, inOrder, keysOf, besideOf}
+use Rattle.glyph_sort.specs.Pairs.{pairs, keysOf, besideOf}
 use Rattle.glyph_sort.specs.ByClass.{ByClass, classPairs}
 use Rattle.mark_order.specs.Marks.{entriesBy, placesBy}
 
@@ -26,11 +27,11 @@ module _ (b xs : List ℕ) where
   numbers-are = map-upto (λ (e : Entry). e .glyph) (λ i. record { glyph = getD xs i 0; class = markClass b i }) (length xs) ∙ upto-getD xs 0
 
   -- what a sort by class leaves of them
-  pub in-class-order : {ks xs′ ks′ : List ℕ} → ks ≡ upto (markClass b) (length xs) → ks′ ≡ keysOf (inOrder (pairs ks xs)) → xs′ ≡ besideOf (inOrder (pairs ks xs)) → ByClass (entriesBy b xs) xs′ ks′
+  pub in-class-order : {ks xs′ ks′ : List ℕ} → ks ≡ upto (markClass b) (length xs) → ks′ ≡ keysOf (ascending (pairs ks xs)) → xs′ ≡ besideOf (ascending (pairs ks xs)) → ByClass (entriesBy b xs) xs′ ks′
   unfolding classPairs
   in-class-order {ks} e k g =
       let same : pairs ks xs ≡ pairs (map (λ (x : Entry). x .class) (entriesBy b xs)) (map (λ (x : Entry). x .glyph) (entriesBy b xs)) = ap₂ pairs (e ∙ sym classes-are) (sym numbers-are) in
-      record { glyphs = g ∙ ap (λ (z : List ℕ). besideOf (inOrder z)) same; classes = k ∙ ap (λ (z : List ℕ). keysOf (inOrder z)) same }
+      record { glyphs = g ∙ ap (λ (z : List ℕ). besideOf (ascending z)) same; classes = k ∙ ap (λ (z : List ℕ). keysOf (ascending z)) same }
 
 -- ---- numbered by their places
 

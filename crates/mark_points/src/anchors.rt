@@ -1,4 +1,4 @@
-// What the anchors of a class reach and nothing before them did: the counterpart of `find_subgraph_size` as the cut rule calls it. Every link
+// What the anchors of a class reach and nothing before them did: the counterpart of `find_subgraph_size` as the cut rule calls it. Every offset
 // of an array stands at a slot, so that an anchor's link is the row at its slot's position, if there is one.
 use crate::table_info::TableInfo;
 use store_reader::LinkRows;

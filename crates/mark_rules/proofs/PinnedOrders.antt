@@ -1,9 +1,8 @@
 -- Order-only links in splits of mark-to-base tables, held against a small whole store, as one check. Assumes nothing.
-use Prim.Native.Nat.{ℕ, _+_}
+use Prim.Native.Nat.{_+_}
 use mathlib.Core.Path.{_≡_, refl}
 use mathlib.Core.Bool.{Bool, true}
 use mathlib.Core.List.{List, [], _∷_, _++_}
-use lib.ListN.{length, take, drop}
 use lib.Dec.{eqb}
 use Rattle.folds.specs.Lists.{sift}
 use Rattle.folds.proofs.Compared.{same, every}

@@ -1,17 +1,18 @@
 -- Order-only links "stay with the kept table in a split, and are not given to new ones", and other objects keep theirs. Assumes nothing.
 use Prim.Native.Nat.{ℕ}
 use mathlib.Core.Path.{_≡_, refl, ap, ap₂, _∙_}
-use mathlib.Core.Bool.{true, false, not, _&&_}
-use mathlib.Core.List.{List, [], _∷_, _++_, map, map-id, append-nil}
+use mathlib.Core.Bool.{true}
+use mathlib.Core.List.{List, _++_, map, map-id, append-nil}
 use lib.ListN.{length}
 use Rattle.folds.specs.Folds.{flat}
 use Rattle.folds.specs.Lists.{sift}
-use Rattle.folds.proofs.Each.{Each, each-append, each-flat, each-moved}
+use Rattle.folds.proofs.Each.{Each, each-of, each-append, each-flat, each-moved}
 use Rattle.ot_layouts.specs.PairPos.{heads}
 use Rattle.store_rules.specs.Store.{Store, Link, linksOf, isOffset, ordersIn, ordersOf, linkedAt}
 use Rattle.store_rules.specs.Appended.{newNumber}
 use Rattle.store_rules.specs.Header.{kept}
 use Rattle.store_rules.proofs.Shaped.{of-offset}
+use Rattle.store_rules.proofs.LinkRows.{noLink}
 use Rattle.store_rules.proofs.Header.{header-each, kept-kind, kept-parent, kept-order}
 use Rattle.store_rules.proofs.Orders.{orders-append, orders-offsets, orders-stay}
 use Rattle.cut_rules.specs.Ranges.{from, to}
@@ -31,11 +32,7 @@ module _ (s : Store) (t : ℕ) (cs : List ℕ) where
       each-append (λ l. isOffset l ≡ true) (headLinks (shape s t) u (linkedAt s t)) (map (moved (shape s t) u lo) (sift (ofItems t (shape s t) lo hi) (linksOf s)))
       (header-each (shape s t .own) u (linkedAt s t) (λ l. isOffset l ≡ true) (heads (shape s t)) (λ q a. refl))
       (each-moved (λ l. Unit {0}) (λ l. isOffset l ≡ true) (moved (shape s t) u lo) (ofItems t (shape s t) lo hi)
-      (λ l o h. of-offset t l (items-from t (shape s t) lo hi l h .0)) (linksOf s) (any (linksOf s)))
-    where
-      any : (ls : List Link) → Each (λ l. Unit {0}) ls
-      any [] = tt
-      any (l ∷ ls) = (tt, any ls)
+      (λ l o h. of-offset t l (items-from t (shape s t) lo hi l h .0)) (linksOf s) (each-of (λ l. Unit {0}) (linksOf s) noLink (λ k h. tt)))
 
   pub orders-then : (i : ℕ) → ordersOf (splitStore s t cs) i ≡ ordersOf s i
   orders-then i =

@@ -1,4 +1,4 @@
-// Check 7's first half: every link of the table stands at a slot.
+// Check 7's first half: every offset of the table stands at a slot. Order-only links have no position, and are not asked.
 use ot_pairpos::Layout;
 use ot_pairpos::is_slot;
 use store_reader::LinkRows;
@@ -18,7 +18,7 @@ ghost use Rattle.store_rules.specs.Store.{lent, perLink, rowPosition, bytesOf, 
 ghost use Rattle.pair_rules.specs.Table.{allAtSlots};
 ghost use Rattle.folds.specs.Moments.{came};
 
-// Whether each link of `table`, whose layout is known, stands at a slot.
+// Whether each offset of `table`, whose layout is known, stands at a slot.
 pub fn links_at_slots(links: &[u32], counts: [u32; 3], table: u32, layout: Layout) -> bool
     requires { ⌜ (InOrder (now links) (getD counts 2 0)) × (table < 65536) ⌝ }
     ensures { λ r. ⌜

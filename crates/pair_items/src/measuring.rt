@@ -1,5 +1,5 @@
-// The items of a table, measured one after another: the counterpart of `find_subgraph_size` as the cut rules call it. Every link of the
-// table stands at a slot, and rows are in order of position, so that an item's links are the rows within its bytes.
+// The items of a table, measured one after another: the counterpart of `find_subgraph_size` as the cut rules call it. Every offset of
+// the table stands at a slot, and a table's offsets come first and in order of position, so that an item's links are the rows within its bytes.
 use store_reader::next_row;
 use store_walk::subgraph_size;
 ghost use mathlib.Core.Path.{_≡_};

@@ -23,7 +23,7 @@ use Rattle.pair_rules.proofs.ItemLinks.{items-from}
 use Rattle.store_reader.specs.Rows.{keyOf, FirstRow}
 use Rattle.store_reader.proofs.Rows.{row-place, rows-rise}
 use Rattle.store_link_rows.specs.Rows.{positionIn, PositionsRise}
-use Rattle.store_link_rows.proofs.OwnLinks.{span-in-order}
+use Rattle.store_reader.proofs.Rows.{span-in-order}
 use Rattle.pair_new_rows.specs.Blocks.{Plan, plan, edge, grown, Fit}
 use Rattle.pair_links.specs.Parting.{Parting, Between}
 use Rattle.pair_new_rows.proofs.Spreading.{edge-at}

@@ -16,8 +16,8 @@ use Rattle.store_reader.specs.Rows.{orders, InOrder}
 use Rattle.ot_pairpos.specs.declared.Layout.{Layout}
 use Rattle.ot_pairpos.specs.Layout.{shapeWith, Numbered}
 
--- what is known when table t of s, of layout l, is to be split at cs: the cuts ascend to the count, the table ends before all order-only links, the rows are in order,
--- class2 is the object that new tables share, and there is room
+-- what is known when table t of s, of layout l, is to be split at cs: the cuts ascend to the count, the table ends before the places of order-only links, the rows
+-- are in order, class2 is the object that new tables share, and there is room
 pub record Parting (s : Store) (t : ℕ) (l : Layout) (cs : List ℕ) (class2 : ℕ) : Type 0 where
   pub numbered : Numbered l
   pub some : 0 < length cs

@@ -7,6 +7,7 @@ use native.Mathlib.Omega.{arith}
 use lib.ListN.{length, getD, length-map}
 use lib.Dec.{eqb}
 use Rattle.folds.specs.Lists.{put, Bytes}
+use Rattle.folds.specs.Ascending.{ascending}
 use Rattle.folds.proofs.Writing.{put-whole}
 use Rattle.ot_layouts.specs.Coverage.{Entry, coverageOf, coverGlyphs}
 use Rattle.ot_layouts.specs.ClassDef.{classDefOf, classOf}
@@ -14,13 +15,14 @@ use Rattle.ot_layouts.specs.declared.Reading.the-variants.{Readable}
 use Rattle.ot_layouts.proofs.Entries.{ascends-plain}
 use Rattle.ot_layouts.proofs.RunStarts.{entry}
 use Rattle.ot_ranges.specs.Ascending.{Ascending}
-use Rattle.ot_ranges.proofs.Ascending.{ascending, apart}
+use Rattle.ot_ranges.proofs.Ascending as ranges
+use Rattle.ot_ranges.proofs.Ascending.{apart}
 use Rattle.store_rules.specs.Store.{Store, bytesOf, linkedBytes}
 use Rattle.pair_rules.specs.Table.{shape, glyphsOf, entriesOf}
 use Rattle.pair_rules.proofs.Checks.{entries-ascend}
 use Rattle.pair_rules.proofs.Entries.{entries2, entries-glyphs}
 use Rattle.store_reader.specs.Rows.{Inside}
-use Rattle.glyph_sort.specs.Pairs.{pairs, inOrder, keysOf, besideOf}
+use Rattle.glyph_sort.specs.Pairs.{pairs, keysOf, besideOf}
 use Rattle.pair_checks.specs.declared.PairTable.{PairTable}
 use Rattle.pair_checks.specs.Opens.{Opens}
 use Rattle.pair_checks.proofs.Refusals.{format-two}
@@ -56,7 +58,7 @@ module _ {s : Store} {t : ℕ} {p : PairTable} {gs ks : List ℕ} (k : Gathering
       written = glyphs-written (o .coverage) e gs glyphs-many f
 
       glyphs-ascend : Ascending gs′
-      glyphs-ascend = subst Ascending (entries-glyphs s t ∙ sym written) (ascending (map (λ e. e .glyph) (entriesOf s t)) (ascends-plain (entriesOf s t) 0 (entries-ascend s t (o .reads))))
+      glyphs-ascend = subst Ascending (entries-glyphs s t ∙ sym written) (ranges.ascending (map (λ e. e .glyph) (entriesOf s t)) (ascends-plain (entriesOf s t) 0 (entries-ascend s t (o .reads))))
 
       pub glyphs-apart : (i j : ℕ) → i < j → j < length gs′ → getD gs′ i 0 < getD gs′ j 0
       glyphs-apart = apart gs′ glyphs-ascend
@@ -75,5 +77,5 @@ module _ {s : Store} {t : ℕ} {p : PairTable} {gs ks : List ℕ} (k : Gathering
             ∙ ap₂ (λ (x y : List ℕ). map (classOf x) y) (g ∙ ap (bytesOf s) (o .class1 two .linked)) written
             ∙ sym (ap (map (λ (e : Entry). e .class)) (entries2 s t two) ∙ map-map (λ (e : Entry). e .class) (λ (x : ℕ). entry x (classOf (linkedBytes s t 8) x)) (glyphsOf s t))
 
-        pub gathered : Bytes (s .bytes) → {ks′ ks″ gs″ : List ℕ} → ks′ ≡ put ks 0 (map (classOf d) gs′) → ks″ ≡ keysOf (inOrder (pairs ks′ gs′)) → gs″ ≡ besideOf (inOrder (pairs ks′ gs′)) → OrderedByClass (entriesOf s t) gs″ ks″
+        pub gathered : Bytes (s .bytes) → {ks′ ks″ gs″ : List ℕ} → ks′ ≡ put ks 0 (map (classOf d) gs′) → ks″ ≡ keysOf (ascending (pairs ks′ gs′)) → gs″ ≡ besideOf (ascending (pairs ks′ gs′)) → OrderedByClass (entriesOf s t) gs″ ks″
         gathered octets h i j = sorted (o .reads) octets (classes-written h) (written ∙ sym (entries-glyphs s t)) i j

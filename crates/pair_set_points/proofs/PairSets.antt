@@ -7,7 +7,7 @@ use mathlib.Core.Option.{Option, some, none}
 use native.Mathlib.Omega.{arith}
 use lib.Dec.{leb, ltb, eqb}
 use lib.ListN.{length}
-use borrow.Author.Tests.{le-leb, lt-leb, lt-ltb, eq-eqb, leb-true, ltb-true, eqb-true, eqb-false}
+use borrow.Author.Tests.{le-leb, lt-leb, lt-ltb, leb-true, ltb-true, eqb-true, eqb-false}
 use Rattle.folds.specs.Folds.{sum}
 use Rattle.folds.specs.Lists.{isSome}
 use Rattle.folds.proofs.Tests.{and-both, and-first, and-second, by-test, true-false}

@@ -9,6 +9,7 @@ use Rattle.folds.specs.Lists.{put, part, Bytes}
 use Rattle.folds.proofs.Folds.{length-upto}
 use Rattle.folds.proofs.Put.{put-front}
 use Rattle.folds.proofs.Fronts.{front-long}
+use Rattle.folds.proofs.Ascending.{length-ascending}
 use Rattle.ot_layouts.specs.Coverage.{Entry}
 use Rattle.store_rules.specs.Store.{Store}
 use Rattle.cut_filling.proofs.Turns.{placed-front}
@@ -25,7 +26,6 @@ use Rattle.pair_rules.proofs.Entries.{entries-glyphs}
 use Rattle.pair_rules.proofs.TableCuts.{table-cuts}
 use Rattle.glyph_sort.specs.Pairs.{keyedAt, pairs, keysOf, besideOf}
 use Rattle.glyph_sort.specs.ByClass.{classPairs, ByClass}
-use Rattle.glyph_sort.proofs.Order.{length-inOrder}
 use Rattle.pair_plan.specs.declared.Plan.{Plan}
 use Rattle.pair_plan.specs.declared.Decision.{Decision}
 use Rattle.pair_plan.specs.declared.Decision.the-variants.{Cut}
@@ -45,7 +45,7 @@ unfolding classPairs pairs
 class-pairs-long es =
     let ks : List ℕ = map (λ e. e .class) es in
     let gs : List ℕ = map (λ e. e .glyph) es in
-    length-inOrder (pairs ks gs) ∙ length-upto (keyedAt ks gs) (length ks) ∙ length-map es (λ e. e .class)
+    length-ascending (pairs ks gs) ∙ length-upto (keyedAt ks gs) (length ks) ∙ length-map es (λ e. e .class)
 
 -- an entry for each covered glyph
 entries-long : (s : Store) (t : ℕ) → length (entriesOf s t) ≡ length (glyphsOf s t)

@@ -12,12 +12,13 @@ use Rattle.folds.proofs.Moved.{length-map}
 use Rattle.ot_layouts.specs.Lookup.{lookupHeader}
 use Rattle.store_rules.specs.Store.{Store, Link, linksOf, linkAt, isOffset, parentOf, childOf}
 use Rattle.store_rules.specs.Reach.{Reach}
+use Rattle.store_rules.specs.InOrder.{Alike}
 use Rattle.store_rules.proofs.LinkRows.{noLink, row-is}
 use Rattle.store_rules.proofs.LinksFit.{rows-many}
 use Rattle.store_rules.proofs.SlotLinks.{slots-each}
 use Rattle.store_rules.proofs.Ways.{Way}
 use Rattle.store_rules.proofs.Shaped.{of-offset, of-parent}
-use Rattle.store_rules.proofs.InOrder.{Alike, alike-many, alike-at}
+use Rattle.store_rules.proofs.InOrder.{alike-many, alike-at}
 use Rattle.pair_rules.specs.Table.{cutPlaces, setsSorted}
 use Rattle.pair_rules.specs.Written.{newTables, splitStore}
 use Rattle.pair_rules.specs.Reads.{ReadsPairs}

@@ -1,14 +1,13 @@
 -- The store stays sound, and its data bytes, when new tables are entered; and it takes what its room was asked for. Assumes nothing.
-use Prim.Native.Nat.{ℕ, suc, _+_, _*_, _<_, _≤_}
+use Prim.Native.Nat.{ℕ, _+_, _*_, _<_, _≤_}
 use mathlib.Core.Path.{_≡_, refl, sym, ap, subst, _∙_}
 use mathlib.Core.Bool.{true}
 use mathlib.Core.List.{List, [], map}
-use mathlib.Core.Option.{Option, some, none}
+use mathlib.Core.Option.{Option, none}
 use native.Mathlib.Omega.{arith}
 use lib.ListN.{length, getD}
 use Rattle.folds.specs.Lists.{join, Bytes}
-use Rattle.folds.proofs.FromTheFront.{upto-getD}
-use Rattle.folds.proofs.Each.{Each, each-upto, each-append, each-flat, each-map, each-then}
+use Rattle.folds.proofs.Each.{Each, each-of, each-append, each-flat, each-map, each-then}
 use Rattle.ot_layouts.specs.Lookup.{lookupHeader}
 use Rattle.store_rules.specs.Store.{Store, Link, shaped, sound, sizeOf, bytesOf, linksOf}
 use Rattle.store_rules.specs.Appended.{link}
@@ -55,9 +54,6 @@ use Rattle.lookup_after.proofs.NewLookups.{
 module _ (s : Store) (l t : ℕ) (cs : List ℕ) (e : Entering s l t cs) where
   abbrev s′ : Store
   s′ = splitStore s t cs
-
-  abbrev us : List ℕ
-  us = newTables s t cs
 
   abbrev ps : List ℕ
   ps = rewritten s l t
@@ -146,9 +142,8 @@ module _ (s : Store) (l t : ℕ) (cs : List ℕ) (e : Entering s l t cs) where
       let xs = new s l t cs e in
       subst Octets (sym (s″-is s l t cs e))
       (appended-bytes s′ xs (links s l t cs e) (room s l t cs e) h′
-      (subst (Each Bytes) (upto-getD xs [])
-      (each-upto Bytes (λ m. getD xs m []) (length xs)
-      (λ m k. let f : m < length ps = omega (arith, many-lookups s l t cs e) in subst Bytes (sym (lookup-is s l t cs e m f)) (one m f)))))
+      (each-of Bytes xs []
+      (λ m k. let f : m < length ps = omega (arith, many-lookups s l t cs e) in subst Bytes (sym (lookup-is s l t cs e m f)) (one m f))))
     where
       one : (m : ℕ) → m < length ps → Bytes (newLookup (bytesOf s (getD ps m 0)) (length (slots m)))
       one m f =

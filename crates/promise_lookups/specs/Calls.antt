@@ -7,9 +7,9 @@ use mathlib.Core.List.{List, map}
 use mathlib.Core.Option.{some}
 use lib.ListN.{length, getD}
 use Rattle.folds.specs.Lists.{put}
+use Rattle.folds.specs.Ascending.{ascending}
 use Rattle.ot_layouts.specs.Lookup.{lookupType, pairType}
 use Rattle.store_rules.specs.Store.{Store, sound, bytesOf, childAt, ordersOf, headOf, tailOf}
-use Rattle.store_rules.specs.InOrder.{ascending}
 use Rattle.call_rules.specs.declared.Settings.{Settings}
 use Rattle.call_rules.specs.Scratch.{Scratch}
 use Rattle.call_rules.specs.Outcomes.{Outcome}

@@ -15,7 +15,7 @@ use Rattle.ot_layouts.specs.MarkBasePos.{baseCoverAt, markArrayAt, baseArrayAt,
 use Rattle.ot_layouts.proofs.MarkSlots.{is-mark-slot, is-base-slot}
 use Rattle.store_rules.specs.Store.{Store, Link, linkAt, parentOf, childOf, childAt, offsetOf, linkedAt}
 use Rattle.store_rules.specs.Reach.{marked, reached, onCycle, Reach}
-use Rattle.store_rules.specs.Appended.{newNumber, link}
+use Rattle.store_rules.specs.Appended.{newNumber}
 use Rattle.store_rules.specs.Header.{ownChild, headerLinks}
 use Rattle.store_rules.proofs.Reached.{reached-only, reached-all}
 use Rattle.store_rules.proofs.Lookups.{child-row, child-used, linked-is}

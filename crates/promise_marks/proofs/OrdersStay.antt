@@ -2,7 +2,7 @@
 use Prim.Native.Nat.{ℕ, _+_, _-_, _*_}
 use mathlib.Core.Path.{_≡_, refl, ap, ap₂, _∙_}
 use mathlib.Core.Bool.{true}
-use mathlib.Core.List.{List, [], _∷_, _++_, map, map-id, append-nil}
+use mathlib.Core.List.{List, _++_, map-id, append-nil}
 use lib.ListN.{length}
 use Rattle.folds.proofs.Each.{Each, each-append}
 use Rattle.ot_layouts.specs.MarkBasePos.{own, heads, markSlot, baseSlot}
@@ -15,7 +15,7 @@ use Rattle.store_rules.proofs.Orders.{orders-append, orders-offsets, orders-map
 use Rattle.cut_rules.specs.Ranges.{from, to}
 use Rattle.mark_rules.specs.Table.{classesOf, marksOf, marksWithin, basesIn}
 use Rattle.mark_rules.specs.Written.{perTable, markChild, baseChild, markLinks, baseLinks, arrayLinks, tableLinks, freshLinks, splitStore}
-use Rattle.promise_marks.proofs.NewLinks.{piece, keptPiece, stayed, links-then, array-each, fresh-each}
+use Rattle.promise_marks.proofs.NewLinks.{stayed, links-then, array-each, fresh-each}
 
 -- a link is an offset
 abbrev Offset : Link → Type 0

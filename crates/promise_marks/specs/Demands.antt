@@ -163,7 +163,7 @@ OthersKept =
     → (headOf (storeThen how s t w list) i ≡ headOf s i) × (tailOf (storeThen how s t w list) i ≡ tailOf s i)
     × (bytesOf (storeThen how s t w list) i ≡ bytesOf s i) × ((q : ℕ) → childAt (storeThen how s t w list) i q ≡ childAt s i q)
 
--- and its order-only links: "Demand 3's "keeps its links" counts both kinds"; they "stay with the kept table in a split, and are not given to new ones"
+-- and its order-only links: "Demand 3's 'keeps its links' counts both kinds"; they "stay with the kept table in a split, and are not given to new ones"
 abbrev pub OrdersKept : Type 0
 OrdersKept =
     (how : Settings) (s : Store) (t : ℕ) (w : Scratch) (list : List ℕ) → Splits how s t w list → (i : ℕ) → ordersOf (storeThen how s t w list) i ≡ ordersOf s i

@@ -1,28 +1,22 @@
 -- The links of an object, by its own rows. Assumes nothing.
 use Prim.Native.Nat.{ℕ, suc, _+_, _-_, _≤_, _<_}
-use mathlib.Core.Path.{_≡_, refl, sym, ap, ap₂, _∙_}
-use mathlib.Core.Bool.{Bool, true, false, _&&_}
+use mathlib.Core.Path.{_≡_, sym, ap, ap₂, _∙_}
+use mathlib.Core.Bool.{Bool, true, false}
 use mathlib.Core.List.{List, [], _∷_, _++_, append-nil}
 use mathlib.Core.Logic.{_⊎_, inl, inr, ⊎-elim}
 use native.Mathlib.Omega.{arith}
 use lib.ListN.{length}
-use lib.Dec.{leb, ltb, eqb}
-use borrow.Author.Tests.{le-leb, lt-ltb, le-ltb}
-use Rattle.folds.proofs.Tests.{by-test, and-second}
 use Rattle.folds.specs.Folds.{upto}
 use Rattle.folds.specs.Lists.{sift}
 use Rattle.folds.proofs.Folds.{flat-none, length-upto, upto-cons, upto-same}
 use Rattle.folds.proofs.Picked.{picked-none, picked-same, sift-append, sift-upto}
 use Rattle.folds.proofs.InRange.{is-between, below-range, above-range}
 use Rattle.folds.proofs.TwoParts.{upto-split}
-use Rattle.store_rules.specs.Store.{Store, Link, linkAt, linksOf, isOffset, offsetOf, ofSpan, parentOf, positionOf, sizeOf}
+use Rattle.store_rules.specs.Store.{Store, Link, linkAt, linksOf, offsetOf}
 use Rattle.store_rules.specs.SlotLinks.{linksFrom}
-use Rattle.store_rules.proofs.LinksAscend.{place-offset, place-order}
-use Rattle.store_rules.proofs.Shaped.{offset-inside, order-numbers}
-use Rattle.store_rules.proofs.Sound.{Fits, size-most}
 use Rattle.store_reader.specs.declared.LinkRows.{LinkRows}
-use Rattle.store_reader.specs.Rows.{orders, keyOf, rowPlace, InOrder, FirstRow, ParentRows}
-use Rattle.store_reader.proofs.Rows.{row-place, rows-between}
+use Rattle.store_reader.specs.Rows.{InOrder, ParentRows}
+use Rattle.store_reader.proofs.Rows.{Low, parent-in-order}
 
 -- the links of the rows from lo up to hi, hi left out
 abbrev pub linksBetween : Store → ℕ → ℕ → List Link
@@ -43,51 +37,17 @@ between-next s lo hi l =
 pub between-none : (s : Store) (lo hi : ℕ) → hi ≤ lo → linksBetween s lo hi ≡ []
 between-none s lo hi l = let z : hi - lo ≡ 0 = omega arith in rw z (flat-none (λ i. linkAt s (lo + i) ∷ []))
 
--- positions lie within objects, and these within 16,777,216 bytes
-abbrev pub Low : Store → Type 0
-Low s = (k : ℕ) → k < s .linkCount → positionOf s k < orders
-
-pub positions-low : (s : Store) → Fits s → Low s
-positions-low s f k h =
-    let r = f .link k h in
-    by-test (isOffset (linkAt s k))
-    (λ o. omega (arith, offset-inside (sizeOf s (parentOf s k)) (linkAt s k) o (r .shape), size-most s f (parentOf s k) (r .parentUsed)))
-    (λ o. omega (arith, order-numbers (sizeOf s (parentOf s k)) (linkAt s k) o (r .shape) .1))
-
-module _ (s : Store) (order : InOrder (s .links) (s .linkCount)) where
-  -- rows in order, between two positions, are the offsets there
-  pub span-in-order : {lo hi : ℕ} (p a b : ℕ) → FirstRow (s .links) (s .linkCount) (keyOf p a) lo → FirstRow (s .links) (s .linkCount) (keyOf p b) hi → b ≤ orders
-      → (k : ℕ) → k < s .linkCount → (leb lo k && ltb k hi) ≡ ofSpan p a b (linkAt s k)
-  span-in-order p a b first next short k used =
-      let q = rowPlace (s .links) k in
-      rows-between p a b first next (omega arith) k used (order .places k used)
-      ∙ by-test (isOffset (linkAt s k))
-      (λ o. rw (o, row-place s k ∙ place-offset (linkAt s k) o))
-      (λ o.
-      let behind : orders ≤ q = omega (arith, row-place s k, place-order (linkAt s k) o) in
-      rw o (and-second (eqb (parentOf s k) p && leb a q) (ltb q b) (le-ltb q b (omega arith))))
-
 module _ (s : Store) (order : InOrder (s .links) (s .linkCount)) (low : Low s) (p : ℕ) {r : LinkRows} (rows : ParentRows (s .links) (s .linkCount) p r) where
-  -- a parent's are its offsets
-  mine : (k : ℕ) → k < s .linkCount → (leb (r .first) k && ltb k (r .after)) ≡ offsetOf p (linkAt s k)
-  mine k used =
-      span-in-order s order p 0 orders (rows .first) (rows .after) (omega arith) k used
-      ∙ rw (le-leb 0 (positionOf s k) (omega arith), lt-ltb (positionOf s k) orders (low k used)) (and-true (offsetOf p (linkAt s k)))
-    where
-      and-true : (b : Bool) → b && true && true ≡ b
-      and-true true = refl
-      and-true false = refl
-
   -- link i of those from a on
   abbrev from : ℕ → ℕ → Link
   from a i = linkAt s (a + i)
 
   own : (k : ℕ) → k < s .linkCount → r .first ≤ k → k < r .after → offsetOf p (linkAt s k) ≡ true
-  own k m a h = sym (mine k m) ∙ is-between (r .first) (r .after) k a h
+  own k m a h = sym (parent-in-order s order low p rows k m) ∙ is-between (r .first) (r .after) k a h
 
   other : (k : ℕ) → k < s .linkCount → (k < r .first) ⊎ (r .after ≤ k) → offsetOf p (linkAt s k) ≡ false
   other k m out =
-      sym (mine k m)
+      sym (parent-in-order s order low p rows k m)
       ∙ ⊎-elim (below-range (r .first) (r .after) k) (above-range (r .first) (r .after) k) out
 
   pub own-links : sift (offsetOf p) (linksOf s) ≡ linksBetween s (r .first) (r .after)

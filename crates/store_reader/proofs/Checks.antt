@@ -1,19 +1,16 @@
 -- The tests that the code makes of counts and rows, one by one, are those of the definitions. Assumes nothing.
 use Prim.Native.Nat.{ℕ, _+_, _-_, _<_, _≤_, min}
 use mathlib.Core.Bool.{Bool, true, false, not, _&&_}
-use mathlib.Core.Logic.{inl, inr, ⊎-elim}
+use mathlib.Core.Logic.{⊎-elim}
 use mathlib.Core.Path.{_≡_, sym, ap, _∙_}
-use native.Mathlib.Numerals.{add-one}
 use native.Mathlib.Omega.{arith}
 use lib.ListN.{length}
-use lib.Dec.{leb, ltb, eqb}
-use borrow.Author.Tests.{ltb-true, lt-ltb, le-ltb, le-leb, lt-leb, leb-true, eqb-true, eq-eqb, ne-eqb, not-true, not-false}
+use lib.Dec.{leb}
+use borrow.Author.Tests.{le-leb, lt-leb, leb-true, not-true, not-false}
 use Rattle.folds.specs.Folds.{all, before}
-use Rattle.folds.proofs.Tests.{either, by-test, true-false, and-both, and-intro, and-second, and-first}
-use Rattle.folds.proofs.Folds.{all-none, all-more, all-fails, before-none, before-more}
-use Rattle.store_rules.specs.Store.{Store, byteRoom, objectRoom, linkRoom, sound, Link, headOf, tailOf, sizeOf, linkAt, isOffset, offsetOf, kindOf, parentOf, positionOf, childOf, objectFits, rowBefore, onePosition, ascends, shaped, linkFits}
-use Rattle.store_rules.proofs.Shaped.{of-offset, of-parent}
-use Rattle.store_rules.proofs.RowOrder.{Before, before-is, is-before, one-position}
+use Rattle.folds.proofs.Tests.{either, and-both, and-second, and-first}
+use Rattle.folds.proofs.Folds.{all-none, all-more, all-fails, all-at, before-none, before-more}
+use Rattle.store_rules.specs.Store.{Store, byteRoom, objectRoom, linkRoom, sound, headOf, tailOf, sizeOf, objectFits, linkFits}
 
 -- two tests agree where each holds if the other does
 leb-same : (a b c d : ℕ) → (a ≤ b → c ≤ d) → (c ≤ d → a ≤ b) → leb a b ≡ leb c d
@@ -72,126 +69,12 @@ module _ (s : Store) (i : ℕ) where
   unfolding objectFits
   object-ends a b = rw (le-leb (before (tailOf s) i) (headOf s i) a, le-leb (headOf s i) (tailOf s i) b)
 
--- ---- a link row
-
-module _ (s : Store) (k : ℕ) where
-  abbrev parentTest : Bool
-  parentTest = ltb (parentOf s k) (s .objectCount)
-
-  abbrev childTest : Bool
-  childTest = ltb (childOf s k) (s .objectCount)
-
-  abbrev shapeTest : Bool
-  shapeTest = shaped (sizeOf s (parentOf s k)) (linkAt s k)
-
-  pub link-parent : s .objectCount ≤ parentOf s k → false ≡ linkFits s k
-  unfolding linkFits
-  link-parent h = rw (le-ltb (parentOf s k) (s .objectCount) h)
-
-  pub link-child : s .objectCount ≤ childOf s k → false ≡ linkFits s k
-  unfolding linkFits
-  link-child h = sym (and-first _ _ (and-first _ _ (and-second parentTest _ (le-ltb (childOf s k) (s .objectCount) h))))
-
-  pub link-shape : {t : Bool} → t ≡ shapeTest → not t ≡ true → false ≡ linkFits s k
-  unfolding linkFits
-  link-shape {t} e h = sym (and-first _ _ (and-second (parentTest && childTest) _ (sym e ∙ not-true t h)))
-
-  pub link-rest : parentOf s k < s .objectCount → childOf s k < s .objectCount → {t : Bool} → t ≡ shapeTest → not t ≡ false → ascends s k ≡ linkFits s k
-  unfolding linkFits
-  link-rest a b {t} e h = rw (lt-ltb (parentOf s k) (s .objectCount) a, lt-ltb (childOf s k) (s .objectCount) b, ← e, not-false t h)
-
--- ---- its shape
-
-module _ (size : ℕ) (l : Link) where
-  pub shape-width : l .kind ≡ 0 → (l .width ≡ 2 → ⊥) → false ≡ shaped size l
-  unfolding shaped
-  shape-width k w = rw (eq-eqb (l .kind) 0 k, ne-eqb (l .width) 2 w)
-
-  pub shape-place : l .kind ≡ 0 → l .width ≡ 2 → leb (l .position + 2) size ≡ shaped size l
-  unfolding shaped
-  shape-place k w = rw (eq-eqb (l .kind) 0 k, eq-eqb (l .width) 2 w)
-
-  pub shape-kind : (l .kind ≡ 0 → ⊥) → (l .kind ≡ 1 → ⊥) → false ≡ shaped size l
-  unfolding shaped
-  shape-kind k n = rw (ne-eqb (l .kind) 0 k, ne-eqb (l .kind) 1 n)
-
-  pub shape-position : l .kind ≡ 1 → (l .position ≡ 0 → ⊥) → false ≡ shaped size l
-  unfolding shaped
-  shape-position k q = rw (k, ne-eqb (l .position) 0 q)
-
-  pub shape-order : l .kind ≡ 1 → l .position ≡ 0 → eqb (l .width) 0 ≡ shaped size l
-  unfolding shaped
-  shape-order k q = rw (k, q)
-
--- ---- its order
-
-pub first-ascends : (s : Store) (k : ℕ) → k ≡ 0 → true ≡ ascends s k
-unfolding ascends
-first-ascends s k z = rw z
-
--- the next row's
-
-module _ (s : Store) (k : ℕ) where
-  as-rows : ascends s (k + 1) ≡ (rowBefore (linkAt s k) (linkAt s (k + 1)) && not (onePosition (linkAt s k) (linkAt s (k + 1))))
-  unfolding ascends
-  as-rows = rw (add-one k)
-
-  one-not : (parentOf s k ≡ parentOf s (k + 1) → kindOf s k ≡ 0 → kindOf s (k + 1) ≡ 0 → positionOf s k ≡ positionOf s (k + 1) → ⊥)
-      → onePosition (linkAt s k) (linkAt s (k + 1)) ≡ false
-  unfolding onePosition
-  one-not ne =
-      let l = linkAt s k in
-      let m = linkAt s (k + 1) in
-      by-test (onePosition l m)
-      (λ h.
-      let (x, q) = and-both (offsetOf (m .parent) l && isOffset m) (eqb (l .position) (m .position)) h in
-      let (o, w) = and-both (offsetOf (m .parent) l) (isOffset m) x in
-      absurd (ne (of-parent (m .parent) l o) (eqb-true (l .kind) 0 (of-offset (m .parent) l o)) (eqb-true (m .kind) 0 w) (eqb-true (l .position) (m .position) q)))
-      (λ h. h)
-
-  rises : Before (linkAt s k) (linkAt s (k + 1)) → onePosition (linkAt s k) (linkAt s (k + 1)) ≡ false → true ≡ ascends s (k + 1)
-  rises b n =
-      sym (as-rows ∙ and-intro (rowBefore (linkAt s k) (linkAt s (k + 1))) (not (onePosition (linkAt s k) (linkAt s (k + 1)))) (is-before (linkAt s k) (linkAt s (k + 1)) b) (ap not n))
-
-  falls : (Before (linkAt s k) (linkAt s (k + 1)) → ⊥) → false ≡ ascends s (k + 1)
-  falls n =
-      sym (as-rows ∙ and-first (rowBefore (linkAt s k) (linkAt s (k + 1))) (not (onePosition (linkAt s k) (linkAt s (k + 1))))
-      (by-test (rowBefore (linkAt s k) (linkAt s (k + 1))) (λ h. absurd (n (before-is (linkAt s k) (linkAt s (k + 1)) h))) (λ h. h)))
-
-  pub rise-parent : parentOf s k < parentOf s (k + 1) → true ≡ ascends s (k + 1)
-  rise-parent h = rises (inl h) (one-not (λ p z w q. omega arith))
-
-  pub fall-parent : parentOf s (k + 1) < parentOf s k → false ≡ ascends s (k + 1)
-  fall-parent h = falls (λ b. ⊎-elim (λ a. omega arith) (λ (a, r). omega arith) b)
-
-  module _ (e : parentOf s k ≡ parentOf s (k + 1)) where
-    pub rise-kind : kindOf s k < kindOf s (k + 1) → true ≡ ascends s (k + 1)
-    rise-kind h = rises (inr (e, inl h)) (one-not (λ p z w q. omega arith))
-
-    pub fall-kind : kindOf s (k + 1) < kindOf s k → false ≡ ascends s (k + 1)
-    fall-kind h = falls (λ b. ⊎-elim (λ a. omega arith) (λ (a, r). ⊎-elim (λ c. omega arith) (λ (c, d). omega arith) r) b)
-
-    module _ (f : kindOf s k ≡ kindOf s (k + 1)) where
-      pub rise-position : positionOf s k < positionOf s (k + 1) → true ≡ ascends s (k + 1)
-      rise-position h = rises (inr (e, inr (f, inl h))) (one-not (λ p z w q. omega arith))
-
-      pub fall-position : positionOf s (k + 1) < positionOf s k → false ≡ ascends s (k + 1)
-      fall-position h =
-          falls (λ b. ⊎-elim (λ a. omega arith)
-          (λ (a, r). ⊎-elim (λ c. omega arith) (λ (c, d). ⊎-elim (λ g. omega arith) (λ (g, i). omega arith) d) r) b)
-
-      module _ (g : positionOf s k ≡ positionOf s (k + 1)) where
-        pub fall-offset : kindOf s k ≡ 0 → false ≡ ascends s (k + 1)
-        fall-offset z =
-            sym (as-rows ∙ and-second (rowBefore (linkAt s k) (linkAt s (k + 1))) (not (onePosition (linkAt s k) (linkAt s (k + 1))))
-            (ap not (one-position (linkAt s k) (linkAt s (k + 1)) e (eq-eqb (kindOf s k) 0 z) (eq-eqb (kindOf s (k + 1)) 0 (sym f ∙ z)) g)))
-
-        pub rise-child : (kindOf s k ≡ 0 → ⊥) → ltb (childOf s k) (childOf s (k + 1)) ≡ ascends s (k + 1)
-        rise-child nz =
-            by-test (ltb (childOf s k) (childOf s (k + 1)))
-            (λ h. h ∙ rises (inr (e, inr (f, inr (g, ltb-true (childOf s k) (childOf s (k + 1)) h)))) (one-not (λ p z w q. nz z)))
-            (λ h. h ∙ falls (λ b. ⊎-elim (λ a. omega arith)
-            (λ (a, r). ⊎-elim (λ c. omega arith) (λ (c, d). ⊎-elim (λ i. omega arith) (λ (i, j). true-false (sym (lt-ltb (childOf s k) (childOf s (k + 1)) j) ∙ h)) d) r) b))
+-- where all fit, none has more bytes than are in use
+pub objects-short : (s : Store) → all (objectFits s) (s .objectCount) ≡ true → (i : ℕ) → i < s .objectCount → sizeOf s i ≤ s .byteCount
+unfolding objectFits
+objects-short s h i l =
+    let (a, b) = and-both (leb (before (tailOf s) i) (headOf s i) && leb (headOf s i) (tailOf s i)) (leb (tailOf s i) (s .byteCount)) (all-at (objectFits s) (s .objectCount) h i l) in
+    omega (arith, leb-true (tailOf s i) (s .byteCount) b)
 
 -- ---- the store: each test fails alone, and the last decides where the others hold
 

@@ -1,22 +1,20 @@
 -- The rows of a sound store are in the order of their keys, and what stands between two keys. Assumes nothing.
-use Prim.Native.Nat.{ℕ, zero, suc, _+_, _-_, _*_, _<_, _≤_}
-use mathlib.Core.Bool.{Bool, true, false, _&&_, _||_}
+use Prim.Native.Nat.{ℕ, _+_, _-_, _*_, _<_, _≤_}
+use mathlib.Core.Bool.{Bool, true, false, _&&_}
 use mathlib.Core.List.{List}
-use mathlib.Core.Logic.{_⊎_, inl, inr, ⊎-elim}
+use mathlib.Core.Logic.{_⊎_, ⊎-elim}
 use mathlib.Core.Path.{_≡_, refl, sym, subst, _∙_}
 use native.Mathlib.Decide.{ℕ-discrete}
-use native.Mathlib.Nat.{not-suc-le-zero, le-of-suc-le-suc, eq-or-lt-of-le}
-use native.Mathlib.Numerals.{add-one}
 use native.Mathlib.Omega.{arith}
 use lib.Dec.{leb, ltb, eqb}
 use lib.ListN.{length, getD}
-use borrow.Author.Tests.{ltb-true, lt-ltb, le-ltb, le-leb, lt-leb, eq-eqb, ne-eqb}
-use Rattle.folds.specs.Folds.{before}
+use borrow.Author.Tests.{lt-ltb, le-ltb, le-leb, lt-leb, eq-eqb, ne-eqb}
 use Rattle.folds.proofs.Tests.{either, by-test, and-first, and-second}
-use Rattle.store_rules.specs.Store.{Store, perLink, rowParent, rowPosition, rowChild, rowKind, sound, linkAt, isOffset, offsetOf, ofSpan, sizeOf, parentOf, positionOf}
-use Rattle.store_rules.proofs.Sound.{Fits, sound-fits, size-most}
-use Rattle.store_rules.proofs.Shaped.{offset-inside}
+use Rattle.store_rules.specs.Store.{Store, perLink, rowParent, rowPosition, rowChild, rowKind, sound, linkAt, isOffset, offsetOf, ofSpan, parentOf, positionOf}
+use Rattle.store_rules.proofs.Sound.{Fits, sound-fits}
+use Rattle.store_rules.proofs.Shaped.{offset-inside, order-numbers}
 use Rattle.store_rules.proofs.LinksAscend.{place, place-offset, place-order}
+use Rattle.store_rules.proofs.LinksFit.{row-formed}
 use Rattle.store_rules.proofs.RowsSentence.{later}
 use Rattle.store_reader.specs.declared.LinkRows.{LinkRows}
 use Rattle.store_reader.specs.Rows.{orders, keyOf, rowPlace, rowKey, InOrder, FirstRow, Bracket, ParentRows}
@@ -43,8 +41,7 @@ module _ (s : Store) (f : Fits s) where
   -- an offset stands before all order-only links
   pub offset-place : (k : ℕ) → k < s .linkCount → isOffset (linkAt s k) ≡ true → rowPlace (s .links) k < orders
   offset-place k h o =
-      let r = f .link k h in
-      omega (arith, row-place s k, place-offset (linkAt s k) o, offset-inside (sizeOf s (parentOf s k)) (linkAt s k) o (r .shape), size-most s f (parentOf s k) (r .parentUsed))
+      omega (arith, row-place s k, place-offset (linkAt s k) o, offset-inside 16777216 (linkAt s k) o (row-formed s f k h))
 
   pub place-most : (k : ℕ) → k < s .linkCount → rowPlace (s .links) k < 4294967296
   place-most k h =
@@ -145,13 +142,17 @@ pub rows-between : {l : List ℕ} {m lo hi : ℕ} (p a b : ℕ) → FirstRow l m
 rows-between {l} {m} {lo} {hi} p a b f g short k used small =
     between lo hi k p a b (getD l (perLink * k + rowParent) 0) (rowPlace l k) small short (f .below k) (λ d. f .above k d used) (g .below k) (λ d. g .above k d used)
 
-module _ (s : Store) (f : Fits s) where
+-- positions lie within objects, and these within 16,777,216 bytes
+abbrev pub Low : Store → Type 0
+Low s = (k : ℕ) → k < s .linkCount → positionOf s k < orders
+
+module _ (s : Store) (order : InOrder (s .links) (s .linkCount)) where
   -- and that is an offset of p at these positions
-  pub span-rows : {lo hi : ℕ} (p a b : ℕ) → FirstRow (s .links) (s .linkCount) (keyOf p a) lo → FirstRow (s .links) (s .linkCount) (keyOf p b) hi → b ≤ orders
+  pub span-in-order : {lo hi : ℕ} (p a b : ℕ) → FirstRow (s .links) (s .linkCount) (keyOf p a) lo → FirstRow (s .links) (s .linkCount) (keyOf p b) hi → b ≤ orders
       → (k : ℕ) → k < s .linkCount → (leb lo k && ltb k hi) ≡ ofSpan p a b (linkAt s k)
-  span-rows p a b first next short k used =
+  span-in-order p a b first next short k used =
       let q = rowPlace (s .links) k in
-      rows-between p a b first next (omega arith) k used (place-most s f k used)
+      rows-between p a b first next (omega arith) k used (order .places k used)
       ∙ by-test (isOffset (linkAt s k))
       (λ o. rw (o, row-place s k ∙ place-offset (linkAt s k) o))
       (λ o.
@@ -159,19 +160,30 @@ module _ (s : Store) (f : Fits s) where
       rw o (and-second (eqb (parentOf s k) p && leb a q) (ltb q b) (le-ltb q b (omega arith))))
 
   -- the same for all offsets of p
-  pub parent-rows : (p : ℕ) {r : LinkRows} → ParentRows (s .links) (s .linkCount) p r → (k : ℕ) → k < s .linkCount
+  pub parent-in-order : Low s → (p : ℕ) {r : LinkRows} → ParentRows (s .links) (s .linkCount) p r → (k : ℕ) → k < s .linkCount
       → (leb (r .first) k && ltb k (r .after)) ≡ offsetOf p (linkAt s k)
-  parent-rows p rows k used =
-      span-rows p 0 orders (rows .first) (rows .after) (omega arith) k used
-      ∙ by-test (isOffset (linkAt s k))
-      (λ o.
-      let below : positionOf s k < orders = omega (arith, offset-place s f k used o, row-place s k, place-offset (linkAt s k) o) in
-      rw (o, le-leb 0 (positionOf s k) (omega arith), lt-ltb (positionOf s k) orders below) (and-true (eqb (parentOf s k) p)))
-      (λ o. rw o)
+  parent-in-order low p rows k used =
+      span-in-order p 0 orders (rows .first) (rows .after) (omega arith) k used
+      ∙ rw (le-leb 0 (positionOf s k) (omega arith), lt-ltb (positionOf s k) orders (low k used)) (and-true (offsetOf p (linkAt s k)))
     where
       and-true : (b : Bool) → b && true && true ≡ b
       and-true true = refl
       and-true false = refl
+
+-- of a sound store
+module _ (s : Store) (f : Fits s) where
+  pub positions-low : Low s
+  positions-low k h =
+      by-test (isOffset (linkAt s k)) (λ o. omega (arith, offset-inside 16777216 (linkAt s k) o (row-formed s f k h)))
+      (λ o. omega (arith, order-numbers 16777216 (linkAt s k) o (row-formed s f k h) .1))
+
+  pub span-rows : {lo hi : ℕ} (p a b : ℕ) → FirstRow (s .links) (s .linkCount) (keyOf p a) lo → FirstRow (s .links) (s .linkCount) (keyOf p b) hi → b ≤ orders
+      → (k : ℕ) → k < s .linkCount → (leb lo k && ltb k hi) ≡ ofSpan p a b (linkAt s k)
+  span-rows = span-in-order s (in-order s f)
+
+  pub parent-rows : (p : ℕ) {r : LinkRows} → ParentRows (s .links) (s .linkCount) p r → (k : ℕ) → k < s .linkCount
+      → (leb (r .first) k && ltb k (r .after)) ≡ offsetOf p (linkAt s k)
+  parent-rows = parent-in-order s (in-order s f) positions-low
 
 -- a position's first row is one of its parent's, or the one behind them
 pub among-parent : {l : List ℕ} {m p : ℕ} {r : LinkRows} → ParentRows l m p r → (q : ℕ) → q ≤ orders → Bracket l m (keyOf p q) (r .first) (r .after)

@@ -5,10 +5,10 @@ ghost use mathlib.Core.List.{List};
 ghost use lib.ListN.{length, getD};
 ghost use lib.Dec.{leb};
 ghost use Rattle.folds.specs.Folds.{all};
-ghost use Rattle.store_rules.specs.Store.{lent, perLink, rowKind, linkAt, sizeOf, bytesOf, objectFits, ascends, shaped, linkFits, sound, handedOut, childAt};
+ghost use Rattle.store_rules.specs.Store.{lent, perLink, rowKind, bytesOf, objectFits, linkFits, sound, handedOut, childAt};
 ghost use Rattle.folds.specs.Moments.{came};
 ghost use Rattle.store_rules.specs.Moments.{storeCameWith};
-ghost use Rattle.store_reader.specs.Rows.{Inside, leastHead, keyOf, rowPlace, rowKey, InOrder, Bracket, FirstRow, ParentRows};
+ghost use Rattle.store_reader.specs.Rows.{Inside, leastHead, keyOf, kindIn, rowPlace, rowKey, OfParent, ObjectsSmall, shapedKey, fittingKey, InOrder, Bracket, FirstRow, ParentRows};
 ghost use Rattle.store_reader.specs.Children.{childFound};
 
 pub mod held_rows;
@@ -26,7 +26,7 @@ pub const CHILD: usize = 3;
 
 pub const KIND: usize = 4;
 
-// The first place behind all positions.
+// Where the places of order-only rows start: behind all positions, since no object has more bytes.
 pub const ORDERS: u32 = 16777216;
 
 // What a look for the child at a position finds.
@@ -109,104 +109,70 @@ fn position_fits(objects: &[u32], i: usize, position: u32) -> bool
     (objects[2 * i] as u64) + (position as u64) + 2 <= (objects[2 * i + 1] as u64)
 }
 
-// Whether link row `k` is of its kind's shape: width 2 and position + 2 within the parent, or order-only with position 0 and width 0.
-fn is_shaped(objects: &[u32], links: &[u32], k: usize, parent: usize) -> bool
-    requires { ⌜ (2 * parent + 1 < length (now objects)) × (perLink * k + rowKind < length (now links)) ⌝ }
-    ensures { λ r. ⌜ ((b c : List ℕ) → r ≡ shaped (sizeOf (lent b (came objects) (came links) c) parent) (linkAt (lent b (came objects) (came links) c) k)) ⌝ }
+// One more than the key of link row `k`, an offset of `parent`; 0 where it is not of its shape, with width 2 and position + 2 within the parent.
+fn offset_key(objects: &[u32], links: &[u32], k: usize, parent: u32) -> u64
+    requires { ⌜ (2 * parent + 1 < length (now objects)) × OfParent (now links) k parent × (kindIn (now links) k ≡ 0) ⌝ }
+    ensures { λ r. ⌜ ((b c : List ℕ) → r ≡ shapedKey (lent b (came objects) (came links) c) k) ⌝ }
 {
-    let kind = links[PER_LINK * k + KIND];
-    let position = links[PER_LINK * k + POSITION];
-    let width = links[PER_LINK * k + WIDTH];
-    if kind == 0 {
-        if width != 2 {
-            return false;
-        }
-        return position_fits(objects, parent, position);
-    }
-    if kind != 1 {
-        return false;
-    }
-    if position != 0 {
-        return false;
-    }
-    width == 0
-}
-
-// Whether link row `k` comes behind the row before it, and is not at the position of an offset before it.
-fn is_behind(links: &[u32], k: usize) -> bool
-    requires { ⌜ perLink * k + rowKind < length (now links) ⌝ }
-    ensures { λ r. ⌜ ((b o c : List ℕ) → r ≡ ascends (lent b o (came links) c) k) ⌝ }
-{
-    if k == 0 {
-        return true;
-    }
-    rows_rise(links, k - 1)
-}
-
-// Whether link row `k` comes before the next one, and these are not two offsets of one parent at one position.
-fn rows_rise(links: &[u32], k: usize) -> bool
-    requires { ⌜ perLink * (k + 1) + rowKind < length (now links) ⌝ }
-    ensures { λ r. ⌜ ((b o c : List ℕ) → r ≡ ascends (lent b o (came links) c) (k + 1)) ⌝ }
-{
-    let parent = links[PER_LINK * k + PARENT];
-    let next_parent = links[PER_LINK * (k + 1) + PARENT];
-    if parent < next_parent {
-        return true;
-    }
-    if next_parent < parent {
-        return false;
-    }
-    let kind = links[PER_LINK * k + KIND];
-    let next_kind = links[PER_LINK * (k + 1) + KIND];
-    if kind < next_kind {
-        return true;
-    }
-    if next_kind < kind {
-        return false;
+    if links[PER_LINK * k + WIDTH] != 2 {
+        return 0;
     }
     let position = links[PER_LINK * k + POSITION];
-    let next_position = links[PER_LINK * (k + 1) + POSITION];
-    if position < next_position {
-        return true;
+    if !position_fits(objects, parent as usize, position) {
+        return 0;
     }
-    if next_position < position {
-        return false;
-    }
-    if kind == 0 {
-        return false;
-    }
-    links[PER_LINK * k + CHILD] < links[PER_LINK * (k + 1) + CHILD]
+    key_of(parent, position) + 1
 }
 
-// Whether link row `k` fits: parent and child in use, of its kind's shape, and behind the row before it.
-fn link_fits(objects: &[u32], links: &[u32], counts: [u32; 3], k: usize) -> bool
-    requires { ⌜ (2 * getD counts 1 0 ≤ length (now objects)) × (perLink * k + rowKind < length (now links)) ⌝ }
-    ensures { λ r. ⌜ ((b : List ℕ) → r ≡ linkFits (lent b (came objects) (came links) counts) k) ⌝ }
+// The same of one that is no offset: it has to have kind 1, position 0 and width 0.
+fn order_key(links: &[u32], k: usize, parent: u32) -> u64
+    requires { ⌜ OfParent (now links) k parent × (kindIn (now links) k ≡ 0 → ⊥) × (rowPlace (now links) k < 4294967296) ⌝ }
+    ensures { λ r. ⌜ ((b o c : List ℕ) → r ≡ shapedKey (lent b o (came links) c) k) ⌝ }
+{
+    if links[PER_LINK * k + KIND] != 1 {
+        return 0;
+    }
+    if links[PER_LINK * k + POSITION] != 0 {
+        return 0;
+    }
+    if links[PER_LINK * k + WIDTH] != 0 {
+        return 0;
+    }
+    key_of(parent, ORDERS + links[PER_LINK * k + CHILD]) + 1
+}
+
+// One more than the key of link row `k`, where its parent and child are in use and it is of its kind's shape, and else 0.
+fn fitting_key(objects: &[u32], links: &[u32], counts: [u32; 3], k: usize) -> u64
+    requires { ⌜ ObjectsSmall (now objects) counts × (perLink * k + rowKind < length (now links)) ⌝ }
+    ensures { λ r. ⌜ ((b : List ℕ) → r ≡ fittingKey (lent b (came objects) (came links) counts) k) ⌝ }
 {
     let parent = links[PER_LINK * k + PARENT];
     if counts[1] <= parent {
-        return false;
+        return 0;
     }
     if counts[1] <= links[PER_LINK * k + CHILD] {
-        return false;
+        return 0;
     }
-    if !is_shaped(objects, links, k, parent as usize) {
-        return false;
+    if links[PER_LINK * k + KIND] == 0 {
+        return offset_key(objects, links, k, parent);
     }
-    is_behind(links, k)
+    order_key(links, k, parent)
 }
 
-// Whether each link row in use fits.
+// Whether each link row in use fits: the keys of fitting rows ascend as the rows do.
 fn links_fit(objects: &[u32], links: &[u32], counts: [u32; 3]) -> bool
-    requires { ⌜ (2 * getD counts 1 0 ≤ length (now objects)) × (perLink * getD counts 2 0 ≤ length (now links)) ⌝ }
+    requires { ⌜ ObjectsSmall (now objects) counts × (perLink * getD counts 2 0 ≤ length (now links)) ⌝ }
     ensures { λ r. ⌜ ((b : List ℕ) → r ≡ all (linkFits (lent b (came objects) (came links) counts)) (getD counts 2 0)) ⌝ }
 {
     let count = counts[2] as usize;
     let mut k: usize = 0;
+    let mut before: u64 = 0;
     while k < count {
-        if !link_fits(objects, links, counts, k) {
+        let key = fitting_key(objects, links, counts, k);
+        if key <= before {
             return false;
         }
+        before = key;
         k += 1;
     }
     true
@@ -398,7 +364,7 @@ pub fn rows_of(links: &[u32], count: usize, parent: u32) -> LinkRows
     LinkRows { first, after }
 }
 
-// The child that the link at `position` of `parent` leads to, where `row` is the first row at or past it.
+// The child that the offset at `position` of `parent` leads to, where `row` is the first row at or past it.
 pub fn child_in(links: &[u32], counts: [u32; 3], row: usize, parent: u32, position: u32) -> Child
     requires { ⌜ InOrder (now links) (getD counts 2 0) × FirstRow (now links) (getD counts 2 0) (keyOf parent position) row ⌝ }
     ensures { λ r. ⌜ ((b o : List ℕ) → childFound r ≡ childAt (lent b o (came links) counts) parent position) ⌝ }
@@ -418,7 +384,7 @@ pub fn child_in(links: &[u32], counts: [u32; 3], row: usize, parent: u32, positi
     Child::Of(links[PER_LINK * row + CHILD])
 }
 
-// The child that the link at `position` of `parent` leads to.
+// The child that the offset at `position` of `parent` leads to.
 pub fn child_at(links: &[u32], counts: [u32; 3], parent: u32, position: u32) -> Child
     requires { ⌜ InOrder (now links) (getD counts 2 0) ⌝ }
     ensures { λ r. ⌜ ((b o : List ℕ) → childFound r ≡ childAt (lent b o (came links) counts) parent position) ⌝ }

@@ -113,10 +113,6 @@ module _ (own : List ℕ) (t v : ℕ) (l : Link) where
   unfolding kept
   kept-kind = refl
 
-  pub kept-width : kept own t v l .width ≡ l .width
-  unfolding kept
-  kept-width = refl
-
   -- an offset of an object is one still
   pub kept-offset : (p : ℕ) → offsetOf p (kept own t v l) ≡ offsetOf p l
   unfolding kept

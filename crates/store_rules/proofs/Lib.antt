@@ -9,6 +9,7 @@ pub mod LinksAscend
 pub mod RowOrder
 pub mod InOrder
 pub mod Orders
+pub mod SameRows
 pub mod Header
 pub mod ObjectRows
 pub mod Slots

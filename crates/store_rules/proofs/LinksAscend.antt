@@ -11,6 +11,7 @@ use Rattle.folds.specs.Folds.{flat, upto}
 use Rattle.folds.specs.Lists.{sift}
 use Rattle.folds.proofs.Tests.{either, by-test}
 use Rattle.folds.proofs.Folds.{upto-cons}
+use Rattle.folds.proofs.Each.{Each, each-at, each-then}
 use Rattle.store_rules.specs.Store.{Link, isOffset}
 
 -- where a link stands among those of its parent: an offset at its position, an order-only link behind all bytes, by its child
@@ -33,6 +34,10 @@ place-same l m k q c = by-test (isOffset l) (λ o. rw (k, o) (q o)) (λ o. rw (k
 -- (x, y) is (p, q) or comes after it
 abbrev pub From : ℕ → ℕ → ℕ → ℕ → Type 0
 From p q x y = (p < x) ⊎ ((p ≡ x) × (q ≤ y))
+
+-- m comes behind l
+abbrev pub Behind : Link → Link → Type 0
+Behind l m = From (l .parent) (place l + 1) (m .parent) (place m)
 
 -- the rows ascend from (p, q) on, and end before parent e
 abbrev pub Climb : ℕ → ℕ → ℕ → List Link → Type 0
@@ -85,7 +90,7 @@ climb-stay f p a b (l ∷ ls) x y e c = go (p l) (climb-stay f p a b ls (l .pare
 
 -- ---- by index
 
-pub climb-upto : (f : ℕ → Link) (n p q e : ℕ) → ((k : ℕ) → suc k < n → From (f k .parent) (place (f k) + 1) (f (suc k) .parent) (place (f (suc k))))
+pub climb-upto : (f : ℕ → Link) (n p q e : ℕ) → ((k : ℕ) → suc k < n → Behind (f k) (f (suc k)))
     → ((k : ℕ) → k < n → f k .parent < e) → p < e → (0 < n → From p q (f 0 .parent) (place (f 0))) → Climb p q e (upto f n)
 unfolding flat
 climb-upto f zero p q e h u l s = inl l
@@ -93,8 +98,28 @@ climb-upto f (suc n) p q e h u l s =
     subst (Climb p q e) (sym (upto-cons f n))
     (s (omega arith), climb-upto (λ k. f (suc k)) n (f 0 .parent) (place (f 0) + 1) e (λ k m. h (suc k) (omega arith)) (λ k m. u (suc k) (omega arith)) (u 0 (omega arith)) (λ m. h 0 (omega arith)))
 
-pub climb-next : (ls : List Link) (p q e : ℕ) → Climb p q e ls → (k : ℕ) → suc k < length ls → (d : Link) → From (getD ls k d .parent) (place (getD ls k d) + 1) (getD ls (suc k) d .parent) (place (getD ls (suc k) d))
-climb-next [] p q e c k h d = absurd (not-suc-le-zero h)
-climb-next (x ∷ []) p q e c k h d = absurd (omega arith)
-climb-next (x ∷ y ∷ ls) p q e c zero h d = c .1 .0
-climb-next (x ∷ y ∷ ls) p q e c (suc k) h d = climb-next (y ∷ ls) (x .parent) (place x + 1) e (c .1) k (omega arith) d
+-- each comes from where they start on
+pub climb-each : (ls : List Link) (p q e : ℕ) → Climb p q e ls → Each (λ m. From p q (m .parent) (place m)) ls
+climb-each [] p q e c = tt
+climb-each (l ∷ ls) p q e c = (
+  c .0,
+  each-then (Behind l) (λ m. From p q (m .parent) (place m))
+      (λ m b. from-trans p q (l .parent) (place l + 1) (m .parent) (place m) (from-next p q (l .parent) (place l) (c .0)) b) ls
+      (climb-each ls (l .parent) (place l + 1) e (c .1)),
+)
+
+-- and its parent is before the end
+climb-end : (ls : List Link) (p q e : ℕ) → Climb p (q + 1) e ls → p < e
+climb-end [] p q e c = ⊎-elim (λ a. a) (λ (a, b). absurd (omega arith)) c
+climb-end (l ∷ ls) p q e c = let b = climb-end ls (l .parent) (place l) e (c .1) in ⊎-elim (λ a. omega arith) (λ (a, d). omega arith) (c .0)
+
+pub climb-below : (ls : List Link) (p q e : ℕ) → Climb p q e ls → Each (λ m. m .parent < e) ls
+climb-below [] p q e c = tt
+climb-below (l ∷ ls) p q e c = (climb-end ls (l .parent) (place l) e (c .1), climb-below ls (l .parent) (place l + 1) e (c .1))
+
+-- each comes behind those that stand before it
+pub climb-two : (ls : List Link) (p q e : ℕ) → Climb p q e ls → (j k : ℕ) → j < k → k < length ls → (d : Link) → Behind (getD ls j d) (getD ls k d)
+climb-two [] p q e c j k h l d = absurd (not-suc-le-zero l)
+climb-two (x ∷ xs) p q e c j zero h l d = absurd (not-suc-le-zero h)
+climb-two (x ∷ xs) p q e c zero (suc k) h l d = each-at (Behind x) xs (climb-each xs (x .parent) (place x + 1) e (c .1)) k (omega arith) d
+climb-two (x ∷ xs) p q e c (suc j) (suc k) h l d = climb-two xs (x .parent) (place x + 1) e (c .1) j k (omega arith) (omega arith) d

@@ -13,9 +13,9 @@ use Rattle.folds.proofs.Folds.{length-upto}
 use Rattle.store_rules.specs.Store.{Store, Link, linksOf, linkAt, isOffset, offsetOf, parentOf, positionOf, shaped, ascends, sizeOf}
 use Rattle.store_rules.specs.Appended.{link}
 use Rattle.store_rules.proofs.Sound.{Fits, LinkFits, size-most}
-use Rattle.store_rules.proofs.Shaped.{of-offset, of-parent, offset-inside, offset-shaped, shaped-then, shaped-leading}
+use Rattle.store_rules.proofs.Shaped.{Formed, formed-in, of-offset, of-parent, offset-inside, offset-shaped, shaped-then, shaped-leading}
 use Rattle.store_rules.proofs.LinkRows.{noLink, row-is}
-use Rattle.store_rules.proofs.LinksAscend.{From, Climb, place, climb-upto, climb-next}
+use Rattle.store_rules.proofs.LinksAscend.{Behind, Climb, climb-upto, climb-two}
 use Rattle.store_rules.proofs.RowOrder.{rows-from, from-rows}
 
 -- a link that a store may hold: "links name objects in use", of its kind's shape
@@ -55,13 +55,15 @@ module _ (s : Store) (f : Fits s) where
   unfolding linksOf
   links-fit = each-upto (Fitting s) (linkAt s) (s .linkCount) row-fitting
 
-  pub row-from : (k : ℕ) → suc k < s .linkCount → From (parentOf s k) (place (linkAt s k) + 1) (parentOf s (suc k)) (place (linkAt s (suc k)))
+  pub row-formed : (k : ℕ) → k < s .linkCount → Formed (linkAt s k)
+  row-formed k l =
+      let r = f .link k l in
+      formed-in (sizeOf s (parentOf s k)) (linkAt s k) (size-most s f (parentOf s k) (r .parentUsed)) (r .shape)
+
+  pub row-behind : (k : ℕ) → suc k < s .linkCount → Behind (linkAt s k) (linkAt s (suc k))
   unfolding ascends
-  row-from k h =
-      let r = f .link k (omega arith) in
-      let n = f .link (suc k) h in
-      rows-from (linkAt s k) (linkAt s (suc k)) (sizeOf s (parentOf s k)) (sizeOf s (parentOf s (suc k))) (r .shape) (n .shape)
-      (size-most s f (parentOf s k) (r .parentUsed)) (size-most s f (parentOf s (suc k)) (n .parentUsed)) (n .rising)
+  row-behind k h =
+      rows-from (linkAt s k) (linkAt s (suc k)) (row-formed k (omega arith)) (row-formed (suc k) h) (f .link (suc k) h .rising)
 
   -- "Rows strictly ascend"
   pub rows-climb : Climb 0 0 (s .objectCount) (linksOf s)
@@ -70,7 +72,7 @@ module _ (s : Store) (f : Fits s) where
     where
       used : 0 < s .objectCount → Climb 0 0 (s .objectCount) (upto (linkAt s) (s .linkCount))
       used u =
-          climb-upto (linkAt s) (s .linkCount) 0 0 (s .objectCount) row-from (λ k l. f .link k l .parentUsed) u
+          climb-upto (linkAt s) (s .linkCount) 0 0 (s .objectCount) row-behind (λ k l. f .link k l .parentUsed) u
           (λ l. ⊎-elim (λ a. inl a) (λ a. inr (omega arith, omega arith)) (either 0 (parentOf s 0)))
 
       -- with no objects there are no links
@@ -91,21 +93,19 @@ module _ (s : Store) (ls : List Link) (is : linksOf s ≡ ls) (small : (i : ℕ)
   row-fits : (k : ℕ) → k < s .linkCount → Fitting s (linkAt s k)
   row-fits k h = subst (Fitting s) (sym (row k h)) (each-at (Fitting s) ls fit k (omega (arith, many)) noLink)
 
+  row-forms : (k : ℕ) → k < s .linkCount → Formed (linkAt s k)
+  row-forms k h = let r = row-fits k h in formed-in (sizeOf s (parentOf s k)) (linkAt s k) (small (parentOf s k) (r .parentUsed)) (r .shape)
+
   row-rises : (k : ℕ) → k < s .linkCount → ascends s k ≡ true
   unfolding ascends
   row-rises zero h = refl
   row-rises (suc k) h =
       let l = linkAt s k in
       let m = linkAt s (suc k) in
-      let next = getD ls (suc k) noLink in
-      let listed = climb-next ls 0 0 e climbs k (omega (arith, many)) noLink in
-      let first : From (l .parent) (place l + 1) (next .parent) (place next)
-      = subst (λ (a : Link). From (a .parent) (place a + 1) (next .parent) (place next)) (sym (row k (omega arith))) listed in
-      let both : From (l .parent) (place l + 1) (m .parent) (place m)
-      = subst (λ (b : Link). From (l .parent) (place l + 1) (b .parent) (place b)) (sym (row (suc k) h)) first in
-      let r = row-fits k (omega arith) in
-      let n = row-fits (suc k) h in
-      from-rows l m (sizeOf s (l .parent)) (sizeOf s (m .parent)) (r .shape) (n .shape) (small (l .parent) (r .parentUsed)) (small (m .parent) (n .parentUsed)) both
+      let listed = climb-two ls 0 0 e climbs k (suc k) (omega arith) (omega (arith, many)) noLink in
+      let first : Behind l (getD ls (suc k) noLink) = subst (λ (a : Link). Behind a (getD ls (suc k) noLink)) (sym (row k (omega arith))) listed in
+      let both : Behind l m = subst (Behind l) (sym (row (suc k) h)) first in
+      from-rows l m (row-forms k (omega arith)) (row-forms (suc k) h) both
 
   pub rows-fit : (k : ℕ) → k < s .linkCount → LinkFits s k
   rows-fit k h =

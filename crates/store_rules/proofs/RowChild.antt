@@ -10,32 +10,23 @@ use native.Mathlib.Nat.{not-suc-le-zero}
 use lib.ListN.{length, getD}
 use borrow.Author.Tests.{eq-eqb}
 use Rattle.folds.proofs.Tests.{by-test}
+use Rattle.folds.proofs.Each.{each-at}
 use Rattle.store_rules.specs.Store.{Store, Link, lookup, linksOf, linkAt, isOffset, offsetOf, childAt, parentOf, positionOf, childOf}
 use Rattle.store_rules.proofs.Sound.{Fits}
 use Rattle.store_rules.proofs.Shaped.{of-offset, of-parent}
 use Rattle.store_rules.proofs.Lookups.{hit, hit-is}
 use Rattle.store_rules.proofs.LinkRows.{noLink, row-is}
-use Rattle.store_rules.proofs.LinksAscend.{From, Climb, place, place-offset, from-trans, from-next}
+use Rattle.store_rules.proofs.LinksAscend.{From, Behind, Climb, place, place-offset, climb-each}
 use Rattle.store_rules.proofs.LinksFit.{rows-climb, rows-many}
 
--- each of ascending links comes from where they start on
-climb-from : (ls : List Link) (p q e : ℕ) → Climb p q e ls → (k : ℕ) → k < length ls → (d : Link) → From p q (getD ls k d .parent) (place (getD ls k d))
-climb-from [] p q e c k h d = absurd (not-suc-le-zero h)
-climb-from (l ∷ ls) p q e c zero h d = c .0
-climb-from (l ∷ ls) p q e c (suc k) h d =
-    let x = getD ls k d in
-    let later = climb-from ls (l .parent) (place l + 1) e (c .1) k (omega arith) d in
-    from-trans p q (l .parent) (place l + 1) (x .parent) (place x) (from-next p q (l .parent) (place l) (c .0)) later
+-- what is found stands at its place
+pub hit-place : (l : Link) (p q : ℕ) → hit l p q ≡ true → (l .parent ≡ p) × (place l ≡ q)
+hit-place l p q h = let (o, e) = hit-is l p q h in (of-parent p l o, place-offset l (of-offset p l o) ∙ e)
 
 -- of ascending links, one that comes later is not the first
 pub hit-later : (l : Link) (p q : ℕ) → From (l .parent) (place l + 1) p q → hit l p q ≡ false
 hit-later l p q a =
-    by-test (hit l p q)
-    (λ h.
-    let (o, e) = hit-is l p q h in
-    let at = place-offset l (of-offset p l o) in
-    absurd (⊎-elim (λ b. omega (arith, of-parent p l o)) (λ (b, c). omega arith) a))
-    (λ h. h)
+    by-test (hit l p q) (λ h. let (e, f) = hit-place l p q h in absurd (⊎-elim (λ b. omega arith) (λ (b, c). omega arith) a)) (λ h. h)
 
 pub lookup-later : (l : Link) (ls : List Link) (p q : ℕ) → From (l .parent) (place l + 1) p q → lookup (l ∷ ls) p q ≡ lookup ls p q
 unfolding lookup
@@ -50,7 +41,7 @@ climb-found (l ∷ ls) p q e c zero h d o = rw (o, eq-eqb (l .parent) (l .parent
 climb-found (l ∷ ls) p q e c (suc k) h d o =
     let x = getD ls k d in
     let at : From (l .parent) (place l + 1) (x .parent) (x .position)
-    = subst (From (l .parent) (place l + 1) (x .parent)) (place-offset x o) (climb-from ls (l .parent) (place l + 1) e (c .1) k (omega arith) d) in
+    = subst (From (l .parent) (place l + 1) (x .parent)) (place-offset x o) (each-at (Behind l) ls (climb-each ls (l .parent) (place l + 1) e (c .1)) k (omega arith) d) in
     lookup-later l ls (x .parent) (x .position) at ∙ climb-found ls (l .parent) (place l + 1) e (c .1) k (omega arith) d o
 
 pub row-child : (s : Store) → Fits s → (k : ℕ) → k < s .linkCount → isOffset (linkAt s k) ≡ true → childAt s (parentOf s k) (positionOf s k) ≡ some (childOf s k)

@@ -1,16 +1,16 @@
 -- The order of rows, "(parent, kind, position, child)" and no two offsets at one position, is that of parent and place. Assumes nothing.
-use Prim.Native.Nat.{ℕ, _+_, _<_, _≤_}
+use Prim.Native.Nat.{ℕ, _<_}
 use mathlib.Core.Path.{_≡_, refl, sym, _∙_}
 use mathlib.Core.Bool.{Bool, true, false, not, _&&_, _||_}
 use mathlib.Core.Logic.{_⊎_, inl, inr, ⊎-elim}
 use native.Mathlib.Omega.{arith}
 use lib.Dec.{ltb, eqb}
 use borrow.Author.Tests.{ltb-true, eqb-true, lt-ltb, eq-eqb, ne-eqb, not-true}
-use Rattle.folds.proofs.Tests.{by-test, and-both, and-intro, and-first, and-second, true-false}
+use Rattle.folds.proofs.Tests.{by-test, and-both, and-intro, and-second, true-false}
 use Rattle.folds.proofs.Joined.{or-either, or-first, or-second}
-use Rattle.store_rules.specs.Store.{Link, isOffset, offsetOf, shaped, rowBefore, onePosition}
-use Rattle.store_rules.proofs.Shaped.{offset-inside, order-numbers}
-use Rattle.store_rules.proofs.LinksAscend.{From, place, place-offset, place-order}
+use Rattle.store_rules.specs.Store.{Link, isOffset, offsetOf, rowBefore, onePosition}
+use Rattle.store_rules.proofs.Shaped.{Formed, offset-inside, order-numbers}
+use Rattle.store_rules.proofs.LinksAscend.{Behind, place-offset, place-order}
 
 -- the sentence's order, as a fact
 abbrev pub Before : Link → Link → Type 0
@@ -71,38 +71,38 @@ module _ (l m : Link) where
   kind-zero : (x : Link) → isOffset x ≡ true → x .kind ≡ 0
   kind-zero x o = eqb-true (x .kind) 0 o
 
-  module _ (a b : ℕ) (la : shaped a l ≡ true) (mb : shaped b m ≡ true) (small : a ≤ 16777216) (little : b ≤ 16777216) where
+  module _ (fl : Formed l) (fm : Formed m) where
     -- in the sentence's order, then by place
-    pub rows-from : (rowBefore l m && not (onePosition l m)) ≡ true → From (l .parent) (place l + 1) (m .parent) (place m)
+    pub rows-from : (rowBefore l m && not (onePosition l m)) ≡ true → Behind l m
     rows-from h =
         let (x, y) = and-both (rowBefore l m) (not (onePosition l m)) h in
         by-test (isOffset l)
         (λ o. by-test (isOffset m) (λ w. both o w (not-true (onePosition l m) y) (before-is x)) (λ w. mixed o w (before-is x)))
         (λ o. by-test (isOffset m) (λ w. wrong o w (before-is x)) (λ w. orders o w (before-is x)))
       where
-        both : isOffset l ≡ true → isOffset m ≡ true → onePosition l m ≡ false → Before l m → From (l .parent) (place l + 1) (m .parent) (place m)
+        both : isOffset l ≡ true → isOffset m ≡ true → onePosition l m ≡ false → Before l m → Behind l m
         both o w n (inl p) = inl p
         both o w n (inr (p, inl k)) = absurd (omega (arith, kind-zero l o, kind-zero m w))
         both o w n (inr (p, inr (k, inl q))) = inr (p, omega (arith, place-offset l o, place-offset m w))
         both o w n (inr (p, inr (k, inr (q, c)))) = true-false (sym (one-position p o w q) ∙ n)
 
-        mixed : isOffset l ≡ true → isOffset m ≡ false → Before l m → From (l .parent) (place l + 1) (m .parent) (place m)
+        mixed : isOffset l ≡ true → isOffset m ≡ false → Before l m → Behind l m
         mixed o w (inl p) = inl p
-        mixed o w (inr (p, r)) = inr (p, omega (arith, place-offset l o, place-order m w, offset-inside a l o la))
+        mixed o w (inr (p, r)) = inr (p, omega (arith, place-offset l o, place-order m w, offset-inside 16777216 l o fl))
 
-        wrong : isOffset l ≡ false → isOffset m ≡ true → Before l m → From (l .parent) (place l + 1) (m .parent) (place m)
+        wrong : isOffset l ≡ false → isOffset m ≡ true → Before l m → Behind l m
         wrong o w (inl p) = inl p
-        wrong o w (inr (p, inl k)) = absurd (omega (arith, order-numbers a l o la .0, kind-zero m w))
-        wrong o w (inr (p, inr (k, q))) = absurd (omega (arith, order-numbers a l o la .0, kind-zero m w))
+        wrong o w (inr (p, inl k)) = absurd (omega (arith, order-numbers 16777216 l o fl .0, kind-zero m w))
+        wrong o w (inr (p, inr (k, q))) = absurd (omega (arith, order-numbers 16777216 l o fl .0, kind-zero m w))
 
-        orders : isOffset l ≡ false → isOffset m ≡ false → Before l m → From (l .parent) (place l + 1) (m .parent) (place m)
+        orders : isOffset l ≡ false → isOffset m ≡ false → Before l m → Behind l m
         orders o w (inl p) = inl p
-        orders o w (inr (p, inl k)) = absurd (omega (arith, order-numbers a l o la .0, order-numbers b m w mb .0))
-        orders o w (inr (p, inr (k, inl q))) = absurd (omega (arith, order-numbers a l o la .1, order-numbers b m w mb .1))
+        orders o w (inr (p, inl k)) = absurd (omega (arith, order-numbers 16777216 l o fl .0, order-numbers 16777216 m w fm .0))
+        orders o w (inr (p, inr (k, inl q))) = absurd (omega (arith, order-numbers 16777216 l o fl .1, order-numbers 16777216 m w fm .1))
         orders o w (inr (p, inr (k, inr (q, c)))) = inr (p, omega (arith, place-order l o, place-order m w))
 
     -- and the other way round
-    pub from-rows : From (l .parent) (place l + 1) (m .parent) (place m) → (rowBefore l m && not (onePosition l m)) ≡ true
+    pub from-rows : Behind l m → (rowBefore l m && not (onePosition l m)) ≡ true
     unfolding onePosition
     from-rows (inl p) = and-intro (rowBefore l m) (not (onePosition l m)) (is-before (inl p)) (rw (ne-eqb (l .parent) (m .parent) (λ e. omega arith), and-second (isOffset l) false refl))
     from-rows (inr (p, q)) =
@@ -113,13 +113,13 @@ module _ (l m : Link) where
         and-intro (rowBefore l m) (not (onePosition l m)) (is-before (inr (p, inr (kind-zero l o ∙ sym (kind-zero m w), inl less))))
         (rw (and-second (offsetOf (m .parent) l && isOffset m) (eqb (l .position) (m .position)) (ne-eqb (l .position) (m .position) (λ e. omega arith)))))
         (λ w.
-        and-intro (rowBefore l m) (not (onePosition l m)) (is-before (inr (p, inl (omega (arith, kind-zero l o, order-numbers b m w mb .0)))))
+        and-intro (rowBefore l m) (not (onePosition l m)) (is-before (inr (p, inl (omega (arith, kind-zero l o, order-numbers 16777216 m w fm .0)))))
         (rw (w, and-second (offsetOf (m .parent) l) false refl))))
         (λ o. by-test (isOffset m)
-        (λ w. absurd (omega (arith, place-order l o, place-offset m w, offset-inside b m w mb)))
+        (λ w. absurd (omega (arith, place-order l o, place-offset m w, offset-inside 16777216 m w fm)))
         (λ w.
-        let (k, x, u) = order-numbers a l o la in
-        let (k′, x′, u′) = order-numbers b m w mb in
+        let (k, x, u) = order-numbers 16777216 l o fl in
+        let (k′, x′, u′) = order-numbers 16777216 m w fm in
         and-intro (rowBefore l m) (not (onePosition l m))
         (is-before (inr (p, inr (k ∙ sym k′, inr (x ∙ sym x′, omega (arith, place-order l o, place-order m w))))))
         (rw o)))

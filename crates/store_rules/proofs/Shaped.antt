@@ -1,7 +1,8 @@
 -- Links of their kind's shape: what an offset has, what an order-only link has, and which other parent they fit. Assumes nothing.
 use Prim.Native.Nat.{ℕ, _+_, _≤_}
-use mathlib.Core.Path.{_≡_, refl, sym, _∙_}
-use mathlib.Core.Bool.{Bool, true, false, cond, _&&_}
+use mathlib.Core.Path.{_≡_}
+use mathlib.Core.Bool.{true, false}
+use native.Mathlib.Omega.{arith}
 use lib.Dec.{leb, eqb}
 use borrow.Author.Tests.{eqb-true, leb-true, eq-eqb, le-leb, ne-eqb}
 use Rattle.folds.proofs.Tests.{by-test, and-both, and-intro, and-first, and-second}
@@ -56,6 +57,13 @@ module _ (size : ℕ) (l : Link) where
       by-test (isOffset l)
       (λ o. rw o (and-intro (eqb (l .width) 2) (leb (l .position + 2) other) (eq-eqb (l .width) 2 (offset-wide o h)) (le-leb (l .position + 2) other (in-other o (offset-inside o h)))))
       (λ o. rw o (rw o at h))
+
+-- of its kind's shape in a parent of as many bytes as a store can have
+abbrev pub Formed : Link → Type 0
+Formed l = shaped 16777216 l ≡ true
+
+pub formed-in : (size : ℕ) (l : Link) → size ≤ 16777216 → shaped size l ≡ true → Formed l
+formed-in size l small h = shaped-then size l 16777216 (λ o inside. omega arith) h
 
 -- an offset that leads elsewhere, or stands elsewhere, is one still: the shape asks for no parent and no child
 pub shaped-leading : (size : ℕ) (l m : Link) → m .kind ≡ l .kind → m .width ≡ l .width → m .position ≡ l .position → shaped size l ≡ true → shaped size m ≡ true

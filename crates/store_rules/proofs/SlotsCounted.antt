@@ -18,9 +18,10 @@ use Rattle.folds.proofs.Sums.{sum-zero, sum-but-one}
 use Rattle.store_rules.specs.Store.{Store, Link, lookup, linksOf, linkAt, childAt, positionOf, offsetOf}
 use Rattle.store_rules.proofs.Sound.{Fits}
 use Rattle.store_rules.proofs.Shaped.{of-offset, of-parent}
-use Rattle.store_rules.proofs.Lookups.{hit, hit-is, hit-apart}
+use Rattle.store_rules.proofs.Lookups.{hit, hit-apart}
 use Rattle.store_rules.proofs.LinksAscend.{From, Climb, place, place-offset, from-trans, from-next}
 use Rattle.store_rules.proofs.LinksFit.{rows-climb}
+use Rattle.store_rules.proofs.RowChild.{hit-place}
 
 -- what comes before ascending links is not found among them
 none-before : (ls : List Link) (p q x y e : ℕ) → From p (q + 1) x y → Climb x y e ls → lookup ls p q ≡ none
@@ -35,12 +36,7 @@ none-before (l ∷ ls) p q x y e b c =
 
     miss : From p (q + 1) (l .parent) (place l) → hit l p q ≡ false
     miss a =
-        by-test (hit l p q)
-        (λ h.
-        let (o, e) = hit-is l p q h in
-        let at = place-offset l (of-offset p l o) in
-        absurd (⊎-elim (λ b. omega (arith, of-parent p l o)) (λ (b, d). omega arith) a))
-        (λ h. h)
+        by-test (hit l p q) (λ h. let (e, f) = hit-place l p q h in absurd (⊎-elim (λ b. omega arith) (λ (b, d). omega arith) a)) (λ h. h)
 
 -- n slots of object p, each at its own place
 module _ (p : ℕ) (slot : ℕ → ℕ) (n : ℕ) (own : (i k : ℕ) → slot i ≡ slot k → i ≡ k) where

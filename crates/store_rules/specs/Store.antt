@@ -120,7 +120,7 @@ linkAt s k = record { parent = parentOf s k; position = positionOf s k; width = 
 unfoldable pub linksOf : Store → List Link
 linksOf s = upto (linkAt s) (s .linkCount)
 
--- "kind: 0 as now": the link is an offset; any other only says "place me after"
+-- "kind: 0 as now": the link is an offset, which is followed; any other is order-only, and says "place me after"
 abbrev pub isOffset : Link → Bool
 isOffset l = eqb (l .kind) 0
 
@@ -149,7 +149,8 @@ rowBefore l m =
 unfoldable pub onePosition : Link → Link → Bool
 onePosition l m = offsetOf (m .parent) l && isOffset m && eqb (l .position) (m .position)
 
--- the row comes behind the one before, "and no parent has two kind 0 links at one position": they would be rows that follow each other
+-- the row comes behind the one before, "and no parent has two kind 0 links at one position": such rows would follow each other. What this says of any two rows
+-- is in proofs/RowsSentence
 unfoldable pub ascends : Store → ℕ → Bool
 ascends s zero = true
 ascends s (suc k) = rowBefore (linkAt s k) (linkAt s (suc k)) && not (onePosition (linkAt s k) (linkAt s (suc k)))

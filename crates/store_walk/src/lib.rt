@@ -90,9 +90,10 @@ fn later(mark: u32, epoch: u32) -> u32
     if mark < epoch { epoch } else { mark }
 }
 
-// The length of all objects that can be reached, along offsets, from the children of the link rows `lo` up to `hi` and have not the mark `epoch` yet; each is
-// counted once, and order-only rows are passed over. Those whose rows are still to come are a stack: `top` is one more than the last of them, 0 where there is none, and each has
-// in the place of its mark one more than the epoch and the `top` that it found. An object with no rows gets its mark at once.
+// The length of all objects that can be reached from the children of the offsets in rows `lo` up to `hi` and have not the mark `epoch` yet; each is counted once.
+// Order-only rows are passed over: they stand behind a parent's offsets, so that what a row is can be foretold. Objects whose rows are still to come are a stack:
+// `top` is one more than the last of them, 0 where there is none, and each has in the place of its mark one more than the epoch and the `top` that it found. An
+// object with no rows gets its mark at once.
 pub fn subgraph_size(
     objects: &[u32],
     links: &[u32],

@@ -1,5 +1,4 @@
 -- `lookup_checks::check_list` meets its contract: the list, and then its lookups, by the list's own rows. Assumes nothing.
-use Prim.Native.Nat.{ℕ, _+_, _*_, _<_}
 use mathlib.Core.Path.{sym, _∙_}
 use native.Mathlib.Omega.{arith}
 use lib.ListN.{length-take}

@@ -1,5 +1,5 @@
 -- `lookup_links::enter_lookup` meets its contract: the links of the rows before k are written. Assumes nothing.
-use Prim.Native.Nat.{_+_, _-_, _*_}
+use Prim.Native.Nat.{_-_}
 use native.Mathlib.Omega.{arith}
 use borrow.Author.Needs.{needs}
 use Rattle.lookup_links.proofs.Lookup.{Entered, all-are, entered-start, entered-stop, row-ready, entered-turn}

@@ -1,5 +1,5 @@
 -- `lookup_new_objects::measure_lookup` meets its contract: the rows of the lookup are counted, and its bytes. Assumes nothing.
-use Prim.Native.Nat.{_+_, _*_, _≤_}
+use Prim.Native.Nat.{_*_, _≤_}
 use native.Mathlib.Omega.{arith}
 use borrow.Author.Needs.{needs}
 use Rattle.lookup_new_objects.proofs.Sizing.{rows-order, bytes-inside, header-there, bytes-most, rows-room, rows-few, entered-few, sized}

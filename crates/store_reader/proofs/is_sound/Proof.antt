@@ -1,12 +1,13 @@
 -- `store_reader::is_sound` meets its contract: its tests are those of the definition, in the same order. Assumes nothing.
 use Prim.Native.Nat.{_/_, min}
-use mathlib.Core.Path.{_∙_}
+use mathlib.Core.Path.{sym, _∙_}
 use native.Mathlib.Omega.{arith}
 use lib.ListN.{length, getD}
 use denote.Ref.{now}
 use borrow.Author.Needs.{needs}
+use borrow.Author.Tests.{not-false}
 use Rattle.store_rules.specs.Store.{lent, perLink, byteRoom, objectRoom, linkRoom}
-use Rattle.store_reader.proofs.Checks.{count-in, bytes-over, objects-over, links-over, objects-unfit, links-decide}
+use Rattle.store_reader.proofs.Checks.{count-in, objects-short, bytes-over, objects-over, links-over, objects-unfit, links-decide}
 use Rattle.store_reader.proofs.is_sound.Statement.{statement}
 use Rattle.store_reader.proofs.is_sound.Tie as tie
 
@@ -44,14 +45,17 @@ returns-4 c =
 
 links-fit-requires : tie.Need-links-fit-requires
 links-fit-requires c κs =
-    let e = c .before .before in
+    let f = c in
+    let e = f .before .before in
     let d = e .before .before in
-    let a = d .before .before .before .before .before .before .before .args in
-    omega (
-      arith,
-      count-in (getD (a .t4) 1 0) (min (length (now (a .objects)) / 2) 65536) (d .before .count-fits2 .ensures) (d .if2 .left),
-      count-in (getD (a .t4) 2 0) (min (length (now (a .links)) / perLink) 262144) (e .before .count-fits3 .ensures) (e .if3 .left),
-    )
+    let b = d .before .before in
+    let a = b .before .before .before .before .before .args in
+    let bytes = count-in (getD (a .t4) 0 0) (min (length (now (a .«data»))) 16777216) (b .before .count-fits .ensures) (b .if1 .left) in
+    let objects = count-in (getD (a .t4) 1 0) (min (length (now (a .objects)) / 2) 65536) (d .before .count-fits2 .ensures) (d .if2 .left) in
+    let links = count-in (getD (a .t4) 2 0) (min (length (now (a .links)) / perLink) 262144) (e .before .count-fits3 .ensures) (e .if3 .left) in
+    let s = lent (now (a .«data»)) (now (a .objects)) (now (a .links)) (a .t4) in
+    let fit = sym (f .before .objects-fit .ensures (now (a .«data»)) (now (a .links))) ∙ not-false (f .before .objects-fit .result) (f .if4 .left) in
+    (record { there = omega arith; few = omega arith; short = λ i l. omega (arith, objects-short s fit i l) }, omega arith)
 
 returns-5 : tie.Need-returns-5
 unfolding byteRoom objectRoom linkRoom

@@ -9,7 +9,7 @@ use lib.ListN.{length, getD, set, length-set}
 use denote.Ref.{now}
 use borrow.Author.Needs.{needs}
 use borrow.Author.Tests.{eqb-true}
-use Rattle.folds.specs.Folds.{sum, before}
+use Rattle.folds.specs.Folds.{sum}
 use Rattle.folds.proofs.Tally.{count}
 use Rattle.store_rules.specs.Store.{lent}
 use Rattle.store_rules.proofs.Sound.{Fits, sound-fits, sizes-most}

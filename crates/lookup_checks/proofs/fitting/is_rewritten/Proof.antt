@@ -1,6 +1,4 @@
 -- `lookup_checks::fitting::is_rewritten` meets its contract: its type, and then its rows. Assumes nothing.
-use Prim.Native.Nat.{_+_, _*_}
-use native.Mathlib.Omega.{arith}
 use borrow.Author.Needs.{needs}
 use Rattle.store_rules.specs.Store.{lent}
 use Rattle.lookup_checks.proofs.Objects.{use-fits, lies, searchable, rows-in, good-long, of-others, rows-decide}

@@ -1,5 +1,4 @@
 -- `lookup_checks::order::order_lookups` meets its contract: the list's own rows, over cleared marks. Assumes nothing.
-use Prim.Native.Nat.{ℕ, _+_, _*_, _<_}
 use mathlib.Core.Path.{sym}
 use native.Mathlib.Omega.{arith}
 use lib.ListN.{length, take, getD}

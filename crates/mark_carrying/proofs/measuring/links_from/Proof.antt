@@ -3,8 +3,8 @@ use native.Mathlib.Omega.{arith}
 use borrow.Author.Needs.{needs}
 use Rattle.store_rules.specs.Store.{lent}
 use Rattle.store_rules.proofs.Sound.{sound-fits}
-use Rattle.store_reader.proofs.Rows.{in-order}
-use Rattle.store_link_rows.proofs.OwnLinks.{positions-low, own-many}
+use Rattle.store_reader.proofs.Rows.{in-order, positions-low}
+use Rattle.store_link_rows.proofs.OwnLinks.{own-many}
 use Rattle.mark_carrying.proofs.measuring.links_from.Statement.{statement}
 use Rattle.mark_carrying.proofs.measuring.links_from.Tie as tie
 
