@@ -13,4 +13,5 @@ pub mod NewTable
 pub mod TableLinks
 pub mod SortedSets
 pub mod SameReading
+pub mod RenumberedReading
 pub mod SameCuts

@@ -1,0 +1,10 @@
+pub mod Numbers
+pub mod Kept
+pub mod Joined
+pub mod Objects
+pub mod Links
+pub mod Again
+pub mod SameReach
+pub mod Rests
+pub mod Moved
+pub mod Pinned

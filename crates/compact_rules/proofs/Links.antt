@@ -1,0 +1,168 @@
+-- The links after a compaction: they fit and ascend, so that the store is sound, and each kept object has its children under their new numbers. Assumes nothing.
+use Prim.Native.Nat.{ℕ, suc, _+_, _*_, _<_, _≤_}
+use mathlib.Core.Path.{_≡_, refl, sym, ap, _∙_}
+use mathlib.Core.Bool.{Bool, true, false, cond, _&&_}
+use mathlib.Core.List.{List, [], _∷_, map}
+use mathlib.Core.Logic.{inl, inr, ⊎-elim}
+use mathlib.Core.Option.{some}
+use native.Mathlib.Omega.{arith}
+use lib.ListN.{length}
+use lib.Dec.{eqb}
+use Rattle.folds.specs.Lists.{sift}
+use Rattle.folds.proofs.Tests.{by-test, either, and-both, and-intro, true-false}
+use Rattle.folds.proofs.Each.{Each, each-moved, each-then, each-upto}
+use Rattle.folds.proofs.Moved.{length-map, sift-both}
+use Rattle.store_rules.specs.Store.{Store, Link, perLink, lookup, linksOf, linkAt, isOffset, sizeOf, childAt, sound}
+use Rattle.store_rules.proofs.Sound.{Fits, size-most, fits-sound}
+use Rattle.store_rules.proofs.Shaped.{of-offset, of-parent, offset-inside}
+use Rattle.store_rules.proofs.LinksAscend.{From, Climb, place, place-offset, place-order}
+use Rattle.store_rules.proofs.LinksFit.{Fitting, fitting-then, links-fit, rows-many}
+use Rattle.store_rules.proofs.Rising.{Behind, Rises, rises-moved, rises-climb, rows-rise}
+use Rattle.store_rules.proofs.Appended.{links-then, links-count}
+use Rattle.store_rules.proofs.AppendedFits.{appended-fits}
+use Rattle.store_rules.proofs.Lookups.{hit, hit-is, mapped}
+use Rattle.compact_rules.specs.Kept.{renumber}
+use Rattle.compact_rules.specs.Compacted.{keptObjects, keepsEnds, renumbered, keptLinks, emptied, compacted}
+use Rattle.compact_rules.proofs.Numbers.{number-less, number-same}
+use Rattle.compact_rules.proofs.Kept.{Keeps}
+use Rattle.compact_rules.proofs.Objects.{wiped-long, roomy, objects-left, size-kept}
+
+-- ---- in order
+
+module _ (keep : ℕ → Bool) where
+  -- a link under its new numbers
+  abbrev moved : Link → Link
+  moved l = renumbered (renumber keep) l
+
+  ends : (l : Link) → keepsEnds keep l ≡ true → (keep (l .parent) ≡ true) × (keep (l .child) ≡ true)
+  ends l h = and-both (keep (l .parent)) (keep (l .child)) h
+
+  -- an offset keeps its place among its parent's links, behind which order-only links go by their new children
+  offset-place : (l : Link) → isOffset l ≡ true → place (moved l) ≡ l .position
+  offset-place l o = place-offset (moved l) o
+
+  order-place : (l : Link) → isOffset l ≡ false → place (moved l) ≡ 16777216 + renumber keep (l .child)
+  order-place l o = place-order (moved l) o
+
+  -- an offset lies within its parent's bytes
+  abbrev Inside : Link → Type 0
+  Inside l = isOffset l ≡ true → l .position + 2 ≤ 16777216
+
+  pub behind-moved : (l m : Link) → Inside l → Inside m → keepsEnds keep l ≡ true → keepsEnds keep m ≡ true → Behind l m → Behind (moved l) (moved m)
+  behind-moved l m x y p q (inl a) = inl (number-less keep (l .parent) (m .parent) (ends l p .0) a)
+  behind-moved l m x y p q (inr (e, a)) =
+      inr (
+        ap (renumber keep) e,
+        by-test (isOffset l)
+            (λ o. by-test (isOffset m)
+            (λ w. omega (arith, place-offset l o, place-offset m w, offset-place l o, offset-place m w))
+            (λ w. omega (arith, x o, offset-place l o, order-place m w)))
+            (λ o. by-test (isOffset m)
+            (λ w. absurd (omega (arith, y w, place-order l o, place-offset m w)))
+            (λ w.
+            let less : l .child < m .child = omega (arith, place-order l o, place-order m w) in
+            omega (arith, number-less keep (l .child) (m .child) (ends l p .1) less, order-place l o, order-place m w))),
+      )
+
+module _ (s : Store) (f : Fits s) (keep : ℕ → Bool) where
+  pub links-left : linksOf (compacted s keep) ≡ keptLinks s keep
+  unfolding compacted
+  links-left = links-then (emptied s) (keptObjects s keep) (keptLinks s keep)
+
+  pub rows-left : compacted s keep .linkCount ≡ length (keptLinks s keep)
+  unfolding compacted
+  rows-left = links-count (emptied s) (keptObjects s keep) (keptLinks s keep)
+
+  pub no-more-links : length (keptLinks s keep) ≤ s .linkCount
+  unfolding keptLinks
+  no-more-links =
+      omega (
+        arith,
+        length-map (renumbered (renumber keep)) (sift (keepsEnds keep) (linksOf s)),
+        sift-both (keepsEnds keep) (linksOf s),
+        rows-many s,
+      )
+
+-- ---- sound
+
+module _ (s : Store) (f : Fits s) (keep : ℕ → Bool) (k : Keeps s keep) where
+  end-used : (i : ℕ) → keep i ≡ true → renumber keep i < compacted s keep .objectCount
+  end-used i h = omega (arith, objects-left s f keep, number-less keep i (s .objectCount) h (k .used i h))
+
+  moved-fits : (l : Link) → Fitting s l → keepsEnds keep l ≡ true → Fitting (compacted s keep) (moved keep l)
+  moved-fits l g h =
+      let (p, c) = ends keep l h in
+      fitting-then (compacted s keep) l (moved keep l) (sizeOf s (l .parent)) refl refl refl (end-used (l .parent) p) (end-used (l .child) c)
+      (λ o i. omega (arith, size-kept s f keep k (l .parent) p)) (g .shape)
+
+  kept-fit : Each (Fitting (compacted s keep)) (keptLinks s keep)
+  unfolding keptLinks
+  kept-fit = each-moved (Fitting s) (Fitting (compacted s keep)) (moved keep) (keepsEnds keep) moved-fits (linksOf s) (links-fit s f)
+
+  inside : (l : Link) → Fitting s l → Inside keep l
+  inside l g o = omega (arith, offset-inside (sizeOf s (l .parent)) l o (g .shape), size-most s f (l .parent) (g .parentUsed))
+
+  kept-rise : Rises (keptLinks s keep)
+  unfolding keptLinks
+  kept-rise =
+      rises-moved (Fitting s) (moved keep) (keepsEnds keep) (λ l m a b p q. behind-moved keep l m (inside l a) (inside m b) p q) (linksOf s) (links-fit s f) (rows-rise s f)
+
+  -- with no objects there are no links
+  kept-climb : Climb 0 0 (suc (compacted s keep .objectCount)) (keptLinks s keep)
+  kept-climb =
+      rises-climb (keptLinks s keep) 0 0 (suc (compacted s keep .objectCount)) (omega arith)
+      (each-then (Fitting (compacted s keep)) (λ l. l .parent < suc (compacted s keep .objectCount)) (λ l g. omega (arith, g .parentUsed)) (keptLinks s keep) kept-fit)
+      (each-then (Fitting (compacted s keep)) (λ l. From 0 0 (l .parent) (place l)) (λ l g. from-start l) (keptLinks s keep) kept-fit)
+      kept-rise
+    where
+      from-start : (l : Link) → From 0 0 (l .parent) (place l)
+      from-start l = ⊎-elim (λ a. inl a) (λ a. inr (omega arith, omega arith)) (either 0 (l .parent))
+
+  pub compacted-fits : Fits (compacted s keep)
+  unfolding compacted emptied
+  compacted-fits =
+      appended-fits (emptied s) (keptObjects s keep) (keptLinks s keep) (roomy s f keep) kept-fit (suc (compacted s keep .objectCount)) kept-climb
+      (omega (arith, no-more-links s f keep, f .linksIn, wiped-long (s .links) (perLink * s .linkCount) (f .linksIn)))
+      (omega (arith, no-more-links s f keep, f .linksMost))
+
+  pub compacted-sound : sound (compacted s keep) ≡ true
+  compacted-sound = fits-sound (compacted s keep) compacted-fits
+
+  -- ---- children
+
+  -- a link that leads from what is kept to what is kept, if it is an offset
+  abbrev Leads : Link → Type 0
+  Leads l = isOffset l ≡ true → keep (l .parent) ≡ true → keep (l .child) ≡ true
+
+  all-lead : Each Leads (linksOf s)
+  unfolding linksOf
+  all-lead = each-upto Leads (linkAt s) (s .linkCount) (λ j l o p. k .closed j l o p)
+
+  module _ (u q : ℕ) (h : keep u ≡ true) where
+    hit-moved : (l : Link) → keepsEnds keep l ≡ true → hit (moved keep l) (renumber keep u) q ≡ hit l u q
+    hit-moved l e = ap (λ (b : Bool). isOffset l && b && eqb (l .position) q) (number-same keep (l .parent) u (ends keep l e .0) h)
+
+    hit-kept : (l : Link) → Leads l → hit l u q ≡ true → keepsEnds keep l ≡ true
+    hit-kept l lead e =
+        let (a, r) = hit-is l u q e in
+        let kp : keep (l .parent) ≡ true = ap keep (of-parent u l a) ∙ h in
+        and-intro (keep (l .parent)) (keep (l .child)) kp (lead (of-offset u l a) kp)
+
+    found : (ls : List Link) → Each Leads ls → lookup (map (moved keep) (sift (keepsEnds keep) ls)) (renumber keep u) q ≡ mapped (renumber keep) (lookup ls u q)
+    unfolding lookup sift
+    found [] a = refl
+    found (l ∷ ls) a = go (hit l u q) (keepsEnds keep l) (hit-moved l) (hit-kept l (a .0)) (found ls (a .1))
+      where
+        go : (x y : Bool) → (y ≡ true → hit (moved keep l) (renumber keep u) q ≡ x) → (x ≡ true → y ≡ true)
+            → lookup (map (moved keep) (sift (keepsEnds keep) ls)) (renumber keep u) q ≡ mapped (renumber keep) (lookup ls u q)
+            → lookup (map (moved keep) (cond y (l ∷ sift (keepsEnds keep) ls) (sift (keepsEnds keep) ls))) (renumber keep u) q
+            ≡ mapped (renumber keep) (cond x (some (l .child)) (lookup ls u q))
+        go true true a b e = rw (a refl)
+        go true false a b e = true-false (sym (b refl))
+        go false true a b e = rw (a refl) e
+        go false false a b e = e
+
+    -- a kept object's children, under their new numbers
+    pub child-kept : childAt (compacted s keep) (renumber keep u) q ≡ mapped (renumber keep) (childAt s u q)
+    unfolding childAt keptLinks
+    child-kept = ap (λ (ls : List Link). lookup ls (renumber keep u) q) (links-left s f keep) ∙ found (linksOf s) all-lead

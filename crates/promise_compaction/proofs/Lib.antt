@@ -1,0 +1,5 @@
+pub mod Kept
+pub mod Rests
+pub mod Readings
+pub mod Cuts
+pub mod Promised

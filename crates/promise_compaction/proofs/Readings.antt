@@ -1,0 +1,51 @@
+-- Readings of kept tables stay, with what they name under new numbers. Assumes nothing.
+use Prim.Native.Nat.{ℕ}
+use mathlib.Core.Path.{_≡_, sym, ap, _∙_}
+use mathlib.Core.Bool.{Bool, true}
+use mathlib.Core.List.{List}
+use mathlib.Core.Option.{some}
+use native.Mathlib.Omega.{arith}
+use borrow.Author.Tests.{lt-leb}
+use Rattle.store_rules.specs.Store.{Store, linkAt, childAt}
+use Rattle.store_rules.proofs.Sound.{Fits, fits-sound}
+use Rattle.store_rules.proofs.Shaped.{of-offset, of-parent}
+use Rattle.store_rules.proofs.Lookups.{child-row}
+use Rattle.store_rules.proofs.Renumbered.{SameUnder}
+use Rattle.compact_rules.specs.Kept.{kept, renumber}
+use Rattle.compact_rules.specs.Compacted.{compacted}
+use Rattle.compact_rules.specs.Calls.{rootsUsed}
+use Rattle.compact_rules.proofs.Numbers.{number-less}
+use Rattle.compact_rules.proofs.Kept.{Keeps, keeps}
+use Rattle.compact_rules.proofs.Objects.{objects-left, bytes-kept}
+use Rattle.compact_rules.proofs.Links.{compacted-sound, child-kept}
+use Rattle.pair_rules.proofs.RenumberedReading as pairs
+use Rattle.mark_rules.proofs.RenumberedReading as marks
+use Rattle.promise_compaction.specs.Readings.{ReadingsKept}
+
+module _ (s : Store) (f : Fits s) (keep : ℕ → Bool) (k : Keeps s keep) where
+  -- what a kept object leads to is kept
+  pub child-keeps : (u q c : ℕ) → keep u ≡ true → childAt s u q ≡ some c → keep c ≡ true
+  child-keeps u q c h e =
+      let (j, l, a, b, x) = child-row s u q c e in
+      sym (ap keep x) ∙ k .closed j l (of-offset u (linkAt s j) a) (ap keep (of-parent u (linkAt s j) a) ∙ h)
+
+  pub same-under : (u : ℕ) → keep u ≡ true → SameUnder (renumber keep) s (compacted s keep) u
+  same-under u h =
+      record {
+        sounds = compacted-sound s f keep k ∙ sym (fits-sound s f);
+        used =
+            lt-leb (compacted s keep .objectCount) (renumber keep u) (omega (arith, objects-left s f keep, number-less keep u (s .objectCount) h (k .used u h)))
+            ∙ sym (lt-leb (s .objectCount) u (k .used u h));
+        bytes = bytes-kept s f keep k u h;
+        links = λ q. child-kept s f keep k u q h;
+        childBytes = λ q c e. bytes-kept s f keep k c (child-keeps u q c h e);
+        childLinks = λ q c e r. child-kept s f keep k c r (child-keeps u q c h e);
+      }
+
+pub readings-kept : (s : Store) → Fits s → (roots : List ℕ) → rootsUsed s roots ≡ true → ReadingsKept s roots (compacted s (kept s roots))
+readings-kept s f roots used =
+    let k = keeps s f roots used in
+    record {
+      pairs = λ t h a b. pairs.reading-then (same-under s f (kept s roots) k t h) a b;
+      marks = λ t h m b. marks.reading-then (same-under s f (kept s roots) k t h) m b;
+    }

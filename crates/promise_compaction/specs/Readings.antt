@@ -1,0 +1,25 @@
+-- "Every pair answer from kept tables is the same, with devices under their new numbers", and so with anchors. Assumes nothing.
+use Prim.Native.Nat.{ℕ}
+use mathlib.Core.Path.{_≡_}
+use mathlib.Core.Bool.{true}
+use mathlib.Core.List.{List}
+use Rattle.store_rules.specs.Store.{Store}
+use Rattle.compact_rules.specs.Kept.{kept}
+use Rattle.call_rules.specs.declared.Settings.{Settings}
+use Rattle.pair_rules.specs.Table.{cutPlaces}
+use Rattle.pair_rules.specs.Reads.{Reads}
+use Rattle.pair_rules.specs.Calls.{pairCall}
+use Rattle.pair_rules.specs.Renumbered as pairs
+use Rattle.mark_rules.specs.Calls.{markCall}
+use Rattle.mark_rules.specs.Renumbered as marks
+use Rattle.promise_compaction.specs.Kept.{newNumber}
+
+-- of any two glyphs, answers and refusals alike
+pub record ReadingsKept (s : Store) (roots : List ℕ) (left : Store) : Type 0 where
+  pub pairs : (t : ℕ) → kept s roots t ≡ true → (a b : ℕ) → pairCall left (newNumber s roots t) a b ≡ pairs.outcomeThen (newNumber s roots) (pairCall s t a b)
+  pub marks : (t : ℕ) → kept s roots t ≡ true → (m b : ℕ) → markCall left (newNumber s roots t) m b ≡ marks.outcomeThen (newNumber s roots) (markCall s t m b)
+
+-- "Freed room is used by the next split": it cuts a kept table where it would have cut it before
+abbrev pub CutsKept : Store → List ℕ → Store → Type 0
+CutsKept s roots left =
+    (how : Settings) (t : ℕ) → kept s roots t ≡ true → Reads s t → cutPlaces how left (newNumber s roots t) ≡ cutPlaces how s t
