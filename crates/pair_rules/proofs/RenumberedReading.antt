@@ -3,7 +3,7 @@
 use Prim.Native.Nat.{ℕ, _+_, _*_}
 use mathlib.Core.Path.{_≡_, refl, sym, ap, ap₂, _∙_}
 use mathlib.Core.Bool.{Bool, true, false, cond, not, _&&_, _||_}
-use mathlib.Core.List.{List, [], _∷_, _++_}
+use mathlib.Core.List.{List, [], _∷_, _++_, map}
 use mathlib.Core.Option.{Option, some, none, Option·getD}
 use native.Mathlib.Numerals.{add-one}
 use lib.ListN.{length}
@@ -16,6 +16,7 @@ use Rattle.folds.proofs.Tests.{by-test}
 use Rattle.folds.proofs.Folds.{upto-same, length-upto}
 use Rattle.folds.proofs.FromTheFront.{upto-at}
 use Rattle.folds.proofs.Failing.{all-same}
+use Rattle.folds.proofs.Each.{Each}
 use Rattle.ot_layouts.specs.Numbers.{u16At, signed16}
 use Rattle.ot_layouts.specs.Values.{fields, bit, fieldAt, fieldCount, position}
 use Rattle.ot_layouts.specs.Coverage.{coverReadable, coverGlyphs, coverPlace}
@@ -30,7 +31,7 @@ use Rattle.call_rules.proofs.Cases.{first-either}
 use Rattle.pair_rules.specs.Table.{shape, partsReadable, glyphsOf, sortedIn, setsSorted}
 use Rattle.pair_rules.specs.Pairs.{Spot, Pair, noPair, spot1, spot2, spotOf, deviceNumber, numberOf, pairAt, pairOf}
 use Rattle.pair_rules.specs.Reads.{Reads}
-use Rattle.pair_rules.specs.Calls.{readCases, pairCases, reported, settlePair, pairCall}
+use Rattle.pair_rules.specs.Calls.{PairOutcome, readCases, pairCases, reported, settlePair, pairCall, readInOrder}
 use Rattle.pair_rules.specs.Renumbered.{deviceThen, fieldThen, eightThen, outcomeThen}
 use Rattle.pair_rules.proofs.Checks.{Parts, parts-read}
 use Rattle.pair_rules.proofs.SortedSets.{no-case-pairs}
@@ -137,7 +138,7 @@ module _ {new : ℕ → ℕ} {s s′ : Store} {u : ℕ} (same : SameUnder new s 
       set-same-at (some c) h = ap (λ (b : List ℕ). setSorted b (recordSize (bytesOf s u))) (h c refl)
 
   -- 1 to 5 and 11
-  refusal-same : firstCase (pairCases s′ (new u)) ≡ firstCase (pairCases s u)
+  pub refusal-same : firstCase (pairCases s′ (new u)) ≡ firstCase (pairCases s u)
   unfolding pairCases
   refusal-same =
       first-either (readCases s′ (new u)) _
@@ -281,14 +282,16 @@ module _ {new : ℕ → ℕ} {s s′ : Store} {u : ℕ} (same : SameUnder new s 
       (λ e. rw e (pair1-then a b parts))
       (λ e. rw e (pair2-then a b parts e))
 
-  -- eight numbers each
-  first-eight : (a b : ℕ) → length (pairOf s u a b .first) ≡ 8
-  unfolding pairOf pairAt noPair
-  first-eight a b = go (spotOf s u a b)
-    where
-      go : (o : Option Spot) → length (pairAt s u o .first) ≡ 8
-      go none = refl
-      go (some p) = length-upto (numberOf s (p .object) (p .at) (value1 (bytesOf s u))) 8
+-- eight numbers each
+pub both-eight : (s : Store) (u a b : ℕ) → (length (pairOf s u a b .first) ≡ 8) × (length (pairOf s u a b .second) ≡ 8)
+unfolding pairOf pairAt noPair
+both-eight s u a b = go (spotOf s u a b)
+  where
+    go : (o : Option Spot) → (length (pairAt s u o .first) ≡ 8) × (length (pairAt s u o .second) ≡ 8)
+    go none = (refl, refl)
+    go (some p) =
+        let b = bytesOf s u in
+        (length-upto (numberOf s (p .object) (p .at) (value1 b)) 8, length-upto (numberOf s (p .object) (p .at + 2 * fieldCount (value1 b)) (value2 b)) 8)
 
 reported-then : (new : ℕ → ℕ) (n : ℕ) (p : Pair) → length (p .first) ≡ 8 → reported n (pairThen new p) ≡ outcomeThen new (reported n p)
 unfolding outcomeThen
@@ -305,4 +308,18 @@ module _ {new : ℕ → ℕ} {s s′ : Store} {u : ℕ} (same : SameUnder new s 
     where
       go : (o : Option ℕ) → firstCase (pairCases s u) ≡ o → settlePair o (pairOf s′ (new u) a b) ≡ outcomeThen new (settlePair o (pairOf s u a b))
       go (some n) e = ap (reported n) (sym (no-pair-then new)) ∙ reported-then new n noPair refl
-      go none e = ap (reported 0) (pair-then same a b (no-case-pairs s u e .reads)) ∙ reported-then new 0 (pairOf s u a b) (first-eight same a b)
+      go none e = ap (reported 0) (pair-then same a b (no-case-pairs s u e .reads)) ∙ reported-then new 0 (pairOf s u a b) (both-eight s u a b .0)
+
+-- and so with several tables in order
+pub in-order-then : (new : ℕ → ℕ) (s s′ : Store) (us : List ℕ) → Each (SameUnder new s s′) us → (a b : ℕ)
+    → readInOrder s′ (map new us) a b ≡ outcomeThen new (readInOrder s us a b)
+unfolding readInOrder noPair outcomeThen
+in-order-then new s s′ [] h a b = ap (reported 0) (sym (no-pair-then new)) ∙ reported-then new 0 noPair refl
+in-order-then new s s′ (u ∷ us) h a b =
+    ap₂ (λ (x y : PairOutcome). cond (eqb (x .found) 1) x y) (reading-then (h .0) a b) (in-order-then new s s′ us (h .1) a b)
+    ∙ go (eqb (pairCall s u a b .found) 1)
+  where
+    go : (c : Bool)
+        → cond c (outcomeThen new (pairCall s u a b)) (outcomeThen new (readInOrder s us a b)) ≡ outcomeThen new (cond c (pairCall s u a b) (readInOrder s us a b))
+    go true = refl
+    go false = refl

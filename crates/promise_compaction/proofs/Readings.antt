@@ -1,15 +1,19 @@
 -- Readings of kept tables stay, with what they name under new numbers. Assumes nothing.
-use Prim.Native.Nat.{ℕ}
+use Prim.Native.Nat.{ℕ, _+_, _*_}
 use mathlib.Core.Path.{_≡_, sym, ap, _∙_}
 use mathlib.Core.Bool.{Bool, true}
-use mathlib.Core.List.{List}
-use mathlib.Core.Option.{some}
+use mathlib.Core.List.{List, map}
+use mathlib.Core.Option.{Option, some}
 use native.Mathlib.Omega.{arith}
 use borrow.Author.Tests.{lt-leb}
-use Rattle.store_rules.specs.Store.{Store, linkAt, childAt}
+use Rattle.folds.proofs.Folds.{upto-same}
+use Rattle.folds.proofs.Moved.{map-upto}
+use Rattle.folds.proofs.Each.{Each}
+use Rattle.ot_layouts.specs.Lookup.{subtableCount, lookupHeader}
+use Rattle.store_rules.specs.Store.{Store, linkAt, bytesOf, childAt}
 use Rattle.store_rules.proofs.Sound.{Fits, fits-sound}
 use Rattle.store_rules.proofs.Shaped.{of-offset, of-parent}
-use Rattle.store_rules.proofs.Lookups.{child-row}
+use Rattle.store_rules.proofs.Lookups.{mapped, child-row}
 use Rattle.store_rules.proofs.Renumbered.{SameUnder}
 use Rattle.compact_rules.specs.Kept.{kept, renumber}
 use Rattle.compact_rules.specs.Compacted.{compacted}
@@ -18,8 +22,13 @@ use Rattle.compact_rules.proofs.Numbers.{number-less}
 use Rattle.compact_rules.proofs.Kept.{Keeps, keeps}
 use Rattle.compact_rules.proofs.Objects.{objects-left, bytes-kept}
 use Rattle.compact_rules.proofs.Links.{compacted-sound, child-kept}
+use Rattle.pair_rules.specs.Calls.{readInOrder}
+use Rattle.pair_rules.specs.Renumbered.{outcomeThen}
 use Rattle.pair_rules.proofs.RenumberedReading as pairs
 use Rattle.mark_rules.proofs.RenumberedReading as marks
+use Rattle.lookup_rules.specs.Listed.{slotsAt, linkedIn, subtableSlots}
+use Rattle.lookup_rules.specs.Applied.{subtables, applied}
+use Rattle.lookup_rules.proofs.Slots.{linked-mapped, each-linked}
 use Rattle.promise_compaction.specs.Readings.{ReadingsKept}
 
 module _ (s : Store) (f : Fits s) (keep : ℕ → Bool) (k : Keeps s keep) where
@@ -42,10 +51,37 @@ module _ (s : Store) (f : Fits s) (keep : ℕ → Bool) (k : Keeps s keep) where
         childLinks = λ q c e r. child-kept s f keep k c r (child-keeps u q c h e);
       }
 
+  -- ---- lookups
+
+  -- a kept lookup has its subtables, under their new numbers
+  slots-kept : (p : ℕ) → keep p ≡ true → subtableSlots (compacted s keep) (renumber keep p) ≡ map (mapped (renumber keep)) (subtableSlots s p)
+  unfolding subtableSlots slotsAt
+  slots-kept p h =
+      let count = subtableCount (bytesOf s p) in
+      let slot : ℕ → Option ℕ = λ i. childAt s p (lookupHeader + 2 * i) in
+      ap (λ (b : List ℕ). slotsAt (compacted s keep) (renumber keep p) lookupHeader (subtableCount b)) (bytes-kept s f keep k p h)
+      ∙ upto-same (λ i. childAt (compacted s keep) (renumber keep p) (lookupHeader + 2 * i)) (λ i. mapped (renumber keep) (slot i)) count
+      (λ i l. child-kept s f keep k p (lookupHeader + 2 * i) h)
+      ∙ sym (map-upto (mapped (renumber keep)) slot count)
+
+  subtables-under : (p : ℕ) → keep p ≡ true → Each (SameUnder (renumber keep) s (compacted s keep)) (subtables s p)
+  unfolding subtableSlots slotsAt
+  subtables-under p h =
+      each-linked (SameUnder (renumber keep) s (compacted s keep)) (λ i. childAt s p (lookupHeader + 2 * i)) (subtableCount (bytesOf s p))
+      (λ i c l e. same-under c (child-keeps p (lookupHeader + 2 * i) c h e))
+
+  pub applied-then : (p : ℕ) → keep p ≡ true → (a b : ℕ) → applied (compacted s keep) (renumber keep p) a b ≡ outcomeThen (renumber keep) (applied s p a b)
+  unfolding applied
+  applied-then p h a b =
+      ap (λ (os : List (Option ℕ)). readInOrder (compacted s keep) (linkedIn os) a b) (slots-kept p h)
+      ∙ ap (λ (us : List ℕ). readInOrder (compacted s keep) us a b) (linked-mapped (renumber keep) (subtableSlots s p))
+      ∙ pairs.in-order-then (renumber keep) s (compacted s keep) (subtables s p) (subtables-under p h) a b
+
 pub readings-kept : (s : Store) → Fits s → (roots : List ℕ) → rootsUsed s roots ≡ true → ReadingsKept s roots (compacted s (kept s roots))
 readings-kept s f roots used =
     let k = keeps s f roots used in
     record {
       pairs = λ t h a b. pairs.reading-then (same-under s f (kept s roots) k t h) a b;
+      lookups = λ p h a b. applied-then s f (kept s roots) k p h a b;
       marks = λ t h m b. marks.reading-then (same-under s f (kept s roots) k t h) m b;
     }

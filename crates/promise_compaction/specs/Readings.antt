@@ -9,15 +9,18 @@ use Rattle.call_rules.specs.declared.Settings.{Settings}
 use Rattle.pair_rules.specs.Table.{cutPlaces}
 use Rattle.pair_rules.specs.Reads.{Reads}
 use Rattle.pair_rules.specs.Calls.{pairCall}
-use Rattle.pair_rules.specs.Renumbered as pairs
+use Rattle.pair_rules.specs.Renumbered as pairAnswers
 use Rattle.mark_rules.specs.Calls.{markCall}
-use Rattle.mark_rules.specs.Renumbered as marks
+use Rattle.mark_rules.specs.Renumbered as markAnswers
+use Rattle.lookup_rules.specs.Applied.{applied}
 use Rattle.promise_compaction.specs.Kept.{newNumber}
 
 -- of any two glyphs, answers and refusals alike
 pub record ReadingsKept (s : Store) (roots : List ℕ) (left : Store) : Type 0 where
-  pub pairs : (t : ℕ) → kept s roots t ≡ true → (a b : ℕ) → pairCall left (newNumber s roots t) a b ≡ pairs.outcomeThen (newNumber s roots) (pairCall s t a b)
-  pub marks : (t : ℕ) → kept s roots t ≡ true → (m b : ℕ) → markCall left (newNumber s roots t) m b ≡ marks.outcomeThen (newNumber s roots) (markCall s t m b)
+  pub pairs : (t : ℕ) → kept s roots t ≡ true → (a b : ℕ) → pairCall left (newNumber s roots t) a b ≡ pairAnswers.outcomeThen (newNumber s roots) (pairCall s t a b)
+  -- and so of any lookup
+  pub lookups : (p : ℕ) → kept s roots p ≡ true → (a b : ℕ) → applied left (newNumber s roots p) a b ≡ pairAnswers.outcomeThen (newNumber s roots) (applied s p a b)
+  pub marks : (t : ℕ) → kept s roots t ≡ true → (m b : ℕ) → markCall left (newNumber s roots t) m b ≡ markAnswers.outcomeThen (newNumber s roots) (markCall s t m b)
 
 -- "Freed room is used by the next split": it cuts a kept table where it would have cut it before
 abbrev pub CutsKept : Store → List ℕ → Store → Type 0
