@@ -5,13 +5,13 @@ use mathlib.Core.Bool.{Bool, true, false, cond, not, _&&_}
 use mathlib.Core.List.{List, [], _∷_, map}
 use native.Mathlib.Omega.{arith}
 use lib.ListN.{length, getD, replicate}
-use lib.Dec.{eqb}
+use lib.Dec.{eqb, ltb}
 use Rattle.folds.specs.Lists.{put, join, sift}
 use Rattle.folds.proofs.FromTheFront.{sum-same, flat-same}
 use Rattle.folds.proofs.Each.{Each, each-at, each-then}
 use Rattle.folds.proofs.Tally.{tally-same}
 use Rattle.store_rules.specs.Store.{Store, Link, lent, perLink, bytesOf, headOf, sizeOf, linksOf}
-use Rattle.store_rules.specs.Reach.{marked}
+use Rattle.compact_rules.specs.Marks.{hasMark}
 use Rattle.store_rules.specs.Appended.{appended, rowsFrom, rowNumbers}
 use Rattle.store_rules.proofs.Sound.{Fits, sound-fits}
 use Rattle.store_rules.proofs.LinksFit.{Fitting, links-fit}
@@ -82,34 +82,34 @@ module _ (d o l c roots w : List ℕ) (may : Carrying (lent d o l c) roots w) wh
 
   module _ {w₁ : List ℕ} (numbers : Numbers w w₁ (getD c 1 0)) where
     -- the marks stand for what is kept
-    marks-keep : (i : ℕ) → i < getD c 1 0 → marked w₁ i ≡ keep i
-    marks-keep i h = ap (λ (v : ℕ). eqb v 1) (numbers .marks i h) ∙ may .marks i h
+    marks-keep : (i : ℕ) → i < getD c 1 0 → hasMark w₁ i ≡ keep i
+    marks-keep i h = ap (λ (v : ℕ). ltb 0 v) (numbers .marks i h) ∙ may .marks i h
 
     -- what each step is asked
     pub roots-low : (i : ℕ) → i < length roots → getD roots i 0 < getD c 1 0
     roots-low i h = each-at (λ r. r < getD c 1 0) roots (roots-used s (sound-fits s (may .sounds)) roots (may .used)) i h 0
 
-    objects-are : keptObjects (lent d o [] c) (marked w₁) ≡ keptObjects s keep
+    objects-are : keptObjects (lent d o [] c) (hasMark w₁) ≡ keptObjects s keep
     unfolding keptObjects bytesOf
-    objects-are = objects-by s (marked w₁) keep marks-keep
+    objects-are = objects-by s (hasMark w₁) keep marks-keep
 
-    links-are : keptLinks (lent [] [] l c) (marked w₁) ≡ keptLinks s keep
+    links-are : keptLinks (lent [] [] l c) (hasMark w₁) ≡ keptLinks s keep
     unfolding keptLinks linksOf
-    links-are = links-by s (marked w₁) keep marks-keep (sound-fits s (may .sounds))
+    links-are = links-by s (hasMark w₁) keep marks-keep (sound-fits s (may .sounds))
 
-    moved-are : bytesMoved (lent d o [] c) (marked w₁) ≡ bytesMoved s keep
+    moved-are : bytesMoved (lent d o [] c) (hasMark w₁) ≡ bytesMoved s keep
     unfolding bytesMoved headThen
-    moved-are = moved-bytes-by s (marked w₁) keep marks-keep
+    moved-are = moved-bytes-by s (hasMark w₁) keep marks-keep
 
     roots-are : map (numberIn w₁ (getD c 1 0)) roots ≡ rootsThen keep roots
     roots-are =
         mapped-by (numberIn w₁ (getD c 1 0)) (renumber keep) roots
         (each-then (λ r. r < getD c 1 0) (λ r. numberIn w₁ (getD c 1 0) r ≡ renumber keep r)
-        (λ r h. numbers .numbered .number r h ∙ number-same s (marked w₁) keep marks-keep r h)
+        (λ r h. numbers .numbered .number r h ∙ number-same s (hasMark w₁) keep marks-keep r h)
         roots (roots-used s (sound-fits s (may .sounds)) roots (may .used)))
 
     pub carried : {d′ o′ l′ roots′ walk′ : List ℕ} {r : Packed} {m : ℕ}
-        → ObjectsLeft (lent d o [] c) (marked w₁) d′ o′ r → LinksLeft (lent [] [] l c) (marked w₁) l′ m
+        → ObjectsLeft (lent d o [] c) (hasMark w₁) d′ o′ r → LinksLeft (lent [] [] l c) (hasMark w₁) l′ m
         → roots′ ≡ map (numberIn w₁ (getD c 1 0)) roots → walk′ ≡ replicate (length w₁) 0
         → compactOutcome 0 (r .moved) (lent d′ o′ l′ (r .bytes ∷ r .objects ∷ m ∷ [])) roots′ walk′ ≡ compactDone s keep roots w
     unfolding compactDone compacted emptied appended

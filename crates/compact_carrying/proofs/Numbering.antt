@@ -6,7 +6,7 @@ use mathlib.Core.List.{List}
 use native.Mathlib.Omega.{arith}
 use native.Mathlib.Numerals.{add-one}
 use lib.ListN.{length, getD, set}
-use lib.Dec.{eqb}
+use lib.Dec.{ltb}
 use Rattle.folds.specs.Folds.{upto}
 use Rattle.folds.specs.Lists.{put}
 use Rattle.folds.proofs.Folds.{length-upto}
@@ -15,7 +15,7 @@ use Rattle.folds.proofs.Tally.{tally-same}
 use Rattle.folds.proofs.Put.{put-below}
 use Rattle.folds.proofs.Offsets.{put-at}
 use Rattle.folds.proofs.Writing.{Writing, write-start, write-turn, write-below, write-stop}
-use Rattle.store_rules.specs.Reach.{marked}
+use Rattle.compact_rules.specs.Marks.{hasMark}
 use Rattle.compact_rules.specs.Kept.{renumber}
 use Rattle.compact_rules.proofs.Numbers.{number-least, number-kept, number-dropped}
 use Rattle.compact_carrying.specs.Packing.{Numbers}
@@ -26,36 +26,36 @@ unfolding renumber
 number-by p q i h = tally-same (λ j. 1) p q i h
 
 pub record Numbering (w₀ : List ℕ) (n : ℕ) (w : List ℕ) (next i : ℕ) : Type 0 where
-  pub writing : Writing (renumber (marked w₀)) w₀ n n w i
-  pub here : next ≡ renumber (marked w₀) i
+  pub writing : Writing (renumber (hasMark w₀)) w₀ n n w i
+  pub here : next ≡ renumber (hasMark w₀) i
   pub low : next ≤ i
 
 module _ (w₀ : List ℕ) (n : ℕ) (room : 2 * n ≤ length w₀) where
   pub numbering-start : Numbering w₀ n w₀ 0 0
-  numbering-start = record { writing = write-start (renumber (marked w₀)) w₀ n n (omega arith); here = sym (number-least (marked w₀)); low = omega arith }
+  numbering-start = record { writing = write-start (renumber (hasMark w₀)) w₀ n n (omega arith); here = sym (number-least (hasMark w₀)); low = omega arith }
 
   module _ (w : List ℕ) (next i : ℕ) (inv : Numbering w₀ n w next i) (l : i < n) where
-    written : Writing (renumber (marked w₀)) w₀ n n (set w (n + i) next) (i + 1)
-    written = rw (inv .here) (write-turn (renumber (marked w₀)) w₀ n n (omega arith) w i (inv .writing) l)
+    written : Writing (renumber (hasMark w₀)) w₀ n n (set w (n + i) next) (i + 1)
+    written = rw (inv .here) (write-turn (renumber (hasMark w₀)) w₀ n n (omega arith) w i (inv .writing) l)
 
     -- the mark is still as it came
     mark : getD (set w (n + i) next) i 0 ≡ getD w₀ i 0
-    mark = write-below (renumber (marked w₀)) w₀ n n (omega arith) (set w (n + i) next) (i + 1) i written l
+    mark = write-below (renumber (hasMark w₀)) w₀ n n (omega arith) (set w (n + i) next) (i + 1) i written l
 
-    pub numbering-kept : eqb (getD (set w (n + i) next) i 0) 1 ≡ true → Numbering w₀ n (set w (n + i) next) (next + 1) (i + 1)
+    pub numbering-kept : ltb 0 (getD (set w (n + i) next) i 0) ≡ true → Numbering w₀ n (set w (n + i) next) (next + 1) (i + 1)
     numbering-kept e =
-        let m : marked w₀ i ≡ true = ap (λ (v : ℕ). eqb v 1) (sym mark) ∙ e in
-        let x = number-kept (marked w₀) i m in
+        let m : hasMark w₀ i ≡ true = ap (λ (v : ℕ). ltb 0 v) (sym mark) ∙ e in
+        let x = number-kept (hasMark w₀) i m in
         record {
           writing = written;
           here = rw (add-one i) (omega (arith, inv .here));
           low = omega (arith, inv .low);
         }
 
-    pub numbering-dropped : eqb (getD (set w (n + i) next) i 0) 1 ≡ false → Numbering w₀ n (set w (n + i) next) next (i + 1)
+    pub numbering-dropped : ltb 0 (getD (set w (n + i) next) i 0) ≡ false → Numbering w₀ n (set w (n + i) next) next (i + 1)
     numbering-dropped e =
-        let m : marked w₀ i ≡ false = ap (λ (v : ℕ). eqb v 1) (sym mark) ∙ e in
-        let x = number-dropped (marked w₀) i m in
+        let m : hasMark w₀ i ≡ false = ap (λ (v : ℕ). ltb 0 v) (sym mark) ∙ e in
+        let x = number-dropped (hasMark w₀) i m in
         record {
           writing = written;
           here = rw (add-one i) (omega (arith, inv .here));
@@ -64,7 +64,7 @@ module _ (w₀ : List ℕ) (n : ℕ) (room : 2 * n ≤ length w₀) where
 
   pub numbering-stop : (w : List ℕ) (next i : ℕ) → Numbering w₀ n w next i → n ≤ i → Numbers w₀ w n
   numbering-stop w next i inv l =
-      let e : w ≡ put w₀ n (upto (renumber (marked w₀)) n) = write-stop (renumber (marked w₀)) w₀ n n (omega arith) w i (inv .writing) l in
+      let e : w ≡ put w₀ n (upto (renumber (hasMark w₀)) n) = write-stop (renumber (hasMark w₀)) w₀ n n (omega arith) w i (inv .writing) l in
       let long : length w ≡ length w₀ = inv .writing .long in
       record {
         numbered = record { long = omega arith; number = λ j k. number e j k };
@@ -72,12 +72,12 @@ module _ (w₀ : List ℕ) (n : ℕ) (room : 2 * n ≤ length w₀) where
         long = long;
       }
     where
-      same : w ≡ put w₀ n (upto (renumber (marked w₀)) n) → (j : ℕ) → j < n → getD w j 0 ≡ getD w₀ j 0
-      same e j k = ap (λ (x : List ℕ). getD x j 0) e ∙ put-below w₀ n (upto (renumber (marked w₀)) n) (omega arith) j k
+      same : w ≡ put w₀ n (upto (renumber (hasMark w₀)) n) → (j : ℕ) → j < n → getD w j 0 ≡ getD w₀ j 0
+      same e j k = ap (λ (x : List ℕ). getD x j 0) e ∙ put-below w₀ n (upto (renumber (hasMark w₀)) n) (omega arith) j k
 
-      number : w ≡ put w₀ n (upto (renumber (marked w₀)) n) → (j : ℕ) → j < n → getD w (n + j) 0 ≡ renumber (marked w) j
+      number : w ≡ put w₀ n (upto (renumber (hasMark w₀)) n) → (j : ℕ) → j < n → getD w (n + j) 0 ≡ renumber (hasMark w) j
       number e j k =
           ap (λ (x : List ℕ). getD x (n + j) 0) e
-          ∙ put-at w₀ n (upto (renumber (marked w₀)) n) (omega arith) j (omega (arith, length-upto (renumber (marked w₀)) n))
-          ∙ upto-at (renumber (marked w₀)) n j 0 k
-          ∙ number-by (marked w₀) (marked w) j (λ m h. ap (λ (v : ℕ). eqb v 1) (sym (same e m (omega arith))))
+          ∙ put-at w₀ n (upto (renumber (hasMark w₀)) n) (omega arith) j (omega (arith, length-upto (renumber (hasMark w₀)) n))
+          ∙ upto-at (renumber (hasMark w₀)) n j 0 k
+          ∙ number-by (hasMark w₀) (hasMark w) j (λ m h. ap (λ (v : ℕ). ltb 0 v) (sym (same e m (omega arith))))

@@ -13,7 +13,7 @@ use Rattle.folds.proofs.Folds.{length-upto}
 use Rattle.folds.proofs.Moved.{length-map, sift-both}
 use Rattle.folds.proofs.Picked.{sift-append}
 use Rattle.store_rules.specs.Store.{Store, Link, lent, sound, perLink, rowParent, rowPosition, rowWidth, rowChild, rowKind, linkAt, linksOf, linkNumber, parentOf, childOf}
-use Rattle.store_rules.specs.Reach.{marked}
+use Rattle.compact_rules.specs.Marks.{hasMark}
 use Rattle.store_rules.specs.Appended.{numbersOf, rowNumbers}
 use Rattle.store_rules.proofs.Sound.{sound-fits}
 use Rattle.store_rules.proofs.LinkRows.{rows-numbers}
@@ -161,7 +161,7 @@ put-row d a x y z w v l =
     ap (λ (n : ℕ). set (set (set (set (set d n x) (a + 1) y) (a + 2) z) (a + 3) w) (a + 4) v) e ∙ put-five d a x y z w v l
 
 module _ (s : Store) (w : List ℕ) (fits : Linked s) (numbered : Numbered w (s .objectCount))
-    {l : List ℕ} {j k : ℕ} (inv : Sifting s (marked w) l j k) (h : k < s .linkCount) where
+    {l : List ℕ} {j k : ℕ} (inv : Sifting s (hasMark w) l j k) (h : k < s .linkCount) where
   -- the ends as they are read
   abbrev parent : ℕ
   parent = getD l (perLink * k + rowParent) 0
@@ -170,26 +170,26 @@ module _ (s : Store) (w : List ℕ) (fits : Linked s) (numbered : Numbered w (s 
   child = getD l (perLink * k + rowChild) 0
 
   pub parent-used : parent < s .objectCount
-  parent-used = omega (arith, number-still s (marked w) fits inv rowParent, fits .parent k h)
+  parent-used = omega (arith, number-still s (hasMark w) fits inv rowParent, fits .parent k h)
 
   pub child-used : child < s .objectCount
-  child-used = omega (arith, number-still s (marked w) fits inv rowChild, fits .child k h)
+  child-used = omega (arith, number-still s (hasMark w) fits inv rowChild, fits .child k h)
 
   pub row-inside : perLink * (k + 1) ≤ length l
-  row-inside = omega (arith, links-long s (marked w) fits inv, fits .rowsIn)
+  row-inside = omega (arith, links-long s (hasMark w) fits inv, fits .rowsIn)
 
-  ends : marked w parent && marked w child ≡ keepsEnds (marked w) (linkAt s k)
-  ends = λ i. marked w (number-still s (marked w) fits inv rowParent i) && marked w (number-still s (marked w) fits inv rowChild i)
+  ends : hasMark w parent && hasMark w child ≡ keepsEnds (hasMark w) (linkAt s k)
+  ends = λ i. hasMark w (number-still s (hasMark w) fits inv rowParent i) && hasMark w (number-still s (hasMark w) fits inv rowChild i)
 
-  number : (r : ℕ) → linkNumber s k r < s .objectCount → numberIn w (s .objectCount) (getD l (perLink * k + r) 0) ≡ renumber (marked w) (linkNumber s k r)
-  number r u = ap (numberIn w (s .objectCount)) (number-still s (marked w) fits inv r) ∙ numbered .number (linkNumber s k r) u
+  number : (r : ℕ) → linkNumber s k r < s .objectCount → numberIn w (s .objectCount) (getD l (perLink * k + r) 0) ≡ renumber (hasMark w) (linkNumber s k r)
+  number r u = ap (numberIn w (s .objectCount)) (number-still s (hasMark w) fits inv r) ∙ numbered .number (linkNumber s k r) u
 
-  pub turn-kept : {b : Bool} {l′ : List ℕ} → b ≡ marked w parent && marked w child → b ≡ true
+  pub turn-kept : {b : Bool} {l′ : List ℕ} → b ≡ hasMark w parent && hasMark w child → b ≡ true
       → l′ ≡ put l (perLink * j) (numbersOf (rowAs l k (numberIn w (s .objectCount) parent) (numberIn w (s .objectCount) child)))
-      → Sifting s (marked w) l′ (j + 1) (k + 1)
+      → Sifting s (hasMark w) l′ (j + 1) (k + 1)
   turn-kept p q e =
-      sifting-kept s (marked w) fits inv h (sym ends ∙ sym p ∙ q) (numberIn w (s .objectCount) parent) (numberIn w (s .objectCount) child)
+      sifting-kept s (hasMark w) fits inv h (sym ends ∙ sym p ∙ q) (numberIn w (s .objectCount) parent) (numberIn w (s .objectCount) child)
       (number rowParent (fits .parent k h)) (number rowChild (fits .child k h)) e
 
-  pub turn-dropped : {b : Bool} → b ≡ marked w parent && marked w child → b ≡ false → Sifting s (marked w) l j (k + 1)
-  turn-dropped p q = sifting-dropped s (marked w) fits inv h (sym ends ∙ sym p ∙ q)
+  pub turn-dropped : {b : Bool} → b ≡ hasMark w parent && hasMark w child → b ≡ false → Sifting s (hasMark w) l j (k + 1)
+  turn-dropped p q = sifting-dropped s (hasMark w) fits inv h (sym ends ∙ sym p ∙ q)

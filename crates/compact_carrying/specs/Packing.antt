@@ -7,9 +7,9 @@ use lib.ListN.{length, getD}
 use lib.Dec.{eqb}
 use Rattle.folds.specs.Lists.{put, part, join}
 use Rattle.store_rules.specs.Store.{Store, Link, sound, perLink, rowPosition, rowWidth, rowKind}
-use Rattle.store_rules.specs.Reach.{marked}
 use Rattle.store_rules.specs.Appended.{rowsFrom, rowNumbers}
-use Rattle.compact_rules.specs.Kept.{kept, renumber, headThen}
+use Rattle.compact_rules.specs.Kept.{renumber, headThen}
+use Rattle.compact_rules.specs.Marks.{hasMark, MarksKept}
 use Rattle.compact_rules.specs.Compacted.{keptObjects, keptLinks, wiped, bytesMoved}
 use Rattle.compact_rules.specs.Calls.{rootsUsed}
 use Rattle.compact_carrying.specs.declared.Placed.{Placed}
@@ -22,7 +22,7 @@ numberIn w n i = getD w (n + i) 0
 -- behind the marks of n objects stand their new numbers
 pub record Numbered (w : List ℕ) (n : ℕ) : Type 0 where
   pub long : 2 * n ≤ length w
-  pub number : (i : ℕ) → i < n → numberIn w n i ≡ renumber (marked w) i
+  pub number : (i : ℕ) → i < n → numberIn w n i ≡ renumber (hasMark w) i
 
 -- they are written, and the marks stay
 pub record Numbers (came left : List ℕ) (n : ℕ) : Type 0 where
@@ -91,4 +91,4 @@ pub record Carrying (s : Store) (roots w : List ℕ) : Type 0 where
   pub sounds : sound s ≡ true
   pub used : rootsUsed s roots ≡ true
   pub long : 2 * s .objectCount ≤ length w
-  pub marks : (i : ℕ) → i < s .objectCount → marked w i ≡ kept s roots i
+  pub marks : MarksKept s roots w

@@ -12,24 +12,11 @@ ghost use Rattle.folds.specs.Lists.{put, part};
 ghost use Rattle.folds.specs.Moments.{came, left};
 ghost use Rattle.store_rules.specs.Store.{lent, perLink, sound};
 ghost use Rattle.store_rules.specs.Moments.{storeCame, storeLeft, storeNow};
-ghost use Rattle.store_rules.specs.Reach.{marked};
 ghost use Rattle.store_rules.specs.Appended.{numbersOf};
 ghost use Rattle.compact_rules.specs.Kept.{kept};
+ghost use Rattle.compact_rules.specs.Marks.{hasMark};
 ghost use Rattle.compact_rules.specs.Calls.{compactOutcome, compactDone};
 ghost use Rattle.compact_carrying.specs.Packing.{Numbered, Numbers, Placing, PlacedAt, PackedObjects, PackedLinks, rowAs, numberIn, ObjectsLeft, LinksLeft, Carrying};
-
-// The numbers of a link row, and where each stands in it.
-const PER_LINK: usize = 5;
-
-const PARENT: usize = 0;
-
-const POSITION: usize = 1;
-
-const WIDTH: usize = 2;
-
-const CHILD: usize = 3;
-
-const KIND: usize = 4;
 
 // Copies `count` bytes from byte `from` on to byte `at` on, which is no later: those still to be read lie behind those written.
 pub fn copy_down(s: &mut [u8], from: usize, at: usize, count: usize)
@@ -64,7 +51,7 @@ pub fn number_kept(walk: &mut [u32], n: usize)
     let mut i: usize = 0;
     while i < n {
         walk[n + i] = next;
-        if walk[i] == 1 {
+        if 0 < walk[i] {
             next += 1;
             i += 1;
         } else {
@@ -113,14 +100,14 @@ pub struct Packed {
 pub fn pack_objects(data: &mut [u8], objects: &mut [u32], counts: [u32; 3], walk: &[u32]) -> Packed
     requires { ⌜ ((l : List ℕ) × (sound (lent (now «data») (now objects) l counts) ≡ true)) ⌝ }
     requires { ⌜ getD counts 1 0 ≤ length (now walk) ⌝ }
-    ensures { λ r. ⌜ PackedObjects (lent (came «data») (came objects) [] counts) (marked (came walk)) (left «data») (left objects) r ⌝ }
+    ensures { λ r. ⌜ PackedObjects (lent (came «data») (came objects) [] counts) (hasMark (came walk)) (left «data») (left objects) r ⌝ }
 {
     let mut at: u32 = 0;
     let mut j: usize = 0;
     let mut moved: u32 = 0;
     let mut i: usize = 0;
     while i < (counts[1] as usize) {
-        if walk[i] == 1 {
+        if 0 < walk[i] {
             let p = place(data, objects, i, j, at);
             at = p.end;
             moved += p.moved;
@@ -140,10 +127,10 @@ pub fn pack_objects(data: &mut [u8], objects: &mut [u32], counts: [u32; 3], walk
 // Whether both ends of a link are marked.
 fn keeps_ends(walk: &[u32], parent: usize, child: usize) -> bool
     requires { ⌜ (parent < length (now walk)) × (child < length (now walk)) ⌝ }
-    ensures { λ r. ⌜ r ≡ marked (came walk) parent && marked (came walk) child ⌝ }
+    ensures { λ r. ⌜ r ≡ hasMark (came walk) parent && hasMark (came walk) child ⌝ }
 {
-    if walk[parent] == 1 {
-        walk[child] == 1
+    if 0 < walk[parent] {
+        0 < walk[child]
     } else {
         false
     }
@@ -154,29 +141,29 @@ fn place_row(links: &mut [u32], k: usize, j: usize, parent: u32, child: u32)
     requires { ⌜ (perLink * (k + 1) ≤ length (now links)) × (j ≤ k) ⌝ }
     ensures { λ _. ⌜ left links ≡ put (came links) (perLink * j) (numbersOf (rowAs (came links) k parent child)) ⌝ }
 {
-    let at = PER_LINK * k;
-    let position = links[at + POSITION];
-    let width = links[at + WIDTH];
-    let kind = links[at + KIND];
-    let to = PER_LINK * j;
-    links[to + PARENT] = parent;
-    links[to + POSITION] = position;
-    links[to + WIDTH] = width;
-    links[to + CHILD] = child;
-    links[to + KIND] = kind;
+    let at = store_reader::PER_LINK * k;
+    let position = links[at + store_reader::POSITION];
+    let width = links[at + store_reader::WIDTH];
+    let kind = links[at + store_reader::KIND];
+    let to = store_reader::PER_LINK * j;
+    links[to + store_reader::PARENT] = parent;
+    links[to + store_reader::POSITION] = position;
+    links[to + store_reader::WIDTH] = width;
+    links[to + store_reader::CHILD] = child;
+    links[to + store_reader::KIND] = kind;
 }
 
 // Writes the links that keep both ends behind one another, under their ends' new numbers; how many they are.
 pub fn pack_links(links: &mut [u32], counts: [u32; 3], walk: &[u32]) -> u32
     requires { ⌜ ((b o : List ℕ) × (sound (lent b o (now links) counts) ≡ true)) ⌝ }
     requires { ⌜ Numbered (now walk) (getD counts 1 0) ⌝ }
-    ensures { λ r. ⌜ PackedLinks (lent [] [] (came links) counts) (marked (came walk)) (left links) r ⌝ }
+    ensures { λ r. ⌜ PackedLinks (lent [] [] (came links) counts) (hasMark (came walk)) (left links) r ⌝ }
 {
     let mut j: usize = 0;
     let mut k: usize = 0;
     while k < (counts[2] as usize) {
-        let parent = links[PER_LINK * k + PARENT] as usize;
-        let child = links[PER_LINK * k + CHILD] as usize;
+        let parent = links[store_reader::PER_LINK * k + store_reader::PARENT] as usize;
+        let child = links[store_reader::PER_LINK * k + store_reader::CHILD] as usize;
         if keeps_ends(walk, parent, child) {
             let n = counts[1] as usize;
             place_row(links, k, j, walk[n + parent], walk[n + child]);
@@ -207,7 +194,7 @@ pub fn rewrite_roots(roots: &mut [u32], n: usize, walk: &[u32])
 fn compact_objects(data: &mut [u8], objects: &mut [u32], counts: [u32; 3], walk: &[u32]) -> Packed
     requires { ⌜ ((l : List ℕ) × (sound (lent (now «data») (now objects) l counts) ≡ true)) ⌝ }
     requires { ⌜ getD counts 1 0 ≤ length (now walk) ⌝ }
-    ensures { λ r. ⌜ ObjectsLeft (lent (came «data») (came objects) [] counts) (marked (came walk)) (left «data») (left objects) r ⌝ }
+    ensures { λ r. ⌜ ObjectsLeft (lent (came «data») (came objects) [] counts) (hasMark (came walk)) (left «data») (left objects) r ⌝ }
 {
     let packed = pack_objects(data, objects, counts, walk);
     let bytes = packed.bytes;
@@ -225,13 +212,13 @@ fn compact_objects(data: &mut [u8], objects: &mut [u32], counts: [u32; 3], walk:
 fn compact_links(links: &mut [u32], counts: [u32; 3], walk: &[u32]) -> u32
     requires { ⌜ ((b o : List ℕ) × (sound (lent b o (now links) counts) ≡ true)) ⌝ }
     requires { ⌜ Numbered (now walk) (getD counts 1 0) ⌝ }
-    ensures { λ r. ⌜ LinksLeft (lent [] [] (came links) counts) (marked (came walk)) (left links) r ⌝ }
+    ensures { λ r. ⌜ LinksLeft (lent [] [] (came links) counts) (hasMark (came walk)) (left links) r ⌝ }
 {
     let kept = pack_links(links, counts, walk);
     zero_numbers(
         links,
-        PER_LINK * (kept as usize),
-        PER_LINK * ((counts[2] - kept) as usize),
+        store_reader::PER_LINK * (kept as usize),
+        store_reader::PER_LINK * ((counts[2] - kept) as usize),
     );
     kept
 }

@@ -4,20 +4,20 @@ use mathlib.Core.Bool.{Bool, _&&_}
 use lib.ListN.{getD}
 use denote.Ref.{now}
 use borrow.Author.Needs.{needs}
-use borrow.Author.Tests.{eq-eqb, ne-eqb}
-use Rattle.store_rules.specs.Reach.{marked}
+use borrow.Author.Tests.{lt-ltb, le-ltb}
+use Rattle.compact_rules.specs.Marks.{hasMark}
 use Rattle.compact_carrying.proofs.keeps_ends.Statement.{statement}
 use Rattle.compact_carrying.proofs.keeps_ends.Tie as tie
 
 returns : tie.Need-returns
 returns c =
     let a = c .before .before .before .args in
-    ap (λ (b : Bool). b && marked (now (a .walk)) (a .child)) (sym (eq-eqb (getD (now (a .walk)) (a .parent) 0) 1 (c .before .if1 .taken)))
+    ap (λ (b : Bool). b && hasMark (now (a .walk)) (a .child)) (sym (lt-ltb 0 (getD (now (a .walk)) (a .parent) 0) (c .before .if1 .taken)))
 
 returns-2 : tie.Need-returns-2
 returns-2 c =
     let a = c .before .before .args in
-    ap (λ (b : Bool). b && marked (now (a .walk)) (a .child)) (sym (ne-eqb (getD (now (a .walk)) (a .parent) 0) 1 (c .if1 .left)))
+    ap (λ (b : Bool). b && hasMark (now (a .walk)) (a .child)) (sym (le-ltb 0 (getD (now (a .walk)) (a .parent) 0) (c .if1 .left)))
 
 pub keeps-ends-spec : {M : Type 1} → statement M
 keeps-ends-spec = tie.close (tie.spec (λ c. search needs) (λ c. search needs) (λ c. search needs) (λ c. search needs) returns returns-2)

@@ -3,7 +3,7 @@ use Prim.Native.Nat.{_-_}
 use native.Mathlib.Omega.{arith}
 use lib.ListN.{length-set}
 use borrow.Author.Needs.{needs}
-use borrow.Author.Tests.{eq-eqb, ne-eqb}
+use borrow.Author.Tests.{lt-ltb, le-ltb}
 use Rattle.compact_carrying.proofs.Numbering.{Numbering, numbering-start, numbering-kept, numbering-dropped, numbering-stop}
 use Rattle.compact_carrying.proofs.number_kept.Statement.{statement}
 use Rattle.compact_carrying.proofs.number_kept.Tie as tie
@@ -29,12 +29,12 @@ add-next c = omega (arith, c .before .before .before .loop .inv .low, c .before 
 loop-again : tie.Need-loop-again Inv-loop μ-loop
 loop-again c =
     let a = c .before .before .before in
-    numbering-kept _ _ (a .before .pre .0) _ _ _ (a .loop .inv) (c .before .before .loop-test .taken) (eq-eqb _ _ (c .if1 .taken))
+    numbering-kept _ _ (a .before .pre .0) _ _ _ (a .loop .inv) (c .before .before .loop-test .taken) (lt-ltb _ _ (c .if1 .taken))
 
 loop-again-2 : tie.Need-loop-again-2 Inv-loop μ-loop
 loop-again-2 c =
     let a = c .before .before .before in
-    numbering-dropped _ _ (a .before .pre .0) _ _ _ (a .loop .inv) (c .before .before .loop-test .taken) (ne-eqb _ _ (c .if1 .left))
+    numbering-dropped _ _ (a .before .pre .0) _ _ _ (a .loop .inv) (c .before .before .loop-test .taken) (le-ltb _ _ (c .if1 .left))
 
 same-length : tie.Need-same-length Inv-loop μ-loop
 same-length c = c .before .loop .inv .writing .long

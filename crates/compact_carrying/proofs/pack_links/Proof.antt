@@ -6,13 +6,13 @@ use lib.ListN.{getD}
 use denote.Ref.{now}
 use borrow.Author.Needs.{needs}
 use Rattle.store_rules.specs.Store.{lent}
-use Rattle.store_rules.specs.Reach.{marked}
+use Rattle.compact_rules.specs.Marks.{hasMark}
 use Rattle.compact_carrying.proofs.Sifting.{Sifting, Linked, linked, sifting-start, sifting-stop, links-long, parent-used, child-used, row-inside, turn-kept, turn-dropped}
 use Rattle.compact_carrying.proofs.pack_links.Statement.{statement}
 use Rattle.compact_carrying.proofs.pack_links.Tie as tie
 
 abbrev Inv-loop : tie.InvT-loop
-Inv-loop links₀ walk counts j₀ k₀ links j k = Sifting (lent [] [] links₀ counts) (marked walk) links j k
+Inv-loop links₀ walk counts j₀ k₀ links j k = Sifting (lent [] [] links₀ counts) (hasMark walk) links j k
 
 abbrev μ-loop : tie.MeasureT-loop
 μ-loop links₀ walk counts j₀ k₀ links j k = getD counts 2 0 - k

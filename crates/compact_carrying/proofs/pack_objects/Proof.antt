@@ -5,15 +5,15 @@ use native.Mathlib.Omega.{arith}
 use lib.ListN.{getD}
 use denote.Ref.{now}
 use borrow.Author.Needs.{needs}
-use borrow.Author.Tests.{eq-eqb, ne-eqb}
+use borrow.Author.Tests.{lt-ltb, le-ltb}
 use Rattle.store_rules.specs.Store.{lent}
-use Rattle.store_rules.specs.Reach.{marked}
+use Rattle.compact_rules.specs.Marks.{hasMark}
 use Rattle.compact_carrying.proofs.Packing.{Packing, Lying, lying, packing-start, may-place, packing-kept, packing-dropped, packing-stop, end-small, many-small, bytes-long, objects-long}
 use Rattle.compact_carrying.proofs.pack_objects.Statement.{statement}
 use Rattle.compact_carrying.proofs.pack_objects.Tie as tie
 
 abbrev Inv-loop : tie.InvT-loop
-Inv-loop data₀ objects₀ walk counts at₀ j₀ moved₀ i₀ «data» objects at j moved i = Packing (lent data₀ objects₀ [] counts) (marked walk) «data» objects at j moved i
+Inv-loop data₀ objects₀ walk counts at₀ j₀ moved₀ i₀ «data» objects at j moved i = Packing (lent data₀ objects₀ [] counts) (hasMark walk) «data» objects at j moved i
 
 abbrev μ-loop : tie.MeasureT-loop
 μ-loop data₀ objects₀ walk counts at₀ j₀ moved₀ i₀ «data» objects at j moved i = getD counts 1 0 - i
@@ -41,7 +41,7 @@ add-moved : tie.Need-add-moved Inv-loop μ-loop
 add-moved c =
     let p = c .before .before .before .before .before in
     let a = p .before .before .before .before .before .before in
-    let v = packing-kept _ _ (lies (begin a)) _ _ _ _ _ _ (a .loop .inv) (p .before .before .before .before .before .loop-test .taken) (eq-eqb _ _ (p .before .before .before .if1 .taken)) (p .place .ensures) in
+    let v = packing-kept _ _ (lies (begin a)) _ _ _ _ _ _ (a .loop .inv) (p .before .before .before .before .before .loop-test .taken) (lt-ltb _ _ (p .before .before .before .if1 .taken)) (p .place .ensures) in
     omega (arith, v .movedLow, end-small _ _ (lies (begin a)) v)
 
 add-j : tie.Need-add-j Inv-loop μ-loop
@@ -59,12 +59,12 @@ loop-again c =
     let p = c .before .before .before .before .before in
     let a = p .before .before .before .before .before .before in
     packing-kept _ _ (lies (begin a)) _ _ _ _ _ _ (a .loop .inv) (p .before .before .before .before .before .loop-test .taken)
-    (eq-eqb _ _ (p .before .before .before .if1 .taken)) (p .place .ensures)
+    (lt-ltb _ _ (p .before .before .before .if1 .taken)) (p .place .ensures)
 
 loop-again-2 : tie.Need-loop-again-2 Inv-loop μ-loop
 loop-again-2 c =
     let a = c .before .before .before in
-    packing-dropped _ _ (lies (begin a)) _ _ _ _ _ _ (a .loop .inv) (c .before .before .loop-test .taken) (ne-eqb _ _ (c .if1 .left))
+    packing-dropped _ _ (lies (begin a)) _ _ _ _ _ _ (a .loop .inv) (c .before .before .loop-test .taken) (le-ltb _ _ (c .if1 .left))
 
 cast-t21 : tie.Need-cast-t21 Inv-loop μ-loop
 cast-t21 c = omega (arith, many-small _ _ (lies (begin (c .before))) (c .before .loop .inv))
