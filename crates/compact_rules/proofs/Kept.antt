@@ -51,7 +51,7 @@ pub record Keeps (s : Store) (keep : ℕ → Bool) : Type 0 where
   pub used : (i : ℕ) → keep i ≡ true → i < s .objectCount
   pub closed : (k : ℕ) → k < s .linkCount → isOffset (linkAt s k) ≡ true → keep (parentOf s k) ≡ true → keep (childOf s k) ≡ true
 
-roots-each : (s : Store) (roots : List ℕ) → rootsUsed s roots ≡ true → Each (λ r. r < s .objectCount) roots
+pub roots-each : (s : Store) (roots : List ℕ) → rootsUsed s roots ≡ true → Each (λ r. r < s .objectCount) roots
 unfolding rootsUsed
 roots-each s [] h = tt
 roots-each s (r ∷ rs) h = let (a, b) = and-both (ltb r (s .objectCount)) (rootsUsed s rs) h in (ltb-true r (s .objectCount) a, roots-each s rs b)
