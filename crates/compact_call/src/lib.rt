@@ -1,5 +1,4 @@
-// The call that compacts a store: the checks 1, 2 and 6, then the marks, then the compaction itself. Each step is linear, but for a logarithm of the link
-// rows for each root that nothing reaches.
+// The call that compacts a store: the checks 1, 2 and 6, then the marks, then the compaction itself. Each step is linear.
 use buffers::clear_u32;
 use call_rules::Answer;
 use call_rules::number_of;

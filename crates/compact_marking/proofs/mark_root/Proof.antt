@@ -1,15 +1,15 @@
 -- `compact_marking::mark_root` meets its contract: a root with a mark is passed over, and from any other its offsets are walked. Assumes nothing.
-use Prim.Native.Nat.{ℕ, _<_}
-use mathlib.Core.Path.{_≡_, _∙_}
+use Prim.Native.Nat.{ℕ}
+use mathlib.Core.Path.{_∙_}
 use mathlib.Core.List.{List}
 use native.Mathlib.Omega.{arith}
-use lib.ListN.{getD, length-set}
+use lib.ListN.{getD, set, length-set}
 use denote.Ref.{now}
 use borrow.Author.Needs.{needs}
 use borrow.Author.Tests.{lt-ltb}
 use Rattle.store_rules.specs.Store.{Store, lent}
 use Rattle.store_rules.proofs.Sound.{Fits, sound-fits}
-use Rattle.store_reader.proofs.Rows.{in-order}
+use Rattle.store_walk.specs.Marks.{Marks}
 use Rattle.compact_rules.specs.Kept.{fromRoots}
 use Rattle.compact_marking.specs.Rooted.{Rooted}
 use Rattle.compact_marking.proofs.Rooting.{root-marked, own-offsets, passed-over, walked-from}
@@ -22,7 +22,7 @@ begin c = c .before .before .before .before
 
 -- the store, with bytes for which it is sound
 abbrev store : tie.Start → Store
-store s = lent (s .pre .0 .0) (now (s .args .objects)) (now (s .args .links)) (s .args .t3)
+store s = lent (s .pre .0 .0) (now (s .args .objects)) (now (s .args .links)) (s .args .counts)
 
 fits : (s : tie.Start) → Fits (store s)
 fits s = sound-fits (store s) (s .pre .0 .1)
@@ -40,18 +40,24 @@ slice-read-if1 c = let s = begin c in omega (arith, s .pre .1 .0, rooted s .mark
 slice-write-walk : tie.Need-slice-write-walk
 slice-write-walk c = let s = begin (c .before) in omega (arith, s .pre .1 .0, rooted s .marks .room)
 
-rows-of-requires : tie.Need-rows-of-requires
-rows-of-requires c κs = let s = begin (c .before) in (in-order (store s) (fits s), omega (arith, s .pre .1 .0, fits s .objectsMost))
+-- with its own mark
+marks : (c : tie.Then1) → (let s = begin (c .before) in Marks (store s) (fromRoots (store s) (roots s)) 2 (set (now (s .args .walk)) (s .args .root) 1))
+marks c = let s = begin (c .before) in root-marked (store s) (fits s) (roots s) (now (s .args .walk)) (rooted s) (s .args .root) (s .pre .1 .0) (c .if1 .taken)
+
+offsets-of-requires : tie.Need-offsets-of-requires
+offsets-of-requires c κs =
+    let s = begin (c .before .before) in
+    ((s .pre .0 .0, now (s .args .objects), s .pre .0 .1), (s .pre .1 .0, marks (c .before) .room, marks (c .before) .ends))
 
 subgraph-size-requires : tie.Need-subgraph-size-requires
 subgraph-size-requires c κs =
     let rows = c .before in
-    let s = begin (rows .before .before) in
-    let own = rows .rows-of .ensures in
-    let marks = root-marked (store s) (fits s) (roots s) (now (s .args .walk)) (rooted s) (s .args .root) (s .pre .1 .0) (rows .before .if1 .taken) in (
+    let then = rows .before .before in
+    let s = begin (then .before) in
+    let own = rows .offsets-of .ensures in (
       own .after .within,
-      (fromRoots (store s) (roots s), record { bytes = s .pre .0 .0; is-sound = s .pre .0 .1; marks = marks; early = omega arith }),
-      own-offsets (store s) (fits s) (roots s) (now (s .args .walk)) (rooted s) (s .args .root) (s .pre .1 .0) (rows .before .if1 .taken) own,
+      (fromRoots (store s) (roots s), record { bytes = s .pre .0 .0; is-sound = s .pre .0 .1; marks = marks then; early = omega arith }),
+      own-offsets (store s) (fits s) (roots s) (now (s .args .walk)) (rooted s) (s .args .root) (s .pre .1 .0) (then .if1 .taken) own,
     )
 
 same-length : tie.Need-same-length
@@ -61,18 +67,19 @@ returns : tie.Need-returns
 returns c rs before b sounds =
     let walked = c .before .before in
     let rows = walked .before .before in
-    let s = begin (rows .before .before) in
-    let now-store = lent b (now (s .args .objects)) (now (s .args .links)) (s .args .t3) in
+    let then = rows .before .before in
+    let s = begin (then .before) in
+    let now-store = lent b (now (s .args .objects)) (now (s .args .links)) (s .args .counts) in
     let f = sound-fits now-store sounds in
     let v = before b sounds in
-    let marks = root-marked now-store f rs (now (s .args .walk)) v (s .args .root) (s .pre .1 .0) (rows .before .if1 .taken) in
-    walked-from now-store f rs (now (s .args .walk)) v (s .args .root) (s .pre .1 .0) (rows .before .if1 .taken) (rows .rows-of .ensures)
-    (walked .subgraph-size .ensures b (fromRoots now-store rs) marks)
+    walked-from now-store f rs (now (s .args .walk)) v (s .args .root) (s .pre .1 .0) (then .if1 .taken) (rows .offsets-of .ensures)
+    (walked .subgraph-size .ensures b (fromRoots now-store rs)
+    (root-marked now-store f rs (now (s .args .walk)) v (s .args .root) (s .pre .1 .0) (then .if1 .taken)))
 
 returns-2 : tie.Need-returns-2
 returns-2 c rs before b sounds =
     let s = begin (c .before) in
-    let now-store = lent b (now (s .args .objects)) (now (s .args .links)) (s .args .t3) in
+    let now-store = lent b (now (s .args .objects)) (now (s .args .links)) (s .args .counts) in
     passed-over now-store (sound-fits now-store sounds) rs (now (s .args .walk)) (before b sounds) (s .args .root) (s .pre .1 .0)
     (lt-ltb 0 (getD (now (s .args .walk)) (s .args .root) 0) (omega (arith, c .if1 .left)))
 
@@ -84,9 +91,7 @@ mark-root-spec =
     slice-read-if1
     (λ c. search needs)
     slice-write-walk
-    (λ c. search needs)
-    (λ c. search needs)
-    rows-of-requires
+    offsets-of-requires
     subgraph-size-requires
     same-length
     returns
