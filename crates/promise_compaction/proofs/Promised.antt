@@ -25,6 +25,7 @@ use Rattle.promise_compaction.proofs.Kept.{all-kept}
 use Rattle.promise_compaction.proofs.Rests.{no-gaps, all-wiped, room-freed}
 use Rattle.promise_compaction.proofs.Readings.{readings-kept}
 use Rattle.promise_compaction.proofs.Cuts.{cuts-kept}
+use Rattle.promise_compaction.proofs.MarkCuts.{mark-cuts-kept}
 
 module _ (s : Store) (roots walk : List ℕ) where
   no-case-may : firstCase (compactCases s roots walk) ≡ none → MayCompact s roots walk
@@ -75,7 +76,11 @@ module _ (s : Store) (f : Fits s) (roots : List ℕ) (used : rootsUsed s roots �
         rewritten = refl;
         wiped = all-wiped s f (kept s roots);
         freed = room-freed s f (kept s roots);
-        cuts = λ how t h r. cuts-kept s f (kept s roots) (keeps s f roots used) how t h r;
+        cuts =
+            record {
+              pairs = λ how t h r. cuts-kept s f (kept s roots) (keeps s f roots used) how t h r;
+              marks = λ how t h r. mark-cuts-kept s f (kept s roots) (keeps s f roots used) how t h r;
+            };
         again = nothing-again;
       }
 

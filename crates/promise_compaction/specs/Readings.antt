@@ -6,12 +6,14 @@ use mathlib.Core.List.{List}
 use Rattle.store_rules.specs.Store.{Store}
 use Rattle.compact_rules.specs.Kept.{kept}
 use Rattle.call_rules.specs.declared.Settings.{Settings}
-use Rattle.pair_rules.specs.Table.{cutPlaces}
-use Rattle.pair_rules.specs.Reads.{Reads}
+use Rattle.pair_rules.specs.Table as pairTables
+use Rattle.pair_rules.specs.Reads as pairReads
 use Rattle.pair_rules.specs.Calls.{pairCall}
 use Rattle.pair_rules.specs.Renumbered as pairAnswers
 use Rattle.mark_rules.specs.Calls.{markCall}
 use Rattle.mark_rules.specs.Renumbered as markAnswers
+use Rattle.mark_rules.specs.Table as markTables
+use Rattle.mark_rules.specs.Reads as markReads
 use Rattle.lookup_rules.specs.Applied.{applied}
 use Rattle.promise_compaction.specs.Kept.{newNumber}
 
@@ -23,6 +25,6 @@ pub record ReadingsKept (s : Store) (roots : List ℕ) (left : Store) : Type 0 w
   pub marks : (t : ℕ) → kept s roots t ≡ true → (m b : ℕ) → markCall left (newNumber s roots t) m b ≡ markAnswers.outcomeThen (newNumber s roots) (markCall s t m b)
 
 -- "Freed room is used by the next split": it cuts a kept table where it would have cut it before
-abbrev pub CutsKept : Store → List ℕ → Store → Type 0
-CutsKept s roots left =
-    (how : Settings) (t : ℕ) → kept s roots t ≡ true → Reads s t → cutPlaces how left (newNumber s roots t) ≡ cutPlaces how s t
+pub record CutsKept (s : Store) (roots : List ℕ) (left : Store) : Type 0 where
+  pub pairs : (how : Settings) (t : ℕ) → kept s roots t ≡ true → pairReads.Reads s t → pairTables.cutPlaces how left (newNumber s roots t) ≡ pairTables.cutPlaces how s t
+  pub marks : (how : Settings) (t : ℕ) → kept s roots t ≡ true → markReads.Reads s t → markTables.cutPlaces how left (newNumber s roots t) ≡ markTables.cutPlaces how s t
