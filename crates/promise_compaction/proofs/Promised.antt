@@ -20,7 +20,7 @@ use Rattle.compact_rules.proofs.Moved.{moved-by-heads, moved-most}
 use Rattle.compact_rules.proofs.Again.{new-used, store-again, moved-again, roots-again}
 use Rattle.promise_calls.specs.Given.{Gives}
 use Rattle.promise_calls.proofs.Given.{answerOf, gives-first}
-use Rattle.promise_compaction.specs.Calls.{MayCompact, CompactLeaves, CompactionPromised}
+use Rattle.promise_compaction.specs.Calls.{MayCompact, CompactLeaves, CompactKeeps, CompactionPromised}
 use Rattle.promise_compaction.proofs.Kept.{all-kept}
 use Rattle.promise_compaction.proofs.Rests.{no-gaps, all-wiped, room-freed}
 use Rattle.promise_compaction.proofs.Readings.{readings-kept}
@@ -109,3 +109,7 @@ compaction-promised s roots walk =
     wiped : (c : Option ℕ) → settleCompact c s roots walk done .walk ≡ walkLeft walk
     wiped (some n) = refl
     wiped none = refl
+
+-- whatever has the call's outcome does
+pub compact-keeps : (s : Store) (roots walk : List ℕ) (o : CompactOutcome) → o ≡ compactCall s roots walk → CompactKeeps s roots walk o
+compact-keeps s roots walk o e = subst (CompactKeeps s roots walk) (sym e) (compaction-promised s roots walk)
