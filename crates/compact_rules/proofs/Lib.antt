@@ -3,6 +3,7 @@ pub mod Kept
 pub mod Joined
 pub mod Objects
 pub mod Links
+pub mod Orders
 pub mod Again
 pub mod SameReach
 pub mod Rests

@@ -14,6 +14,7 @@ use Rattle.compact_rules.proofs.Numbers.{number-less, number-from}
 use Rattle.compact_rules.proofs.Kept.{keeps, kept-used, kept-wanted, wanted-kept}
 use Rattle.compact_rules.proofs.Objects.{objects-left, kept-many, number-used, bytes-kept}
 use Rattle.compact_rules.proofs.Links.{links-left, child-kept}
+use Rattle.compact_rules.proofs.Orders.{orders-left}
 use Rattle.promise_compaction.specs.Kept.{ObjectKept, AllKept}
 
 module _ (s : Store) (f : Fits s) (roots : List ℕ) (used : rootsUsed s roots ≡ true) where
@@ -25,6 +26,7 @@ module _ (s : Store) (f : Fits s) (roots : List ℕ) (used : rootsUsed s roots �
         bytes = bytes-kept s f (kept s roots) k i h;
         child = λ q c e. child-kept s f (kept s roots) k i q h ∙ ap (mapped (renumber (kept s roots))) e;
         noChild = λ q e. child-kept s f (kept s roots) k i q h ∙ ap (mapped (renumber (kept s roots))) e;
+        orders = orders-left s f (kept s roots) i h;
       }
 
   pub all-kept : AllKept s roots (compacted s (kept s roots))

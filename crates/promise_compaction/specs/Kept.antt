@@ -6,7 +6,7 @@ use mathlib.Core.List.{List, map}
 use mathlib.Core.Logic.{_⊎_}
 use mathlib.Core.Option.{some, none}
 use Rattle.folds.specs.Lists.{among, sift}
-use Rattle.store_rules.specs.Store.{Store, bytesOf, childAt, linksOf}
+use Rattle.store_rules.specs.Store.{Store, bytesOf, childAt, linksOf, ordersOf}
 use Rattle.store_rules.specs.Reach.{Reach}
 use Rattle.compact_rules.specs.Kept.{fromRoots, kept, renumber}
 use Rattle.compact_rules.specs.Compacted.{keepsEnds, renumbered}
@@ -25,6 +25,8 @@ pub record ObjectKept (s : Store) (roots : List ℕ) (left : Store) (i : ℕ) : 
   pub bytes : bytesOf left (newNumber s roots i) ≡ bytesOf s i
   pub child : (q c : ℕ) → childAt s i q ≡ some c → childAt left (newNumber s roots i) q ≡ some (newNumber s roots c)
   pub noChild : (q : ℕ) → childAt s i q ≡ none → childAt left (newNumber s roots i) q ≡ none
+  -- it is placed after what it was placed after, as far as that is kept
+  pub orders : ordersOf left (newNumber s roots i) ≡ map (newNumber s roots) (sift (kept s roots) (ordersOf s i))
 
 -- "keep what kind 0 links reach from them, in the old order, .. renumber objects and links, drop order-only links that lose an end"
 pub record AllKept (s : Store) (roots : List ℕ) (left : Store) : Type 0 where
