@@ -15,7 +15,7 @@
  *   links    rows of five numbers: parent, position in the parent, width, child, kind;
  *            they ascend by parent, kind, position and child
  *   counts   how many data bytes, object rows and link rows are in use
- * What the buffers have beyond the counts is room for a split. A length is in elements, not in rows
+ * What the buffers have beyond the counts is room for a split, and compact makes more of it. A length is in elements, not in rows
  * or bytes; a part of a row at the end of a buffer is no row.
  *
  * Links
@@ -56,7 +56,7 @@
  *   greatest offset of 67,732 by number, and of 65,482 in link order). Tables that each fit may together
  *   be too far from their lookup, and usually want extension lookups. What they share may have to be
  *   there more than once. The old coverage, class definition 1 or arrays stay, and may be left with
- *   nothing that leads to them; order-only links to them still lead there.
+ *   nothing that leads to them; order-only links to them still lead there. compact drops such objects.
  *
  * Answers
  *   Each function returns one of the numbers below, the first that applies. Where it is not
@@ -99,7 +99,7 @@ enum {
      * the data in use, a link out of order, of another kind or width, not within its parent, at the
      * position of another, or to an object that is not in use */
     SPLITTER_UNSOUND = 1,
-    /* the table's number is not in use, or the lookup list's is not */
+    /* the table's number is not in use, or the lookup list's or a root's is not */
     SPLITTER_NO_TABLE = 2,
     /* the table has under 2 bytes, or not exactly 10 + 2 for each pair set (PairPos format 1),
      * 16 + all class records (PairPos format 2), or 12 (MarkBasePos) */
@@ -302,6 +302,30 @@ uint32_t split_in_lookups(
     uint16_t *cuts, size_t cuts_len,
     uint32_t *new_tables, size_t new_tables_len,
     uint32_t *new_count);
+
+/* Keeps what offsets reach from a list of roots, and closes the store up.
+ *
+ * Every entry of roots is a root, and one that stands twice is one root. Roots and what their offsets reach
+ * are kept, in their order: their bytes, rows and numbers follow one another from 0 on with no gap. Their
+ * links lead where they led, by the new numbers; an order-only link stays where both its ends do. With no
+ * root nothing is kept.
+ *
+ * Each entry of roots becomes the new number of its object, counts what is left in use, and *moved the summed
+ * length of the kept objects whose bytes start elsewhere than before. What lies between the new counts and
+ * the old ones becomes zero, and is room; what lies behind the old ones stays as it was. Tables that are kept
+ * say what they said, with devices and anchors under their new numbers.
+ *
+ * It is refused by SPLITTER_UNSOUND, by SPLITTER_NO_TABLE where a root is not in use, and by
+ * SPLITTER_SHORT_SCRATCH where walk is shorter than two numbers for each object in use: *moved becomes 0, and
+ * store, counts and roots stay as they were. walk is zero after every call. */
+uint32_t compact(
+    uint8_t *data, size_t data_len,
+    uint32_t *objects, size_t objects_len,
+    uint32_t *links, size_t links_len,
+    uint32_t counts[3],
+    uint32_t *roots, size_t roots_len,
+    uint32_t *walk, size_t walk_len,
+    uint32_t *moved);
 
 #ifdef __cplusplus
 }

@@ -1,4 +1,4 @@
-// Lent buffers: numbers zeroed or counted up, bytes copied further up, and lengths compared.
+// Lent buffers: numbers zeroed or counted up, bytes copied further up or down, and lengths compared.
 ghost use mathlib.Core.Path.{_≡_};
 ghost use Prim.Native.Nat.{_+_, _≤_, min};
 ghost use lib.ListN.{length, replicate};
@@ -25,10 +25,35 @@ pub fn zero_bytes(s: &mut [u8], at: usize, count: usize)
     }
 }
 
+// The same, of 32-bit numbers.
+pub fn zero_numbers(s: &mut [u32], at: usize, count: usize)
+    requires { ⌜ at + count ≤ length (now s) ⌝ }
+    ensures { λ _. ⌜ left s ≡ put (came s) at (replicate count 0) ⌝ }
+{
+    let mut k: usize = 0;
+    while k < count {
+        s[at + k] = 0;
+        k += 1;
+    }
+}
+
 // Copies `count` bytes from byte `from` on to byte `at` on, which lies past them.
 pub fn copy_up(s: &mut [u8], from: usize, at: usize, count: usize)
     requires { ⌜ from + count ≤ at ⌝ }
     requires { ⌜ at + count ≤ length (now s) ⌝ }
+    ensures { λ _. ⌜ left s ≡ put (came s) at (part (came s) from (from + count)) ⌝ }
+{
+    let mut k: usize = 0;
+    while k < count {
+        s[at + k] = s[from + k];
+        k += 1;
+    }
+}
+
+// Copies `count` bytes from byte `from` on to byte `at` on, which is no later: those still to be read lie behind those written.
+pub fn copy_down(s: &mut [u8], from: usize, at: usize, count: usize)
+    requires { ⌜ at ≤ from ⌝ }
+    requires { ⌜ from + count ≤ length (now s) ⌝ }
     ensures { λ _. ⌜ left s ≡ put (came s) at (part (came s) from (from + count)) ⌝ }
 {
     let mut k: usize = 0;

@@ -9,20 +9,10 @@ use lib.Seq.{getD-take, getD-drop, length-take-le}
 use Rattle.folds.specs.Lists.{sift, part}
 use Rattle.folds.proofs.Tests.{by-test}
 use Rattle.folds.proofs.Picked.{sift-append}
-use Rattle.folds.proofs.Moved.{length-map}
-use Rattle.folds.proofs.Each.{Each}
+use Rattle.folds.proofs.Moved.{length-map, sift-all}
+use Rattle.folds.proofs.Each.{Each, each-of}
 
 module _ {A : Type 0} where
-  -- what holds at each index
-  pub each-index : (P : A → Type 0) (xs : List A) (d : A) → ((i : ℕ) → i < length xs → P (getD xs i d)) → Each P xs
-  each-index P [] d h = tt
-  each-index P (x ∷ xs) d h = (h 0 (omega arith), each-index P xs d (λ i l. h (suc i) (omega arith)))
-
-  sift-all : (p : A → Bool) (xs : List A) → Each (λ x. p x ≡ true) xs → sift p xs ≡ xs
-  unfolding sift
-  sift-all p [] a = refl
-  sift-all p (x ∷ xs) a = rw (a .0) (ap (λ (l : List A). x ∷ l) (sift-all p xs (a .1)))
-
   sift-none : (p : A → Bool) (xs : List A) → Each (λ x. p x ≡ false) xs → sift p xs ≡ []
   unfolding sift
   sift-none p [] a = refl
@@ -37,13 +27,13 @@ module _ {A : Type 0} where
     first-out : sift p (take a xs) ≡ []
     first-out =
         sift-none p (take a xs)
-        (each-index (λ x. p x ≡ false) (take a xs) d
+        (each-of (λ x. p x ≡ false) (take a xs) d
         (λ i m. let k : i < a = omega (arith, length-take-le a xs (omega arith)) in ap p (getD-take a xs i d k) ∙ low i k))
 
     middle-in : sift p (part xs a b) ≡ part xs a b
     middle-in =
         sift-all p (part xs a b)
-        (each-index (λ x. p x ≡ true) (part xs a b) d
+        (each-of (λ x. p x ≡ true) (part xs a b) d
         (λ i m.
         let k : i < b - a = omega (arith, length-take-le (b - a) (drop a xs) (omega (arith, length-drop a xs))) in
         ap p (getD-take (b - a) (drop a xs) i d k ∙ getD-drop a xs i d) ∙ middle (a + i) (omega arith) (omega arith)))
@@ -51,7 +41,7 @@ module _ {A : Type 0} where
     last-out : sift p rest ≡ []
     last-out =
         sift-none p rest
-        (each-index (λ x. p x ≡ false) rest d
+        (each-of (λ x. p x ≡ false) rest d
         (λ i m. ap p (getD-drop (b - a) (drop a xs) i d ∙ getD-drop a xs (b - a + i) d) ∙ high (a + (b - a + i)) (omega arith) (omega (arith, length-drop (b - a) (drop a xs), length-drop a xs))))
 
     pub sift-part : sift p xs ≡ part xs a b

@@ -18,6 +18,7 @@ use Rattle.ot_layouts.proofs.Shapes.{header-long}
 use Rattle.store_rules.specs.Store.{Store, linkAt, bytesOf, childAt, allAt, offsetOf}
 use Rattle.store_rules.specs.Reach.{onCycle}
 use Rattle.store_rules.proofs.Sound.{Fits}
+use Rattle.store_rules.proofs.Slots.{child-stands}
 use Rattle.store_rules.proofs.Reached.{reached-all}
 use Rattle.store_rules.proofs.Ways.{Way, way-on, no-way-back}
 use Rattle.pair_rules.specs.Reads.{Reads}
@@ -25,7 +26,7 @@ use Rattle.pair_rules.proofs.Checks.{parts-read}
 use Rattle.lookup_rules.specs.Listed.{lookupsOf, rewritten, goodList, goodLookup, badList}
 use Rattle.lookup_rules.specs.Applied.{reaches}
 use Rattle.lookup_rules.proofs.Listed as listed
-use Rattle.lookup_rules.proofs.Listed.{stands-at, good-exact, naming-slot, list-fits, listed-good, listed-used}
+use Rattle.lookup_rules.proofs.Listed.{good-exact, naming-slot, list-fits, listed-good, listed-used}
 
 -- what reaches t is said to
 pub way-reaches : (s : Store) → Fits s → (u t : ℕ) → Way s u t → reaches s u t ≡ true
@@ -68,7 +69,7 @@ module _ (s : Store) (l t : ℕ) (fine : badList s l t ≡ false) (fit : Fits s)
       let b = bytesOf s p in
       let (exactly, stand) = and-both (lookupExact b) (allAt s p (isSubtableSlot b)) h in
       let (c, x) = parts-read s t (r .parts) .cover in
-      true-false (sym (stands-at s p coverAt c (isSubtableSlot b) stand (ap (λ (n : ℕ). childAt s n coverAt) e ∙ x)))
+      true-false (sym (child-stands s p (isSubtableSlot b) stand coverAt c (ap (λ (n : ℕ). childAt s n coverAt) e ∙ x)))
 
   good-listed : (p : ℕ) → p < s .objectCount → goodLookup s p ≡ true → Listed s t p
   good-listed p used good = record { used = used; other = lookup-other p good; good = good; exactly = good-exact s p good }

@@ -10,13 +10,11 @@ use Rattle.folds.proofs.Folds.{upto-same}
 use Rattle.folds.proofs.Failing.{all-same}
 use Rattle.folds.proofs.FromTheFront.{flat-same}
 use Rattle.ot_layouts.specs.Lookup.{subtableCount, lookupHeader, lookupExact, isSubtableSlot}
-use Rattle.store_rules.specs.Store.{Store, positionOf, childOf, bytesOf, childAt, allAt}
-use Rattle.store_rules.proofs.Slots.{all-stand}
-use Rattle.store_rules.proofs.RowChild.{offset-child}
+use Rattle.store_rules.specs.Store.{Store, bytesOf, childAt, allAt}
+use Rattle.store_rules.proofs.Slots.{child-stands, children-stand}
 use Rattle.pair_rules.specs.Written.{splitStore}
 use Rattle.lookup_rules.specs.Listed.{slotsAt, subtableSlots, goodLookup}
 use Rattle.lookup_rules.specs.Written.{entered, newSlots, newLookup, newLookups, subtableLinks, newLookupLinks, countFits, countsFit}
-use Rattle.lookup_rules.proofs.Listed.{stands-at}
 use Rattle.pair_after.proofs.Ready.{Ready}
 use Rattle.pair_after.proofs.NewBytes.{other-bytes}
 use Rattle.pair_after.proofs.NewLinks.{others-child}
@@ -47,10 +45,8 @@ module _ (s : Store) (t : ℕ) (cs : List ℕ) (g : Ready s t cs) where
         let (exactly, stand) = and-both (lookupExact b) (allAt s p (isSubtableSlot b)) good in
         subst (λ (x : List ℕ). (lookupExact x && allAt s′ p (isSubtableSlot x)) ≡ true) (sym same-bytes)
         (and-intro (lookupExact b) (allAt s′ p (isSubtableSlot b)) exactly
-        (all-stand s′ p (isSubtableSlot b) (λ k l e.
-        let q = positionOf s′ k in
-        stands-at s p q (childOf s′ k) (isSubtableSlot b) stand
-        (sym (others-child s t cs g p q used other) ∙ offset-child s′ (fits-then s t cs g) k p l e))))
+        (children-stand s′ p (isSubtableSlot b) (fits-then s t cs g)
+        (λ q c e. child-stands s p (isSubtableSlot b) stand q c (sym (others-child s t cs g p q used other) ∙ e))))
 
   -- ---- all of them
 

@@ -14,7 +14,7 @@ use Rattle.folds.proofs.FromTheFront.{sum-same}
 use Rattle.folds.proofs.Failing.{all-same}
 use Rattle.store_rules.specs.Store.{Store}
 use Rattle.store_rules.specs.SlotLinks.{linksFrom}
-use Rattle.store_object_rows.proofs.Joining.{join-one, join-flat}
+use Rattle.folds.proofs.Joining.{join-one, join-flat}
 use Rattle.lookup_rules.specs.Written.{newSlots, countsFit, linksNeeded, lookupsNeed}
 use Rattle.lookup_new_objects.specs.declared.Size.{Size}
 use Rattle.lookup_new_objects.specs.Counted.{enteredIn, countWith, lookupWith, lookupsWith, Sized, Sizing, Measuring, LookupsMeasured}

@@ -17,8 +17,8 @@ use Rattle.folds.proofs.Each.{Each, each-at, each-among, each-sift, among-each}
 use Rattle.ot_layouts.specs.Lookup.{lookupCount, listHeader, listExact, isListSlot, subtableCount, lookupHeader, lookupExact, isSubtableSlot}
 use Rattle.store_rules.specs.Store.{Store, bytesOf, childAt, allAt}
 use Rattle.store_rules.proofs.Sound.{Fits}
-use Rattle.store_rules.proofs.Slots.{one-stands}
-use Rattle.store_rules.proofs.Lookups.{child-row, child-used}
+use Rattle.store_rules.proofs.Slots.{child-stands}
+use Rattle.store_rules.proofs.Lookups.{child-used}
 use Rattle.lookup_rules.specs.Listed.{
   slotsAt,
   linkedIn,
@@ -36,12 +36,6 @@ use Rattle.lookup_rules.specs.Listed.{
 }
 use Rattle.lookup_rules.proofs.Slots.{among-sift, among-once, each-once, each-linked, among-slots, leads-slot}
 use Rattle.lookup_rules.proofs.Once.{once-few, tested, tested-each, tested-once, tested-upto, none-picked}
-
--- a link of object p stands at one of its slots
-pub stands-at : (s : Store) (p q c : ℕ) (slot : ℕ → Bool) → allAt s p slot ≡ true → childAt s p q ≡ some c → slot q ≡ true
-stands-at s p q c slot h e =
-    let (k, l, a, b, x) = child-row s p q c e in
-    subst (λ (q : ℕ). slot q ≡ true) b (one-stands s p slot h k l a)
 
 -- a lookup that 9 does not refuse has "OT's exact length"
 pub good-exact : (s : Store) (p : ℕ) → goodLookup s p ≡ true → lookupExact (bytesOf s p) ≡ true
@@ -118,7 +112,7 @@ module _ (s : Store) (l t : ℕ) where
     list-leads q p e =
         let b = bytesOf s l in
         let (exactly, stand) = and-both (listExact b) (allAt s l (isListSlot b)) (list-fits .0) in
-        among-once p (linkedIn (listSlots s l)) (among-slots s l listHeader (lookupCount b) q p (stands-at s l q p (isListSlot b) stand e) e)
+        among-once p (linkedIn (listSlots s l)) (among-slots s l listHeader (lookupCount b) q p (child-stands s l (isListSlot b) stand q p e) e)
 
     pub listed-good : (p : ℕ) → among p (lookupsOf s l) ≡ true → goodLookup s p ≡ true
     unfolding goodLookups

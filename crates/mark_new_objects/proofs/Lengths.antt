@@ -14,7 +14,7 @@ use Rattle.ot_layouts.proofs.CoverageLength.{cover-length}
 use Rattle.cut_rules.specs.Ranges.{from}
 use Rattle.cut_parts.specs.Tables.{highAt, PartEnd, Halved}
 use Rattle.cut_parts.proofs.TableParts.{kept-half, new-rises, new-inside, new-half, new-same}
-use Rattle.store_object_rows.proofs.Joining.{join-long, join-cons, join-one, join-flat}
+use Rattle.folds.proofs.Joining.{join-long, join-cons, join-one, join-flat}
 use Rattle.mark_rules.specs.Written.{newTable, newBaseArray, newParts, newObjects}
 use Rattle.mark_new_table.specs.Arrays.{markArrayOf, arraysOf}
 use Rattle.mark_new_table.proofs.Bytes.{table-long, array-long, bases-long}

@@ -1,4 +1,5 @@
 pub mod Checks
+pub mod RenumberedReading
 pub mod Marks
 pub mod MarkOf
 pub mod NewArrays

@@ -5,3 +5,4 @@ pub mod Attachments
 pub mod Calls
 pub mod Reads
 pub mod Computing
+pub mod Renumbered

@@ -20,7 +20,7 @@ use Rattle.glyph_rules.specs.Entries.{within, reduced}
 use Rattle.pair_rules.specs.Written.{partOf, newParts}
 use Rattle.ot_class_def_writer.specs.Entries.{reducedEntries}
 use Rattle.cut_parts.specs.Tables.{paired}
-use Rattle.store_object_rows.proofs.Joining.{join-one, join-two}
+use Rattle.folds.proofs.Joining.{join-one, join-two}
 use Rattle.pair_new_objects.specs.Objects.{partsOf}
 
 pub parts-same : (b : List ℕ) (es : List Entry) (lo hi : ℕ) → newParts (shapeOf b) es lo hi ≡ partsOf (shapeOf b .format) (within lo hi es) lo

@@ -20,7 +20,7 @@ use Rattle.ot_pairpos.specs.Layout.{layoutOf}
 use Rattle.cut_parts.specs.Tables.{paired, highAt, PartEnd, Halved}
 use Rattle.cut_parts.proofs.Parting.{length-paired}
 use Rattle.cut_parts.proofs.TableParts.{same-part, kept-half, kept-entries, new-rises, new-inside, new-half, new-entries, new-same}
-use Rattle.store_object_rows.proofs.Joining.{join-long, join-cons, join-flat}
+use Rattle.folds.proofs.Joining.{join-long, join-cons, join-flat}
 use Rattle.pair_new_objects.specs.Planned.{Beside, PlannedParts}
 use Rattle.pair_new_objects.specs.Objects.{partsOf, Length}
 use Rattle.pair_new_objects.proofs.Beside.{parts-same, parts-short}

@@ -20,7 +20,7 @@ use Rattle.ot_class_def_writer.specs.Entries.{reducedEntries}
 use Rattle.cut_parts.specs.Tables.{paired}
 use Rattle.cut_parts.proofs.Parting.{paired-glyphs, length-paired}
 use Rattle.store_object_rows.specs.Objects.{ObjectsRoom, Written}
-use Rattle.store_object_rows.proofs.Joining.{join-one, join-two}
+use Rattle.folds.proofs.Joining.{join-one, join-two}
 use Rattle.store_object_rows.proofs.Writing.{written-one, one-fits, one-row, one-small, rest-room, rest-done}
 use Rattle.pair_new_objects.specs.Planned.{Beside}
 use Rattle.pair_new_objects.specs.Objects.{partsOf}

@@ -12,5 +12,6 @@ pub mod NewCounts
 pub mod NewTable
 pub mod TableLinks
 pub mod SortedSets
+pub mod RenumberedReading
 pub mod SameReading
 pub mod SameCuts

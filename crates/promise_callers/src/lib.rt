@@ -1,4 +1,5 @@
 // What a caller may rely on: each exported function called once, with the demands as its contract.
+pub mod compaction;
 pub mod editions;
 pub mod lookups;
 pub mod marks;

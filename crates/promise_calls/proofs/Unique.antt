@@ -12,7 +12,7 @@ use Rattle.promise_calls.specs.Exits.{Exit, outcomeOf, Same}
 use Rattle.promise_calls.specs.Unchanged.{Unchanged}
 
 -- three numbers are known by their places
-three-same : (c d : List ℕ) → length c ≡ 3 → length d ≡ 3 → getD c 0 0 ≡ getD d 0 0 → getD c 1 0 ≡ getD d 1 0 → getD c 2 0 ≡ getD d 2 0 → c ≡ d
+pub three-same : (c d : List ℕ) → length c ≡ 3 → length d ≡ 3 → getD c 0 0 ≡ getD d 0 0 → getD c 1 0 ≡ getD d 1 0 → getD c 2 0 ≡ getD d 2 0 → c ≡ d
 three-same c d h k p q r = ext-getD 0 c d (h ∙ sym k) at-place
   where
     at-place : (i : ℕ) → i < length c → getD c i 0 ≡ getD d i 0

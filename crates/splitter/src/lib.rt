@@ -8,6 +8,7 @@ ghost use Rattle.pair_reading.specs.Reading.{pairOutcome};
 ghost use Rattle.mark_rules.specs.Calls.{markSplitCall, markPlanCall, markCall};
 ghost use Rattle.mark_reading.specs.Reading.{markOutcome};
 ghost use Rattle.lookup_rules.specs.Calls.{lookupCall};
+ghost use Rattle.compact_rules.specs.Calls.{compactOutcome, compactCall};
 ghost use Rattle.folds.specs.Moments.{came, left};
 ghost use Rattle.store_rules.specs.Moments.{storeCame, storeLeft};
 ghost use Rattle.call_rules.specs.Moments.{scratchCame, scratchLeft};
@@ -275,4 +276,23 @@ pub extern "C" fn split_in_lookups(
         new_tables,
         new_count,
     )
+}
+
+// Compacts any store by a list of roots: the answer, the bytes moved, and the roots under their new numbers. Scratch is zero after it.
+#[no_mangle]
+pub extern "C" fn compact(
+    data: &mut [u8],
+    objects: &mut [u32],
+    links: &mut [u32],
+    counts: &mut [u32; 3],
+    roots: &mut [u32],
+    walk: &mut [u32],
+    moved: &mut u32,
+) -> u32
+    ensures { λ r. ⌜
+        compactOutcome r (left moved) (storeLeft «data» objects links counts) (left roots) (left walk)
+        ≡ compactCall (storeCame «data» objects links counts) (came roots) (came walk)
+        ⌝ }
+{
+    compact_call::compact(data, objects, links, counts, roots, walk, moved)
 }

@@ -9,7 +9,7 @@ use Rattle.folds.specs.Lists.{put}
 use Rattle.folds.proofs.Put.{put-nil, put-put, put-below, put-inside, put-above, put-set, put-four, both-puts}
 use Rattle.store_rules.specs.Store.{Link, perLink, rowParent, rowPosition, rowWidth, rowChild, rowKind, placedAt}
 use Rattle.store_rules.specs.Appended.{numbersOf}
-use Rattle.store_link_rows.specs.Rows.{seg, segment, linkIn, row, rows, placedRow}
+use Rattle.store_link_rows.specs.Rows.{seg, segment, linkIn, row, rows, placedRow, changedRow}
 use Rattle.store_link_rows.proofs.Spans.{seg-ext, length-seg, seg-at, span-empty, span-back}
 
 pub length-row : (ls : List ℕ) (k : ℕ) → length (row ls k) ≡ perLink
@@ -62,11 +62,17 @@ put-numbers d k l room =
     (ap (λ (o : List ℕ). set o (perLink * k + rowKind) (l .kind)) (put-four d (perLink * k) (l .parent) (l .position) (l .width) (l .child) (omega arith))
     ∙ put-set d (perLink * k) (l .parent ∷ l .position ∷ l .width ∷ l .child ∷ []) (perLink * k + rowKind) (l .kind) refl (omega arith))
 
+-- a row that was read, changed and written
+pub row-changed : (f : Link → Link) (d : List ℕ) (i k : ℕ) {l : Link} {o : List ℕ} → l ≡ linkIn d i → o ≡ put d (perLink * k) (numbersOf (f l))
+    → o ≡ put d (perLink * k) (changedRow f d i)
+unfolding changedRow
+row-changed f d i k e h = h ∙ ap (λ (l : Link). put d (perLink * k) (numbersOf (f l))) e
+
 -- a row that was read, written in another place
 pub row-moved : (d : List ℕ) (p q i k : ℕ) {l : Link} {o : List ℕ} → l ≡ linkIn d i → o ≡ put d (perLink * k) (numbersOf (placedAt p q l))
     → o ≡ put d (perLink * k) (placedRow d p q i)
-unfolding placedRow
-row-moved d p q i k e h = h ∙ ap (λ (l : Link). put d (perLink * k) (numbersOf (placedAt p q l))) e
+unfolding placedRow changedRow
+row-moved d p q i k e h = row-changed (placedAt p q) d i k e h
 
 -- two rows that were read, each written where the other was
 pub rows-swapped : (d : List ℕ) (i j : ℕ) {l m : Link} {o o′ : List ℕ} → l ≡ linkIn d i → m ≡ linkIn d j

@@ -10,11 +10,11 @@ ghost use mathlib.Core.List.{_++_};
 ghost use Prim.Native.Nat.{_+_, _*_, _≤_, _<_};
 ghost use lib.ListN.{length};
 ghost use Rattle.folds.specs.Lists.{put};
-ghost use Rattle.store_rules.specs.Store.{perLink};
+ghost use Rattle.store_rules.specs.Store.{perLink, joining};
 ghost use Rattle.store_rules.specs.Appended.{link, numbersOf, rowNumbers};
 ghost use Rattle.store_rules.specs.Header.{ownChild, headerLinks};
 ghost use Rattle.folds.specs.Moments.{came, left};
-ghost use Rattle.store_link_rows.specs.Rows.{segment, linkOf, linkIn, row, rows, reversed, placedRow, keptRow};
+ghost use Rattle.store_link_rows.specs.Rows.{segment, linkOf, linkIn, row, rows, reversed, placedRow, changedRow, keptRow};
 
 // The numbers of a link row.
 struct Row {
@@ -85,6 +85,25 @@ pub fn move_row(links: &mut [u32], i: usize, k: usize, parent: u32, position: u3
             position,
             width: row.width,
             child: row.child,
+            kind: row.kind,
+        },
+    );
+}
+
+// Writes row i as row k, as a row of `parent` that leads to `child`.
+pub fn renumber_row(links: &mut [u32], i: usize, k: usize, parent: u32, child: u32)
+    requires { ⌜ (perLink * (i + 1) ≤ length (now links)) × (perLink * (k + 1) ≤ length (now links)) ⌝ }
+    ensures { λ _. ⌜ left links ≡ put (came links) (perLink * k) (changedRow (joining parent child) (came links) i) ⌝ }
+{
+    let row = row_at(links, i);
+    put_row(
+        links,
+        k,
+        Row {
+            parent,
+            position: row.position,
+            width: row.width,
+            child,
             kind: row.kind,
         },
     );

@@ -1,4 +1,3 @@
-pub mod Joining
 pub mod Writing
 pub mod Rounds
 pub mod Behind

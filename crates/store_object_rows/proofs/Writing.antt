@@ -6,17 +6,10 @@ use native.Mathlib.Omega.{arith}
 use lib.ListN.{length, length-append}
 use Rattle.folds.specs.Lists.{put, join}
 use Rattle.folds.proofs.Put.{put-nil, put-then, length-put}
+use Rattle.folds.proofs.Joining.{join-append, join-long, join-one}
 use Rattle.store_rules.specs.Appended.{rowsFrom}
-use Rattle.store_rules.proofs.ObjectRows.{rows-length}
+use Rattle.store_rules.proofs.ObjectRows.{rows-length, rows-append}
 use Rattle.store_object_rows.specs.Objects.{ObjectsRoom, Written}
-use Rattle.store_object_rows.proofs.Joining.{join-append, join-long, join-one}
-
-rows-append : (xs ys : List (List ℕ)) (at : ℕ) → rowsFrom at (xs ++ ys) ≡ rowsFrom at xs ++ rowsFrom (at + length (join xs)) ys
-unfolding rowsFrom join
-rows-append [] ys at = let e : at ≡ at + 0 = omega arith in ap (λ (n : ℕ). rowsFrom n ys) e
-rows-append (x ∷ xs) ys at =
-    let e : at + length x + length (join xs) ≡ at + length (x ++ join xs) = omega (arith, length-append x (join xs)) in
-    ap (λ (r : List ℕ). at ∷ (at + length x) ∷ r) (rows-append xs ys (at + length x) ∙ ap (λ (n : ℕ). rowsFrom (at + length x) xs ++ rowsFrom n ys) e)
 
 pub written-none : (d o : List ℕ) (at row : ℕ) → Written d o at row [] d o at
 unfolding join rowsFrom
@@ -76,7 +69,7 @@ module _ {d o : List ℕ} {at row : ℕ} (xs ys : List (List ℕ)) (room : Objec
           rows =
               put-then o (2 * row) (rowsFrom at xs) (2 * (row + length xs)) (rowsFrom r ys) (w .rows) (v .rows) (omega (arith, rows-length at xs)) (omega arith)
               ∙ ap (λ (n : ℕ). put o (2 * row) (rowsFrom at xs ++ rowsFrom n ys)) e
-              ∙ ap (put o (2 * row)) (sym (rows-append xs ys at));
+              ∙ ap (put o (2 * row)) (sym (rows-append at xs ys));
           ends = omega (arith, join-long xs ys);
         }
 

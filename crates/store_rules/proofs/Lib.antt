@@ -27,3 +27,5 @@ pub mod ItemSize
 pub mod ReachTogether
 pub mod SlotsCounted
 pub mod SlotLinks
+pub mod Rising
+pub mod Renumbered

@@ -12,7 +12,7 @@ use borrow.Author.Tests.{eqb-true, ne-eqb}
 use Rattle.folds.specs.Folds.{orElse, flat, upto}
 use Rattle.folds.specs.Lists.{sift, isSome}
 use Rattle.folds.proofs.Tests.{and-both, and-first, and-second, true-false}
-use Rattle.folds.proofs.Each.{Each, each-moved}
+use Rattle.folds.proofs.Each.{Each, each-all, each-moved}
 use Rattle.store_rules.specs.Store.{Link, lookup, Store, linkAt, positionOf, childOf, childAt, linksOf, bytesOf, linkedAt, linkedBytes, offsetOf}
 use Rattle.store_rules.specs.Reach.{onCycle, Reach}
 use Rattle.store_rules.proofs.Sound.{Fits}
@@ -87,11 +87,11 @@ mapped-id h e none = refl
 
 module _ (f : Link → Link) (p : Link → Bool) (u q u′ q′ : ℕ) where
   -- where the looked up one is kept, and no other becomes it
-  pub lookup-moved : (h : ℕ → ℕ) → ((l : Link) → p l ≡ true → hit (f l) u′ q′ ≡ hit l u q) → ((l : Link) → hit l u q ≡ true → p l ≡ true)
-      → ((l : Link) → hit l u q ≡ true → f l .child ≡ h (l .child)) → (ls : List Link) → lookup (map f (sift p ls)) u′ q′ ≡ mapped h (lookup ls u q)
+  pub lookup-kept : (h : ℕ → ℕ) → ((l : Link) → p l ≡ true → hit (f l) u′ q′ ≡ hit l u q) → ((l : Link) → hit l u q ≡ true → f l .child ≡ h (l .child))
+      → (ls : List Link) → Each (λ l. hit l u q ≡ true → p l ≡ true) ls → lookup (map f (sift p ls)) u′ q′ ≡ mapped h (lookup ls u q)
   unfolding lookup sift
-  lookup-moved h a b c [] = refl
-  lookup-moved h a b c (l ∷ ls) = go (hit l u q) (p l) (a l) (b l) (c l) (lookup-moved h a b c ls)
+  lookup-kept h a c [] b = refl
+  lookup-kept h a c (l ∷ ls) b = go (hit l u q) (p l) (a l) (b .0) (c l) (lookup-kept h a c ls (b .1))
     where
       go : (x y : Bool) → (y ≡ true → hit (f l) u′ q′ ≡ x) → (x ≡ true → y ≡ true) → (x ≡ true → f l .child ≡ h (l .child))
           → lookup (map f (sift p ls)) u′ q′ ≡ mapped h (lookup ls u q)
@@ -100,6 +100,11 @@ module _ (f : Link → Link) (p : Link → Bool) (u q u′ q′ : ℕ) where
       go true false a b c e = true-false (sym (b refl))
       go false true a b c e = rw (a refl) e
       go false false a b c e = e
+
+  -- the same, where each that could be looked up is kept
+  pub lookup-moved : (h : ℕ → ℕ) → ((l : Link) → p l ≡ true → hit (f l) u′ q′ ≡ hit l u q) → ((l : Link) → hit l u q ≡ true → p l ≡ true)
+      → ((l : Link) → hit l u q ≡ true → f l .child ≡ h (l .child)) → (ls : List Link) → lookup (map f (sift p ls)) u′ q′ ≡ mapped h (lookup ls u q)
+  lookup-moved h a b c ls = lookup-kept h a c ls (each-all (λ l. hit l u q ≡ true → p l ≡ true) b ls)
 
   -- where none becomes it
   pub lookup-lost : ((l : Link) → p l ≡ true → hit (f l) u′ q′ ≡ false) → (ls : List Link) → lookup (map f (sift p ls)) u′ q′ ≡ none

@@ -1,10 +1,11 @@
 -- The rows of objects that are packed one behind the other. Assumes nothing.
 use Prim.Native.Nat.{ℕ, zero, suc, _+_, _*_, _<_}
 use mathlib.Core.Path.{_≡_, refl, ap, _∙_}
-use mathlib.Core.List.{List, [], _∷_}
+use mathlib.Core.List.{List, [], _∷_, _++_}
 use native.Mathlib.Omega.{arith}
 use native.Mathlib.Nat.{not-suc-le-zero}
-use lib.ListN.{length, getD}
+use lib.ListN.{length, getD, length-append}
+use Rattle.folds.specs.Lists.{join}
 use Rattle.folds.proofs.Offsets.{offset}
 use Rattle.store_rules.specs.Appended.{rowsFrom}
 
@@ -12,6 +13,13 @@ pub rows-length : (at : ℕ) (xs : List (List ℕ)) → length (rowsFrom at xs) 
 unfolding rowsFrom
 rows-length at [] = refl
 rows-length at (x ∷ xs) = omega (arith, rows-length (at + length x) xs)
+
+pub rows-append : (at : ℕ) (xs ys : List (List ℕ)) → rowsFrom at (xs ++ ys) ≡ rowsFrom at xs ++ rowsFrom (at + length (join xs)) ys
+unfolding rowsFrom join
+rows-append at [] ys = let e : at ≡ at + 0 = omega arith in ap (λ (n : ℕ). rowsFrom n ys) e
+rows-append at (x ∷ xs) ys =
+    let e : at + length x + length (join xs) ≡ at + length (x ++ join xs) = omega (arith, length-append x (join xs)) in
+    ap (λ (r : List ℕ). at ∷ (at + length x) ∷ r) (rows-append (at + length x) xs ys ∙ ap (λ (n : ℕ). rowsFrom (at + length x) xs ++ rowsFrom n ys) e)
 
 two-on : (m : ℕ) → 2 * suc m ≡ suc (suc (2 * m))
 two-on m = omega arith

@@ -7,11 +7,11 @@ use mathlib.Core.Logic.{_⊎_, inl, inr, ⊎-elim}
 use native.Mathlib.Omega.{arith}
 use native.Mathlib.Decide.{ℕ-discrete}
 use native.Mathlib.Nat.{eq-or-lt-of-le}
-use lib.ListN.{length, getD, set, replicate, length-set, length-replicate, getD-replicate}
+use lib.ListN.{length, getD, set, replicate, length-set, length-replicate, getD-replicate, List·getD-eq-default}
 use lib.Seq.{getD-set-same, getD-set-other}
 use lib.Dec.{eqb}
 use borrow.Author.Tests.{ne-eqb, eq-eqb, not-true}
-use Rattle.folds.proofs.Tests.{and-both, and-intro, by-test, true-false}
+use Rattle.folds.proofs.Tests.{and-both, and-intro, by-test, either, true-false}
 use Rattle.folds.proofs.Joined.{or-either, or-first, or-second}
 use Rattle.folds.proofs.Tally.{count, tally-one, count-all}
 use Rattle.store_rules.specs.Store.{Store, linkAt, isOffset, parentOf, childOf}
@@ -126,3 +126,26 @@ module _ (s : Store) (from : ℕ → Bool) (f : Fits s) where
   pub reached-all : {i : ℕ} → Reach s from i → marked (reached s from) i ≡ true
   reached-all (Reach.seed k l a e) = rw e at (done k l (inl a))
   reached-all (Reach.step {i} r k l p e) = rw e at (done k l (inr (and-intro (isOffset (linkAt s k)) (marked (reached s from) (parentOf s k)) (of-offset i (linkAt s k) p) (ap (marked (reached s from)) (of-parent i (linkAt s k) p) ∙ reached-all r))))
+
+-- ---- there are marks for the objects in use alone
+
+once-long : (s : Store) (from : ℕ → Bool) (w : List ℕ) (k : ℕ) → length (once s from w k) ≡ length w
+unfolding once
+once-long s from w zero = refl
+once-long s from w (suc k) = by-test (due s from w k) (λ e. rw e (length-set w (childOf s k) 1)) (λ e. rw e (once-long s from w k))
+
+grow-long : (s : Store) (from : ℕ → Bool) (n : ℕ) (w : List ℕ) → length (grow s from n w) ≡ length w
+unfolding grow
+grow-long s from zero w = refl
+grow-long s from (suc n) w = grow-long s from n (once s from w (s .linkCount)) ∙ once-long s from w (s .linkCount)
+
+pub marked-used : (s : Store) (from : ℕ → Bool) (i : ℕ) → marked (reached s from) i ≡ true → i < s .objectCount
+unfolding reached
+marked-used s from i h =
+    ⊎-elim (λ l. l)
+    (λ ge.
+    let marks = grow s from (s .objectCount) (replicate (s .objectCount) 0) in
+    let long = grow-long s from (s .objectCount) (replicate (s .objectCount) 0) ∙ length-replicate {A = ℕ} (s .objectCount) 0 in
+    let past : getD marks i 0 ≡ 0 = List·getD-eq-default marks 0 {n = i} (omega arith) in
+    true-false (sym h ∙ ne-eqb (getD marks i 0) 1 (λ e. omega arith)))
+    (either i (s .objectCount))

@@ -128,10 +128,14 @@ module _ (s : Store) (f : Fits s) where
       let o = f .object k (omega arith) in
       omega (arith, sizes-before k (omega arith), o .after, o .ordered)
 
-  pub sizes-most : sum (sizeOf s) (s .objectCount) ≤ 16777216
+  -- they take no more than the data in use
+  pub sizes-within : sum (sizeOf s) (s .objectCount) ≤ s .byteCount
   unfolding before
-  sizes-most = go (s .objectCount) (sizes-before (s .objectCount) (omega arith)) (f .object)
+  sizes-within = go (s .objectCount) (sizes-before (s .objectCount) (omega arith)) (f .object)
     where
-      go : (n : ℕ) → sum (sizeOf s) n ≤ before (tailOf s) n → ((i : ℕ) → i < n → ObjectFits s i) → sum (sizeOf s) n ≤ 16777216
+      go : (n : ℕ) → sum (sizeOf s) n ≤ before (tailOf s) n → ((i : ℕ) → i < n → ObjectFits s i) → sum (sizeOf s) n ≤ s .byteCount
       go zero h o = omega arith
-      go (suc n) h o = omega (arith, h, o n (omega arith) .inside, f .bytesMost)
+      go (suc n) h o = omega (arith, h, o n (omega arith) .inside)
+
+  pub sizes-most : sum (sizeOf s) (s .objectCount) ≤ 16777216
+  sizes-most = omega (arith, sizes-within, f .bytesMost)

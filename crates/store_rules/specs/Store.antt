@@ -112,6 +112,10 @@ placedAt p q l = record { parent = p; position = q; width = l .width; child = l 
 abbrev pub leadingTo : ℕ → Link → Link
 leadingTo c l = record { parent = l .parent; position = l .position; width = l .width; child = c; kind = l .kind }
 
+-- the same link, from parent p to child c
+abbrev pub joining : ℕ → ℕ → Link → Link
+joining p c l = record { parent = p; position = l .position; width = l .width; child = c; kind = l .kind }
+
 -- row k as a link
 abbrev pub linkAt : Store → ℕ → Link
 linkAt s k = record { parent = parentOf s k; position = positionOf s k; width = widthOf s k; child = childOf s k; kind = kindOf s k }

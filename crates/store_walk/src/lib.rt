@@ -57,7 +57,7 @@ fn row_ends(links: &[u32], counts: [u32; 3], walk: &mut [u32])
 }
 
 // The row where the rows of object `i` of `n` start: where those of the object before it end.
-fn first_row_of(walk: &[u32], n: usize, i: usize) -> u32
+pub fn first_row_of(walk: &[u32], n: usize, i: usize) -> u32
     requires { ⌜ (n + i ≤ length (now walk)) × (n + i < 4294967296) ⌝ }
     ensures { λ r. ⌜ r ≡ before (λ j. getD (came walk) (n + j) 0) i ⌝ }
 {

@@ -125,7 +125,8 @@ impl Second {
 }
 
 impl Spread {
-    fn new<'a>(runs: impl Iterator<Item = &'a Vec<Duration>> + Clone) -> Self {
+    /// Of the times of each run.
+    pub fn new<'a>(runs: impl Iterator<Item = &'a Vec<Duration>> + Clone) -> Self {
         let sorted = |mut times: Vec<Duration>| {
             times.sort();
             quartiles(&times)
@@ -172,12 +173,18 @@ pub fn growth(first: &Compared, second: &Compared) -> Sides<f64> {
 
 /// Quartiles of what the one takes by what the other does, turn by turn.
 fn ratios<'a>(turns: impl Iterator<Item = (&'a Duration, &'a Duration)>) -> [f64; 3] {
-    let mut ratios: Vec<f64> = turns.map(|(a, b)| ratio(*a, *b)).collect();
+    ratios_of(turns.map(|(a, b)| (*a, *b)))
+}
+
+/// The same, of times that are nobody's.
+pub fn ratios_of(turns: impl Iterator<Item = (Duration, Duration)>) -> [f64; 3] {
+    let mut ratios: Vec<f64> = turns.map(|(a, b)| ratio(a, b)).collect();
     ratios.sort_by(f64::total_cmp);
     quartiles(&ratios)
 }
 
-fn ratio(a: Duration, b: Duration) -> f64 {
+/// What the one takes by what the other does.
+pub fn ratio(a: Duration, b: Duration) -> f64 {
     a.as_secs_f64() / b.as_secs_f64()
 }
 

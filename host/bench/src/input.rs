@@ -87,9 +87,9 @@ pub struct Input {
 }
 
 /// How many stores of a size there are, and how often each side takes its turn in a run.
-const SMALL: (u64, usize) = (16, 112);
-const MIDDLE: (u64, usize) = (8, 48);
-const LARGE: (u64, usize) = (1, 15);
+pub const SMALL: (u64, usize) = (16, 112);
+pub const MIDDLE: (u64, usize) = (8, 48);
+pub const LARGE: (u64, usize) = (1, 15);
 
 impl Input {
     /// Some of a shape and size.

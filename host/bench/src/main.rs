@@ -1,5 +1,5 @@
 //! How long the proved splits and cut plans take: by the first edition beside the crate's own, and by the second
-//! beside the first.
+//! beside the first. And how long compactions take, beside a plain copy of what is kept, a pass and a walk.
 //!
 //! ```text
 //! bench [--runs N]            times all inputs N times over, 3 unless it is said
@@ -13,11 +13,13 @@
 //! | [`input`] | what is split |
 //! | [`clock`] | the time that a thread has had |
 //! | [`timing`] | what is timed, and how |
+//! | [`compaction`] | the same of compactions |
 //! | [`figures`] | medians, spreads, ratios |
 //! | [`page`] | the tables, for a terminal and for docs/BENCH.md |
 //! | [`plot`] | docs/bench.svg |
 
 mod clock;
+mod compaction;
 mod figures;
 mod input;
 mod page;
@@ -58,7 +60,8 @@ fn main() -> ExitCode {
 fn quick() -> Result<(), String> {
     let inputs = input::small();
     let figures = measure(&inputs, 1, |input| input.cases.len())?;
-    print!("{}", page::text(&figures));
+    let compactions = compaction::measure(&compaction::small(), 1, |input| input.calls.len())?;
+    print!("{}", page::text(&figures, &compactions));
     println!("\nBoth sides agree. Times of so few turns say little.");
     Ok(())
 }
@@ -67,12 +70,16 @@ fn quick() -> Result<(), String> {
 fn full(runs: usize, is_written: bool) -> Result<(), String> {
     let inputs = input::all();
     let figures = measure(&inputs, runs, |input| input.repetitions)?;
-    print!("{}", page::text(&figures));
+    let compactions = compaction::measure(&compaction::all(), runs, |input| input.repetitions)?;
+    print!("{}", page::text(&figures, &compactions));
     if !is_written {
         return Ok(());
     }
     let docs = Path::new(env!("CARGO_MANIFEST_DIR")).join("../../docs");
-    write(&docs.join("BENCH.md"), &page::markdown(&figures))?;
+    write(
+        &docs.join("BENCH.md"),
+        &page::markdown(&figures, &compactions),
+    )?;
     write(&docs.join("bench.svg"), &plot::svg(&figures))
 }
 

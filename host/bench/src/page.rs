@@ -1,6 +1,9 @@
 //! The tables, for a terminal and for a page.
 
+mod compaction;
+
 use crate::{
+    compaction::Figures as Compaction,
     figures::{growth, noise, Compared, Figures, Second, Spread},
     input::{order_name, table_name, Shape},
     timing::Sides,
@@ -68,7 +71,7 @@ The last column is our cut plan by the oracle's whole split, which is what the c
 ";
 
 /// All tables.
-pub fn text(figures: &[Figures]) -> String {
+pub fn text(figures: &[Figures], compactions: &[Compaction]) -> String {
     let mut text = String::new();
     let rows = figures.iter().map(|input| row(input, &input.split));
     write_table(&mut text, "Split", &HEADS, rows);
@@ -101,15 +104,17 @@ pub fn text(figures: &[Figures]) -> String {
         write_table(&mut text, "Growth", &heads, rows.into_iter());
         text += "\nThe goal is 11 times at most, for ten times the objects.\n";
     }
+    compaction::write(&mut text, compactions);
     text
 }
 
 /// The page, with what was done and how far it can be trusted.
-pub fn markdown(figures: &[Figures]) -> String {
-    let tables = text(figures);
+pub fn markdown(figures: &[Figures], compactions: &[Compaction]) -> String {
+    let tables = text(figures, compactions);
     let trust = trust(figures);
     let plot = "![Times by objects, both axes logarithmic](bench.svg)";
-    format!("{HEAD}\n{trust}\n{plot}\n{tables}\n{INPUTS}")
+    let inputs = [INPUTS, compaction::INPUTS].join("\n");
+    format!("{HEAD}\n{trust}\n{plot}\n{tables}\n{inputs}")
 }
 
 /// How often it was timed, and how far the runs lie apart.

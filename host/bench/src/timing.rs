@@ -237,7 +237,7 @@ fn in_turn(turned: bool, time: impl Fn(Edition) -> Duration) -> Editions<Duratio
 }
 
 /// How long something takes. What it gives is dropped afterwards.
-fn time<T>(call: impl FnOnce() -> T) -> Duration {
+pub fn time<T>(call: impl FnOnce() -> T) -> Duration {
     let start = clock::now();
     let given = black_box(call());
     let time = clock::now() - start;

@@ -1,5 +1,6 @@
 //! The exported functions, which are proved, as a subject.
 
+mod compaction;
 mod lookups;
 
 use crate::{Attachment, Call, MarkSubject, Pair, Subject};

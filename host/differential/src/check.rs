@@ -2,6 +2,7 @@
 
 mod agree;
 mod attachments;
+mod compaction;
 mod counted;
 mod frame;
 mod guaranteed;
@@ -15,6 +16,9 @@ pub use agree::{
     split_agrees,
 };
 pub use attachments::{attachments_agree, attachments_stay};
+pub use compaction::{
+    compacted_again, compaction_agrees, freed_room_is_used, kept, Compacted, Readings,
+};
 pub use counted::{counted_alike, counted_somehow};
 pub use frame::{again, again_at, frame};
 pub use guaranteed::{

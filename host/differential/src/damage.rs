@@ -2,6 +2,7 @@
 //!
 //! All start from a call that is lent exactly what it needs and that no check refuses.
 
+mod compactions;
 mod editions;
 mod links;
 mod lookups;
@@ -15,6 +16,7 @@ mod sets;
 mod soundness;
 mod table;
 
+pub use compactions::{compactions, scramble_compaction, CompactDamage};
 pub use lookups::scramble_lookups;
 pub use parts::{CLASS_DEFS, COVERAGES};
 pub use scramble::scramble;

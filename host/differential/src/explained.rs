@@ -5,8 +5,8 @@ mod mend;
 pub use mend::mend;
 
 use crate::{
-    check::Outcome, Archive, Attachment, Call, Functions, LookupSubject, MarkSubject, Pair,
-    Scratch, Subject,
+    check::Outcome, Archive, Attachment, Call, CompactSubject, Compaction, Functions,
+    LookupSubject, MarkSubject, Pair, Scratch, Subject,
 };
 use oracle::Store;
 use splitter::{
@@ -88,6 +88,19 @@ pub fn as_answered(functions: Functions, call: &Call<u32>) -> Outcome {
             explanations
                 .map(|explanation| explanation.to_string())
                 .join("; ")
+        )),
+    }
+}
+
+/// The same of a compaction.
+pub fn compaction_as_answered(call: &Compaction) -> Outcome {
+    let store = lent(&call.store);
+    let explanation = explain::explain_compaction_lent(store, &call.roots, call.walk.len());
+    let (ours, proved) = (explanation.number(), Archive.compact(&mut call.clone()));
+    match ours == proved {
+        true => Ok(()),
+        false => Err(format!(
+            "explained as {ours}, answered by {proved}: {explanation}"
         )),
     }
 }

@@ -10,6 +10,9 @@ pub mod large;
 mod lookups;
 mod marks;
 mod orders;
+mod roots;
+
+pub use roots::roots;
 
 use crate::{
     edit,

@@ -1,5 +1,9 @@
 //! What a call is lent: scratch and room, exactly as much as is needed or more.
 
+mod compaction;
+
+pub use compaction::{all_kinds, compaction_amply, compaction_exactly};
+
 use crate::{
     generate::Listed,
     model::{

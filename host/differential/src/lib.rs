@@ -3,8 +3,8 @@
 //!
 //! The rules are written here a second time, in plain Rust and from documents 01 and 02 alone: clear
 //! before fast. Whatever splits PairPos tables is a [`Subject`], whatever splits MarkBasePos tables a
-//! [`MarkSubject`], and whatever enters new tables in lookups a [`LookupSubject`]; the [`Model`] is all
-//! three, and so is the [`Archive`]. Two subjects agree if a call leaves the same answer and the same
+//! [`MarkSubject`], whatever enters new tables in lookups a [`LookupSubject`], and whatever compacts stores a
+//! [`CompactSubject`]; the [`Model`] is all of these, and so is the [`Archive`]. Two subjects agree if a call leaves the same answer and the same
 //! contents, to the last number.
 //!
 //! The rule has two editions. The oracle is of the first alone; what the second guarantees is checked item by
@@ -12,15 +12,15 @@
 //!
 //! | module | holds |
 //! |---|---|
-//! | [`model`] | the rules: soundness, answers, cut places, what is written, pairs, attachments and lookups |
+//! | [`model`] | the rules: soundness, answers, cut places, what is written, pairs, attachments, lookups, and what is kept |
 //! | [`by_hand`] | small stores for figures |
-//! | [`generate`] | valid stores of both formats, of marks, and with lookups, each from its seed |
+//! | [`generate`] | valid stores of both formats, of marks, and with lookups, each from its seed; roots of these |
 //! | [`lend`] | scratch and room for a call, exact or ample |
 //! | [`damage`] | damaged calls, one for each edge of each refusal |
 //! | [`compare`] | what is reachable from tables, renumbered, parts by meaning |
 //! | [`product`] | where the 16-bit product of the crate's text shows |
 //! | [`kept_offsets`] | where the crate's text keeps old offsets |
-//! | [`check`] | what must hold of a split: against the oracle, against the model, and by the second edition |
+//! | [`check`] | what must hold of a split: against the oracle, against the model, and by the second edition; and of a compaction |
 //! | [`explained`] | the host library's explanations, held to the proved functions |
 //! | [`vectors`] | a sample of the answers, stored for the program `vectors` |
 //! | [`runs`] | all that is asked of the store of one seed |
@@ -59,8 +59,8 @@ pub use archive::Archive;
 pub use model::{cuts::Edition, Model};
 pub use random::Random;
 pub use subject::{
-    Attachment, Call, Functions, InLookups, LookupSubject, MarkSubject, Marks, Pair, Scratch,
-    Splits, Subject,
+    Attachment, Call, CompactSubject, Compaction, Functions, InLookups, LookupSubject, MarkSubject,
+    Marks, Pair, Scratch, Splits, Subject,
 };
 pub use tally::Tally;
 

@@ -2,6 +2,7 @@
 
 pub mod answers;
 pub mod class_def;
+pub mod compaction;
 pub mod coverage;
 pub mod cuts;
 pub mod estimate;
@@ -20,7 +21,9 @@ pub mod table;
 pub mod values;
 pub mod written;
 
-use crate::{Attachment, Call, LookupSubject, MarkSubject, Pair, Subject};
+use crate::{
+    Attachment, Call, CompactSubject, Compaction, LookupSubject, MarkSubject, Pair, Subject,
+};
 use answers::Opening;
 use oracle::Store;
 use written::Written;
@@ -75,6 +78,23 @@ impl LookupSubject for Model {
     fn split_in_lookups(&self, call: &mut Call<u32>) -> u32 {
         let outcome = answers::split_in_lookups(call);
         settle_split(call, outcome)
+    }
+}
+
+impl CompactSubject for Model {
+    fn compact(&self, call: &mut Compaction) -> u32 {
+        let outcome = compaction::compact(call);
+        call.walk.fill(0);
+        call.moved = 0;
+        match outcome {
+            Ok(compacted) => {
+                call.store = compacted.store;
+                call.roots = compacted.roots;
+                call.moved = compacted.moved as u32;
+                0
+            }
+            Err(refusal) => refusal as u32,
+        }
     }
 }
 

@@ -1,5 +1,9 @@
 //! What a run asks of the store of one seed: whole, and damaged.
 
+mod compaction;
+
+pub use compaction::{compacted_damaged, compacted_whole, Everything};
+
 use crate::{
     check::{
         again, again_each, all_agree, another_format, applied_agree, applied_stay, as_the_oracle,

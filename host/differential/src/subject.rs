@@ -1,5 +1,9 @@
 //! The exported functions, as a seam.
 
+mod compaction;
+
+pub use compaction::{CompactSubject, Compaction};
+
 use oracle::Store;
 use splitter::Kind;
 use std::fmt::Debug;

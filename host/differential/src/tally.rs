@@ -1,7 +1,7 @@
 //! How often each case occurred.
 
 use crate::{
-    check::Split,
+    check::{Compacted, Split},
     model::{cuts::Weighed, opened::Opened, reach::Seen},
     Edition,
 };
@@ -40,7 +40,13 @@ pub struct Tally {
     pub rewritten: usize,
     /// Lookups that were applied before and after a split, and those of which nothing is promised.
     pub applied: [usize; 2],
-    /// Pairs or attachments that were read before and after a split.
+    /// Objects that a compaction kept, and those that it dropped.
+    pub objects: [usize; 2],
+    /// Order-only links that it kept, and those that it dropped.
+    pub orders_left: [usize; 2],
+    /// Bytes that it moved, and compactions that moved nothing though something went.
+    pub moved: [usize; 2],
+    /// Pairs or attachments that were read before and after a split or a compaction.
     pub readings: usize,
     /// Those of them that were found.
     pub found: usize,
@@ -109,6 +115,34 @@ impl Tally {
     }
 }
 
+impl Tally {
+    /// Counts a compaction that was not refused, and what it kept.
+    pub fn add_compaction(&mut self, compacted: &Compacted) {
+        let stores = [&compacted.before.store, &compacted.after.store];
+        let [before, after] = stores.map(|store| store.counts[1] as usize);
+        let orders = stores.map(|store| {
+            let rows = store.links_in_use().iter();
+            rows.filter(|row| !link::is_offset(row)).count()
+        });
+        let moved = compacted.after.moved as usize;
+        let has_gone = stores[0].counts != stores[1].counts;
+        self.answers[0] += 1;
+        for (counts, more) in [
+            (&mut self.objects, [after, before - after]),
+            (&mut self.orders_left, [orders[1], orders[0] - orders[1]]),
+            (
+                &mut self.moved,
+                [moved, usize::from(has_gone && moved == 0)],
+            ),
+        ] {
+            counts
+                .iter_mut()
+                .zip(more)
+                .for_each(|(count, more)| *count += more);
+        }
+    }
+}
+
 fn cut_class(count: usize) -> usize {
     match count {
         0..=2 => count,
@@ -150,6 +184,15 @@ impl Display for Tally {
             writeln!(
                 f,
                 "lookups written anew {rewritten}, applied {applied}, left out {left_out}"
+            )?;
+        }
+        let ([kept, gone], [moved, in_place]) = (self.objects, self.moved);
+        if kept + gone > 0 {
+            let [orders_kept, orders_gone] = self.orders_left;
+            writeln!(
+                f,
+                "objects kept {kept}, gone {gone}; order-only links kept {orders_kept}, gone \
+                 {orders_gone}; bytes moved {moved}, something gone and nothing moved {in_place}"
             )?;
         }
         write!(f, "readings {}, found {}", self.readings, self.found)

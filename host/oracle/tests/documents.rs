@@ -10,7 +10,7 @@ use std::{
 };
 
 /// The crates whose every definition has to be believed.
-const BELIEVED: [&str; 15] = [
+const BELIEVED: [&str; 17] = [
     "folds",
     "ot_layouts",
     "store_rules",
@@ -20,9 +20,11 @@ const BELIEVED: [&str; 15] = [
     "pair_rules",
     "mark_rules",
     "lookup_rules",
+    "compact_rules",
     "promise_pairs",
     "promise_marks",
     "promise_lookups",
+    "promise_compaction",
     "pair_fits",
     "mark_fits",
     "promise_editions",

@@ -11,6 +11,7 @@
 
 mod arguments;
 mod bars;
+mod compact;
 mod dump;
 mod failure;
 mod files;
@@ -54,6 +55,7 @@ fn follow(request: Request) -> Result<Outcome, Failure> {
         Request::Sample(request) => sample::run(request, &mut screen),
         Request::Plan(request) => plan::run(request, &mut screen),
         Request::Split(request) => split::run(request, &mut screen),
+        Request::Compact(request) => compact::run(request, &mut screen),
         Request::Pair(request) => pair::run(request, &mut screen),
         Request::Mark(request) => mark::run(request, &mut screen),
         Request::Dump(request) => dump::run(request, &mut screen),

@@ -3,6 +3,7 @@
 //! The proved functions decide, and give a number. This looks for the reason of that number, in plain
 //! Rust and by the same documents; tests hold it to the proved functions.
 
+mod compaction;
 mod fault;
 mod lent;
 mod links;
@@ -113,6 +114,33 @@ pub fn explain_in_lookups<'a>(
     };
     let Explanation(found) = Kind::Pairs.explain_call(call, store, table);
     Explanation(found.filter(|(refusal, _)| *refusal != Refusal::NoRoom))
+}
+
+/// Explains what [`Store::compact`](crate::Store::compact) answers, and [`compact`](crate::compact()).
+///
+/// ```
+/// use splitter::{explain_compaction, Refusal, Store};
+///
+/// let mut store = Store::new();
+/// let table = store.add_object(&[0, 3])?;
+///
+/// let explanation = explain_compaction(&store, &[table, 7]);
+/// assert_eq!(explanation.refusal(), Some(Refusal::NoTable));
+/// let sentence = "entry 1 of the list of roots is 7; it must be below 1, how many objects are in use";
+/// assert_eq!(explanation.to_string(), sentence);
+/// # Ok::<(), Refusal>(())
+/// ```
+pub fn explain_compaction<'a>(store: impl Into<StoreRef<'a>>, roots: &[u32]) -> Explanation {
+    explain_compaction_lent(store, roots, usize::MAX)
+}
+
+/// Explains what a compaction answers that is lent a walk of so many numbers.
+pub fn explain_compaction_lent<'a>(
+    store: impl Into<StoreRef<'a>>,
+    roots: &[u32],
+    walk: usize,
+) -> Explanation {
+    compaction::explain(store.into(), roots, walk)
 }
 
 impl Kind {

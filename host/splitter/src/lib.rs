@@ -34,7 +34,8 @@
 //!
 //! | to | see |
 //! |---|---|
-//! | know why a table is refused: what is at fault, where, and what should be there | [`explain()`], [`explain_in_lookups`] |
+//! | drop what nothing needs any more, and have the room for the next split | [`Store::compact`], [`compact()`] |
+//! | know why a call is refused: what is at fault, where, and what should be there | [`explain()`], [`explain_in_lookups`], [`explain_compaction`] |
 //! | know whether a table is within the limit, or those that a split would leave | [`Kind::fit`], [`Kind::fits_at`] |
 //! | split tables of a graph of the host's own | [`split_graph`] |
 //! | read what a lookup says of two glyphs, by its subtables in order | [`apply_lookup`] |
@@ -52,7 +53,7 @@
 //! - Tables that each fit may together be too far from their lookup, and usually want extension lookups.
 //! - What they share may have to be there more than once.
 //! - The old coverage, class definition 1 or arrays stay, and may be left with nothing that leads to them.
-//!   Order-only links to them still lead there, and their own stay with them.
+//!   Order-only links to them still lead there, and their own stay with them. [`Store::compact`] drops them.
 //!
 //! ```
 //! use splitter::{cut_plan, read_pair, split, Edition, Refusal, Scratch, Store};
@@ -84,6 +85,7 @@
 
 #![deny(missing_docs, unsafe_code)]
 
+mod compact;
 mod edition;
 pub mod explain;
 mod fit;
@@ -108,8 +110,9 @@ mod store;
 pub mod store_file;
 mod table;
 
+pub use compact::{compact, Compacted, Freed};
 pub use edition::Edition;
-pub use explain::{explain, explain_in_lookups, explain_marks, Explanation};
+pub use explain::{explain, explain_compaction, explain_in_lookups, explain_marks, Explanation};
 pub use fit::{Fit, Past};
 pub use graph::{split_graph, split_marks_graph, GraphStore, ObjectGraph};
 pub use kind::Kind;

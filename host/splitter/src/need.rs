@@ -29,7 +29,7 @@ impl Need {
             (Kind::Marks, _) => (6, marks_room(store, table, glyphs)),
         };
         Self {
-            objects: (store.counts()[1] as usize).min(Room::MOST.objects),
+            objects: objects(store),
             glyphs,
             items: word(header, count),
             each_cut,
@@ -60,6 +60,12 @@ impl Need {
             links: once.links + cuts * each_cut.links,
         }
     }
+}
+
+/// The objects in use, or as many as there may be.
+pub(crate) fn objects(store: StoreRef) -> usize {
+    let [_, objects, _] = store.counts();
+    (objects as usize).min(Room::MOST.objects)
 }
 
 /// For each cut and once, where tables have so many parts that are written, and so many links to

@@ -16,14 +16,17 @@
 //! Scratch is `walk`, two numbers for each object in use; `glyph_set`, 8,192 bytes; `glyphs` and
 //! `classes`, one entry for each covered glyph, of a mark-to-base table each glyph of its mark
 //! coverage; and `cuts`, one entry for each pair set, row or mark class. It may be longer and hold
-//! anything, and is zero after every call, all of it.
+//! anything, and is zero after every call, all of it. Of these [`compact`] takes `walk` alone.
 //!
 //! Splits and cut plans take the number of an [edition](crate::Edition) of the cutting rule, 1 or 2. It is
 //! asked before all else: of another number the answer is 12, whatever else there is to refuse.
 
 #![allow(unsafe_code)]
 
+mod compact;
 mod shapes;
+
+pub use compact::compact;
 
 use shapes::{plan_function, read_function, split_function};
 

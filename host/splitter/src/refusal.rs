@@ -7,8 +7,9 @@ use std::{
 
 /// Why a call was refused. It changed nothing.
 ///
-/// Where several apply, the first is given. [`explain`](crate::explain()) says what is at fault, and of a
-/// call over lookups [`explain_in_lookups`](crate::explain_in_lookups).
+/// Where several apply, the first is given. [`explain`](crate::explain()) says what is at fault, of a call
+/// over lookups [`explain_in_lookups`](crate::explain_in_lookups), and of a compaction
+/// [`explain_compaction`](crate::explain_compaction).
 #[derive(Clone, Copy, Debug, PartialEq, Eq, Hash)]
 #[non_exhaustive]
 pub enum Refusal {
@@ -16,7 +17,7 @@ pub enum Refusal {
     BadEdition = 12,
     /// The store is not sound.
     Unsound = 1,
-    /// The table's number is not in use, or that of a lookup or a lookup list is not.
+    /// The table's number is not in use, or that of a lookup, a lookup list or a root is not.
     NoTable = 2,
     /// A lookup list, or a lookup, has not exactly its length or has a link at no slot; or no lookup for
     /// pairs of the list names the table.
@@ -101,8 +102,8 @@ impl Display for Refusal {
                  width 0"
             }
             Self::NoTable => {
-                "no object in use has the number of the table, the lookup or the lookup list: give a \
-                 number below the count of objects"
+                "no object in use has the number of the table, the lookup, the lookup list or the root: \
+                 give a number below the count of objects"
             }
             Self::BadList => {
                 "the lookup list or a lookup of it has not exactly its length or has a link at no slot, or \

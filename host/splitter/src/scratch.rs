@@ -1,10 +1,13 @@
-//! The scratch of a split and of a cut plan.
+//! The scratch of a split, a cut plan and a compaction.
 
-use crate::{need::Need, raw, Edition, Kind, Refusal, StoreMut, StoreRef};
+use crate::{
+    need::{self, Need},
+    raw, Edition, Freed, Kind, Refusal, Room, StoreMut, StoreRef,
+};
 
 const GLYPH_SET: usize = 8_192;
 
-/// Buffers that splits and cut plans work in, kept from call to call.
+/// Buffers that splits, cut plans and compactions work in, kept from call to call.
 ///
 /// They grow as tables need them, up to 1 MB. One is enough for all stores and tables, of both kinds,
 /// and no call leaves anything in it.
@@ -120,6 +123,30 @@ impl Scratch {
             &mut count,
         );
         Refusal::answered(answer).map(|()| count as usize)
+    }
+
+    pub(crate) fn compact(&mut self, store: StoreMut, roots: &mut [u32]) -> Result<Freed, Refusal> {
+        let (before, objects) = (*store.counts, need::objects(store.view()));
+        let mut moved = 0;
+        let answer = raw::compact(
+            store.data,
+            store.objects,
+            store.links,
+            store.counts,
+            roots,
+            part(&mut self.walk, 2 * objects),
+            &mut moved,
+        );
+        Refusal::answered(answer)?;
+        let [data, objects, links] = [0, 1, 2].map(|of| (before[of] - store.counts[of]) as usize);
+        Ok(Freed {
+            room: Room {
+                data,
+                objects,
+                links,
+            },
+            moved: moved as usize,
+        })
     }
 }
 

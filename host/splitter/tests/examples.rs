@@ -2,6 +2,8 @@
 
 #[path = "../examples/graph.rs"]
 mod graph;
+#[path = "../examples/night.rs"]
+mod night;
 #[path = "../examples/read_pair.rs"]
 mod read_pair;
 #[path = "../examples/split.rs"]

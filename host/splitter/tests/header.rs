@@ -13,7 +13,7 @@ fn manifest(path: &str) -> PathBuf {
     Path::new(env!("CARGO_MANIFEST_DIR")).join(path)
 }
 
-/// Compiles the calls for a kind of table in a language, with every warning an error, and runs them.
+/// Compiles calls of one kind in a language, with every warning an error, and runs them.
 fn compile_and_run(kind: &str, language: &str) {
     let program = Path::new(env!("CARGO_TARGET_TMPDIR")).join(format!("{kind}-{language}"));
     let compiler = env::var("CC").unwrap_or("cc".into());
@@ -59,6 +59,16 @@ fn lookups_in_c() {
 #[test]
 fn lookups_in_cpp() {
     compile_and_run("lookups", "c++");
+}
+
+#[test]
+fn compaction_in_c() {
+    compile_and_run("compaction", "c");
+}
+
+#[test]
+fn compaction_in_cpp() {
+    compile_and_run("compaction", "c++");
 }
 
 /// The header's numbers are the library's.

@@ -168,7 +168,7 @@ fn examples_of_the_document() {
         );
         count += 1;
     }
-    assert_eq!(count, 5);
+    assert_eq!(count, 6);
 }
 
 /// Each name that the command writes is on the page, and each run tells its exit code.
@@ -206,6 +206,11 @@ fn names_of_the_document() {
         told.push(run!("dump", file, "--json"));
         let output = directory.file("out.krns");
         told.push(run!("split", file, "-o", output, "--check", "--json"));
+        told.push(run!("split", file, "-o", output, "--compact", "--json"));
+        told.push(run!("compact", file, "-o", output, "--json"));
+        told.push(run!(
+            "compact", file, "-o", output, "--root", "99", "--json"
+        ));
         let mut unsound = fs::read(&file).unwrap();
         unsound[15] += 1;
         unsound.extend([0, 0, 0, 9, 0, 0, 0, 9]);

@@ -1,17 +1,21 @@
 //! Runs of the splitter against the model and the oracle, over as many seeds as one likes.
 //!
 //! ```text
-//! runs --seeds A..B [--subject archive|model] [--kind pairs|marks|lookups] [--format 1|2] [--edition 1|2]
+//! runs --seeds A..B [--subject archive|model] [--kind pairs|marks|lookups|compact] [--format 1|2]
+//!      [--edition 1|2]
 //! ```
 //!
 //! Each seed makes a store of each format of PairPos, or one with a MarkBasePos table, or one with a
-//! PairPos table in lookups, which is split whole and damaged, by both editions or by one. The first difference
-//! ends the run, with the seed. Otherwise it ends with how often each case occurred, in each edition.
+//! PairPos table in lookups, which is split whole and damaged, by both editions or by one; or one of each of these
+//! four, which is compacted, split, compacted and split again, and damaged. The first difference ends the run,
+//! with the seed. Otherwise it ends with how often each case occurred, in each edition.
 
 use differential::{
     check::Outcome,
     generate::{self, Case, Listed},
-    runs, Archive, Edition, LookupSubject, MarkSubject, Model, Subject, Tally,
+    lend,
+    runs::{self, Everything},
+    Archive, Edition, MarkSubject, Model, Subject, Tally,
 };
 use std::{
     env,
@@ -21,7 +25,8 @@ use std::{
     time::{Duration, Instant},
 };
 
-const USAGE: &str = "runs --seeds A..B [--subject archive|model] [--kind pairs|marks|lookups] \
+const USAGE: &str =
+    "runs --seeds A..B [--subject archive|model] [--kind pairs|marks|lookups|compact] \
                      [--format 1|2] [--edition 1|2]";
 
 /// How often it says how far it is.
@@ -35,13 +40,14 @@ struct Args {
     editions: &'static [Edition],
 }
 
-/// A kind of table.
+/// A kind of table, or all of them, to be compacted.
 #[derive(Clone, Copy, Debug, PartialEq, Eq)]
 enum Kind {
     Format1,
     Format2,
     Marks,
     Lookups,
+    Compact,
 }
 
 fn main() -> ExitCode {
@@ -58,6 +64,16 @@ fn main() -> ExitCode {
         Err(reason) => {
             eprintln!("{reason}");
             ExitCode::FAILURE
+        }
+    }
+}
+
+impl Kind {
+    /// How many stores there are of a seed.
+    const fn stores(self) -> u64 {
+        match self {
+            Self::Format1 | Self::Format2 | Self::Marks | Self::Lookups => 1,
+            Self::Compact => 4,
         }
     }
 }
@@ -82,6 +98,7 @@ impl Args {
                 ("--kind", "pairs") => args.kinds = &[Kind::Format1, Kind::Format2],
                 ("--kind", "marks") => args.kinds = &[Kind::Marks],
                 ("--kind", "lookups") => args.kinds = &[Kind::Lookups],
+                ("--kind", "compact") => args.kinds = &[Kind::Compact],
                 ("--format", "1") => args.kinds = &[Kind::Format1],
                 ("--format", "2") => args.kinds = &[Kind::Format2],
                 ("--edition", "1") => args.editions = &[Edition::First],
@@ -93,12 +110,7 @@ impl Args {
     }
 }
 
-/// Splits everything that is split.
-trait Whole: Subject + MarkSubject + LookupSubject {}
-
-impl<S: Subject + MarkSubject + LookupSubject> Whole for S {}
-
-fn run(subject: &impl Whole, args: &Args) -> Outcome {
+fn run(subject: &impl Everything, args: &Args) -> Outcome {
     let start = Instant::now();
     let mut said = start;
     let mut tallies = vec![Tally::default(); args.editions.len()];
@@ -112,7 +124,7 @@ fn run(subject: &impl Whole, args: &Args) -> Outcome {
                     format!("{kind:?}, edition {edition}, seed {seed}: {reason}")
                 })?;
             }
-            stores += 1;
+            stores += kind.stores();
         }
         if said.elapsed() >= PROGRESS {
             said = Instant::now();
@@ -132,7 +144,7 @@ fn run(subject: &impl Whole, args: &Args) -> Outcome {
 
 /// The store of a seed, whole and damaged. A panic is a difference too.
 fn check(
-    subject: &impl Whole,
+    subject: &impl Everything,
     kind: Kind,
     edition: Edition,
     seed: u64,
@@ -143,6 +155,7 @@ fn check(
         Kind::Format2 => check_pairs(subject, &generate::format2(seed), edition, seed, tally),
         Kind::Marks => check_marks(subject, &generate::marks(seed), edition, seed, tally),
         Kind::Lookups => check_lookups(subject, &generate::lookups(seed), edition, seed, tally),
+        Kind::Compact => check_compactions(subject, edition, seed, tally),
     }));
     checked.unwrap_or(Err("panicked".into()))
 }
@@ -170,7 +183,7 @@ fn check_marks(
 }
 
 fn check_lookups(
-    subject: &impl Whole,
+    subject: &impl Everything,
     case: &Listed,
     edition: Edition,
     seed: u64,
@@ -178,6 +191,21 @@ fn check_lookups(
 ) -> Outcome {
     runs::lookups_whole(subject, case, edition, seed, tally)?;
     runs::lookups_damaged(subject, case, edition, seed, tally)
+}
+
+/// The stores of all kinds of a seed.
+fn check_compactions(
+    subject: &impl Everything,
+    edition: Edition,
+    seed: u64,
+    tally: &mut Tally,
+) -> Outcome {
+    for (functions, call) in lend::all_kinds(seed, edition) {
+        let checked = runs::compacted_whole(subject, functions, &call, seed, tally)
+            .and_then(|()| runs::compacted_damaged(subject, functions, &call, seed, tally));
+        checked.map_err(|reason| format!("{functions:?}: {reason}"))?;
+    }
+    Ok(())
 }
 
 fn rate(stores: u64, start: Instant) -> u64 {

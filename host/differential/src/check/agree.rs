@@ -86,7 +86,7 @@ fn unlike<R: Debug + PartialEq>(ours: &R, theirs: &R) -> Option<String> {
     (ours != theirs).then(|| format!("{ours:?}, not {theirs:?}"))
 }
 
-fn agree([ours, theirs]: [u32; 2], difference: Option<String>) -> Outcome {
+pub(super) fn agree([ours, theirs]: [u32; 2], difference: Option<String>) -> Outcome {
     ensure(ours == theirs, || format!("answer {ours}, not {theirs}"))?;
     difference.map_or(Ok(()), Err)
 }

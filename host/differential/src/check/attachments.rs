@@ -73,7 +73,7 @@ fn first_attachment(tables: &[MarkBasePos], mark: u16, base: u16) -> Attachment 
 }
 
 /// Covered glyphs, all of them or many, and some others.
-fn some_glyphs(covered: &[u16], random: &mut Random) -> Vec<u16> {
+pub(super) fn some_glyphs(covered: &[u16], random: &mut Random) -> Vec<u16> {
     let mut glyphs = covered.to_vec();
     random.shuffle(&mut glyphs);
     glyphs.truncate(25);

@@ -157,7 +157,12 @@ const MOST_LOOKUPS: usize = 3;
 const PAIRS: usize = 6;
 
 /// The first subtable with a pair decides.
-fn apply(subject: &impl Subject, store: &Store, subtables: &[u32], glyphs: [u16; 2]) -> Pair {
+pub(super) fn apply(
+    subject: &impl Subject,
+    store: &Store,
+    subtables: &[u32],
+    glyphs: [u16; 2],
+) -> Pair {
     let mut pair = Pair::default();
     for &table in subtables {
         subject.read_pair(store, table, glyphs, &mut pair);

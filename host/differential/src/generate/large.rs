@@ -18,7 +18,7 @@ use crate::{
     },
     Random,
 };
-use oracle::link;
+use oracle::{link, Store};
 use std::ops::RangeInclusive;
 
 /// How the objects of a store are numbered.
@@ -319,5 +319,38 @@ fn laid_out(draft: &Draft, table: usize, order: Order, random: &mut Random) -> C
     Case {
         store,
         table: numbers[table],
+    }
+}
+
+/// How many bytes each object of [`dense`] has, and how many links.
+const DENSE: (usize, u32) = (256, 4);
+
+/// A store of so many objects of 256 bytes, each with four links, of which one is order-only; of 65,536 all that
+/// a store has is in use. All that object 1 leads to are the others but object 0, to which no offset leads.
+pub fn dense(objects: usize, seed: u64) -> Store {
+    let mut random = Random::new(seed);
+    let (bytes, links) = DENSE;
+    let count = objects as u32;
+    let any = |random: &mut Random| 1 + random.below(objects - 1) as u32;
+    let mut rows = Vec::new();
+    for object in 0..count {
+        let below = [2 * object, 2 * object + 1, any(&mut random)];
+        for (place, child) in (0..).zip(below) {
+            let child = match child {
+                0 => any(&mut random),
+                child if child >= count => any(&mut random),
+                child => child,
+            };
+            rows.push(link::offset(object, 2 * place, child));
+        }
+        let child = random.below(objects) as u32;
+        rows.push(link::order_only(object, child));
+    }
+    let ends = (0..count).map(|object| object * bytes as u32);
+    Store {
+        data: random.bytes(bytes * objects),
+        objects: ends.flat_map(|head| [head, head + bytes as u32]).collect(),
+        links: rows.into_flattened(),
+        counts: [count * bytes as u32, count, count * links],
     }
 }

@@ -22,7 +22,7 @@ pub enum Refusal {
     BadEdition = 12,
     /// The store is not sound.
     Unsound = 1,
-    /// The table's number is not in use, or the lookup list's is not.
+    /// The table's number is not in use, or the lookup list's or a root's is not.
     NoTable = 2,
     /// The lookup list or a lookup of it is not as long as it says or has a link at no slot, or no lookup
     /// of pairs names the table.

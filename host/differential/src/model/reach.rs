@@ -33,8 +33,16 @@ impl<'a> Seen<'a> {
 
     /// The summed length of all objects that these links reach and that were not seen before.
     pub fn count(&mut self, links: &[Link]) -> usize {
+        self.reach(links.iter().map(|link| link[3]).collect())
+    }
+
+    /// Sees an object, and all that it reaches.
+    pub fn add(&mut self, object: u32) {
+        self.reach(vec![object]);
+    }
+
+    fn reach(&mut self, mut pending: Vec<u32>) -> usize {
         let mut size = 0;
-        let mut pending: Vec<u32> = links.iter().map(|link| link[3]).collect();
         while let Some(object) = pending.pop() {
             if self.has(object) {
                 continue;

@@ -22,6 +22,8 @@ pub enum Request {
     Plan(Plan),
     /// Split tables.
     Split(Split),
+    /// Drop what is not needed.
+    Compact(Compact),
     /// Read a pair.
     Pair(Pair),
     /// Read an attachment.
@@ -90,9 +92,26 @@ pub struct Split {
     pub output: Output,
     /// Whether all pairs or attachments are read before and after.
     pub check: bool,
+    /// Whether what the tables do not lead to is dropped afterwards.
+    pub compact: bool,
 }
 
-/// Where a split store goes.
+/// What `compact` is asked for.
+#[derive(Debug, PartialEq, Eq)]
+pub struct Compact {
+    /// The store file.
+    pub file: PathBuf,
+    /// The roots, beside the tables that the file lists.
+    pub roots: Vec<u32>,
+    /// The file that is written. It is the store file itself only where that was asked for.
+    pub output: Output,
+    /// Whether long lists are shown whole.
+    pub all: bool,
+    /// What is written to standard output.
+    pub form: Form,
+}
+
+/// Where a store goes.
 #[derive(Debug, PartialEq, Eq)]
 pub enum Output {
     /// To another file, or to standard output.
@@ -157,14 +176,22 @@ pub struct Font {
     pub form: Form,
 }
 
+impl Output {
+    /// What is left for standard output where this was asked for. A store that goes there has it for itself.
+    fn leaves(&self, form: Form) -> Form {
+        match self {
+            Self::File(file) if is_standard(file) => Form::Quiet,
+            _ => form,
+        }
+    }
+}
+
 impl Request {
-    /// What is written to standard output. A store that goes there has it for itself.
+    /// What is written to standard output.
     pub fn form(&self) -> Form {
         match self {
-            Self::Split(split) => match &split.output {
-                Output::File(file) if is_standard(file) => Form::Quiet,
-                _ => split.plan.form,
-            },
+            Self::Split(request) => request.output.leaves(request.plan.form),
+            Self::Compact(request) => request.output.leaves(request.form),
             Self::Plan(request) => request.form,
             Self::Pair(request) => request.form,
             Self::Mark(request) => request.form,
@@ -179,6 +206,7 @@ impl Request {
         match self {
             Self::Plan(request) => Some(&request.file),
             Self::Split(request) => Some(&request.plan.file),
+            Self::Compact(request) => Some(&request.file),
             Self::Pair(request) => Some(&request.file),
             Self::Mark(request) => Some(&request.file),
             Self::Dump(request) => Some(&request.file),
@@ -193,6 +221,7 @@ impl Request {
             Self::Sample(_) => Some(Name::Sample),
             Self::Plan(_) => Some(Name::Plan),
             Self::Split(_) => Some(Name::Split),
+            Self::Compact(_) => Some(Name::Compact),
             Self::Pair(_) => Some(Name::Pair),
             Self::Mark(_) => Some(Name::Mark),
             Self::Dump(_) => Some(Name::Dump),
@@ -224,6 +253,7 @@ fn read_command(name: Name, words: impl Iterator<Item = OsString>) -> Result<Req
         Name::Sample => Request::Sample(sample(&mut words)?),
         Name::Plan => Request::Plan(plan(&mut words)?),
         Name::Split => Request::Split(split(&mut words)?),
+        Name::Compact => Request::Compact(compact(&mut words)?),
         Name::Pair => Request::Pair(pair(&mut words)?),
         Name::Mark => Request::Mark(mark(&mut words)?),
         Name::Dump => Request::Dump(dump(&mut words)?),
@@ -280,19 +310,31 @@ fn plan(words: &mut Words) -> Result<Plan, Failure> {
 fn split(words: &mut Words) -> Result<Split, Failure> {
     let plan = plan(words)?;
     Ok(Split {
-        output: output(words, &plan)?,
+        output: output(words, &plan.file, plan.form)?,
         plan,
         check: words.has("--check"),
+        compact: words.has("--compact"),
     })
 }
 
-fn output(words: &mut Words, plan: &Plan) -> Result<Output, Failure> {
+fn compact(words: &mut Words) -> Result<Compact, Failure> {
+    let (file, form) = (PathBuf::from(words.operand("FILE")?), words.form()?);
+    Ok(Compact {
+        roots: words.numbers("--root", "ROOT")?,
+        output: output(words, &file, form)?,
+        all: words.has("--all"),
+        file,
+        form,
+    })
+}
+
+fn output(words: &mut Words, file: &Path, form: Form) -> Result<Output, Failure> {
     match (words.value("--output"), words.has("--in-place")) {
-        (Some(file), false) if is_standard(file.as_ref()) && plan.form == Form::Json => {
+        (Some(file), false) if is_standard(file.as_ref()) && form == Form::Json => {
             Err(words.failure("writes the store or JSON to standard output, not both"))
         }
         (Some(file), false) => Ok(Output::File(file.into())),
-        (None, true) if is_standard(&plan.file) => {
+        (None, true) if is_standard(file) => {
             Err(words.failure("cannot write over standard input: add -o FILE"))
         }
         (None, true) => Ok(Output::InPlace),

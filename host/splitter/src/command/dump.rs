@@ -5,7 +5,7 @@ mod tree;
 
 use super::{
     arguments::{Dump, Name},
-    failure::{refusal_in_words, Failure},
+    failure::{refusal_in_words, Failure, What},
     files,
     json::Json,
     outcome::Outcome,
@@ -47,7 +47,7 @@ pub fn run(request: &Dump, screen: &mut Screen) -> Result<Outcome, Failure> {
     let values = vec![
         ("store", told::store(store.view)),
         ("refused", refused.into()),
-        ("tables", store.told_tables()),
+        ("tables", told::tables(&tables)),
         (
             "objects",
             objects.map(|it| store.told(it)).collect::<Vec<_>>().into(),
@@ -57,7 +57,7 @@ pub fn run(request: &Dump, screen: &mut Screen) -> Result<Outcome, Failure> {
 
     screen.heading(&format!("{}: {}", shown(&request.file), in_use(store.view)))?;
     if let Some(fault) = &fault {
-        let words = refusal_in_words(None, Refusal::Unsound, fault);
+        let words = refusal_in_words(What::Store, Refusal::Unsound, fault);
         screen.lines(&wrapped(&format!("Not sound: {words}."), 0))?;
     }
     match request.object {
@@ -66,7 +66,7 @@ pub fn run(request: &Dump, screen: &mut Screen) -> Result<Outcome, Failure> {
     }
     match fault {
         Some(fault) => {
-            let refused = Failure::refused(None, Refusal::Unsound, fault);
+            let refused = Failure::refused(What::Store, Refusal::Unsound, fault);
             Err(refused.at(&request.file))
         }
         None => Ok(outcome),
@@ -148,20 +148,6 @@ impl<'a> Dumped<'a> {
     fn links_of(&self, object: u32) -> &[Link] {
         let links = self.links.get(object as usize);
         links.map_or(&[], Vec::as_slice)
-    }
-
-    fn told_tables(&self) -> Json {
-        Json::List(
-            self.tables
-                .iter()
-                .map(|table| {
-                    Json::object([
-                        ("table", table.number.into()),
-                        ("kind", told::kind(table.kind).into()),
-                    ])
-                })
-                .collect(),
-        )
     }
 
     fn told(&self, object: u32) -> Json {

@@ -14,7 +14,7 @@ use std::{
 pub enum Failure {
     /// The words cannot be followed; a sentence says what to do.
     Words(String),
-    /// A table is refused, or a store.
+    /// A table is refused, a root, or a store.
     Refused(Box<Refused>),
     /// Some tables of several are refused, which were shown: how many, and what to do.
     SomeRefused(Vec<String>),
@@ -31,22 +31,34 @@ pub enum Failure {
 pub struct Refused {
     /// The file.
     file: Option<PathBuf>,
-    /// The table; without one, the whole store.
-    table: Option<u32>,
+    what: What,
     refusal: Refusal,
     explanation: Explanation,
 }
 
+/// What is refused.
+#[derive(Clone, Copy, Debug)]
+pub enum What {
+    /// The whole store.
+    Store,
+    /// A table, by its number.
+    Table(u32),
+    /// A root, by its number.
+    Root(u32),
+}
+
+impl From<u32> for What {
+    fn from(table: u32) -> Self {
+        Self::Table(table)
+    }
+}
+
 impl Failure {
-    /// A refusal of a table, or of a store.
-    pub fn refused(
-        table: impl Into<Option<u32>>,
-        refusal: Refusal,
-        explanation: Explanation,
-    ) -> Self {
+    /// A refusal of a table, of a root or of a store.
+    pub fn refused(what: impl Into<What>, refusal: Refusal, explanation: Explanation) -> Self {
         Self::Refused(Box::new(Refused {
             file: None,
-            table: table.into(),
+            what: what.into(),
             refusal,
             explanation,
         }))
@@ -102,7 +114,7 @@ impl Failure {
 
 impl Refused {
     fn sentences(&self) -> Vec<String> {
-        let refused = refusal_in_words(self.table, self.refusal, &self.explanation);
+        let refused = refusal_in_words(self.what, self.refusal, &self.explanation);
         let refused = match &self.file {
             Some(file) => format!("{}: {refused}", shown(file)),
             None => refused,
@@ -111,15 +123,16 @@ impl Refused {
     }
 }
 
-/// A refusal of a table, or of a store, with its number and its name, and what is at fault.
+/// A refusal, with its number and its name, and what is at fault.
 pub fn refusal_in_words(
-    table: impl Into<Option<u32>>,
+    what: impl Into<What>,
     refusal: Refusal,
     explanation: &Explanation,
 ) -> String {
-    let what = match table.into() {
-        Some(table) => format!("table {table}"),
-        None => "its store".into(),
+    let what = match what.into() {
+        What::Store => "its store".into(),
+        What::Table(table) => format!("table {table}"),
+        What::Root(root) => format!("root {root}"),
     };
     let why: &dyn Display = match explanation.refusal() == Some(refusal) {
         true => explanation,

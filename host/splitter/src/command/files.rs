@@ -4,7 +4,12 @@ mod whole;
 
 pub use whole::write;
 
-use super::{failure::Failure, screen::Screen, text::shown};
+use super::{
+    arguments::Output,
+    failure::{Failure, What},
+    screen::Screen,
+    text::{counted, shown},
+};
 use splitter::{
     explain,
     font::FontTables,
@@ -12,7 +17,7 @@ use splitter::{
     Refusal,
 };
 use std::{
-    fs::File,
+    fs::{self, File},
     io::{self, Read},
     path::Path,
 };
@@ -32,7 +37,7 @@ pub fn read_store(path: &Path) -> Result<StoreFile, Failure> {
     let file = read_raw(path)?;
     if !file.view().is_sound() {
         let why = explain(file.view(), 0);
-        return Err(Failure::refused(None, Refusal::Unsound, why).at(path));
+        return Err(Failure::refused(What::Store, Refusal::Unsound, why).at(path));
     }
     file.into_file().map_err(|error| about(path, error))
 }
@@ -56,12 +61,34 @@ pub fn is_standard(path: &Path) -> bool {
     path == Path::new("-")
 }
 
-/// Writes a file whole or not at all; `-` is standard output.
-pub fn write_or_show(path: &Path, bytes: &[u8], screen: &mut Screen) -> Result<(), Failure> {
-    match is_standard(path) {
-        true => screen.bytes(bytes),
-        false => write(path, bytes),
+/// Where to write: over the file that is read only where that was asked for.
+pub fn output<'a>(input: &'a Path, output: &'a Output) -> Result<&'a Path, Failure> {
+    let output = match output {
+        Output::InPlace => return Ok(input),
+        Output::File(output) => output,
+    };
+    match (fs::canonicalize(input), fs::canonicalize(output)) {
+        (Ok(input), Ok(same)) if input == same => Err(Failure::Words(format!(
+            "{} is the file that is read: give another behind -o, or say --in-place to write over it",
+            shown(output)
+        ))),
+        _ => Ok(output),
     }
+}
+
+/// Writes a store file whole or not at all; `-` is standard output. What was held back is said then. Gives the
+/// bytes of the file.
+pub fn write_store(path: &Path, file: &StoreFile, screen: &mut Screen) -> Result<usize, Failure> {
+    let bytes = file.to_bytes();
+    match is_standard(path) {
+        true => screen.bytes(&bytes),
+        false => write(path, &bytes),
+    }?;
+    screen.release()?;
+    screen.line("")?;
+    let written = counted(bytes.len(), "byte");
+    screen.line(&format!("Wrote {} ({written}).", shown(path)))?;
+    Ok(bytes.len())
 }
 
 fn read(path: &Path, longest: u64) -> Result<Vec<u8>, Failure> {

@@ -23,6 +23,7 @@ pub const fn of(topic: Option<Name>) -> &'static str {
         Some(Name::Sample) => SAMPLE,
         Some(Name::Plan) => PLAN,
         Some(Name::Split) => SPLIT,
+        Some(Name::Compact) => COMPACT,
         Some(Name::Pair) => PAIR,
         Some(Name::Mark) => MARK,
         Some(Name::Dump) => DUMP,
@@ -39,6 +40,7 @@ functions that are proved to lose nothing.
     splitter sample [-o DIR]               split four samples and show them
     splitter plan FILE [TABLE]             show where tables would be cut
     splitter split FILE [TABLE] -o FILE    split tables
+    splitter compact FILE -o FILE          drop what no table leads to
     splitter pair FILE [TABLE] G1 G2       read what tables say of two glyphs
     splitter mark FILE [TABLE] MARK BASE   read how they attach a mark to a base
     splitter dump FILE [OBJECT]            show what is in a store
@@ -117,7 +119,7 @@ each refusal says what is at fault.
 
 const SPLIT: &str = "\
 splitter split FILE [TABLE] (-o FILE | --in-place) [--edition 1|2] [--check]
-               [--marks] [--all] [--ascii] [--json | --quiet]
+               [--compact] [--marks] [--all] [--ascii] [--json | --quiet]
 
 Splits the tables of a store file and writes the store with kept and new tables.
 TABLE is the number of an object; without it all tables that the file lists are
@@ -132,6 +134,8 @@ refused, not at all, and before anything is said of it.
                          is said
     --check              read all pairs or attachments before and after; this
                          can take long
+    --compact            then drop what no table of the file leads to; numbers
+                         are those of the file that is written
     --marks              the tables are mark-to-base, whatever the file says
     --all                show long lists whole
     --ascii              draw bars in ASCII, whatever the locale
@@ -140,6 +144,30 @@ refused, not at all, and before anything is said of it.
 
 \"splitter help plan\" says how tables for pairs and for marks are told apart,
 and when one is within the limit; \"splitter help sample\" explains the columns.
+";
+
+const COMPACT: &str = "\
+splitter compact FILE (-o FILE | --in-place) [--root N].. [--all]
+                 [--json | --quiet]
+
+Drops the objects of a store file that nothing needs any more, such as the parts
+that split tables had before. Kept are the tables that the file lists, objects
+that --root names, and all that their offsets reach; an order-only link stays
+where both its ends do. What is kept stays in its order and gets the lowest
+numbers, and the file lists its tables by these. Says how many objects, links
+and bytes went, how many bytes moved, and which roots have other numbers now.
+
+    -o, --output FILE    where to write; the file that is read is refused here,
+                         and - is standard output, which has nothing else then
+    --in-place           write over the file that is read
+    --root N             keep object N too, and what it leads to; this may be
+                         said more than once
+    --all                show long lists whole
+    --json               write JSON, for programs
+    -q, --quiet          write nothing: the exit code tells
+
+No offset leads from a table to the lookups that list it, so a file with lookups
+wants the lookup list as a root.
 ";
 
 const PAIR: &str = "\
@@ -214,7 +242,7 @@ mod tests {
 
     #[test]
     fn help_keeps_to_the_columns() {
-        for text in [ALL, SAMPLE, PLAN, SPLIT, PAIR, MARK, DUMP, FONT] {
+        for text in [ALL, SAMPLE, PLAN, SPLIT, COMPACT, PAIR, MARK, DUMP, FONT] {
             for line in text.lines() {
                 assert!(line.len() <= COLUMNS, "{line}");
             }

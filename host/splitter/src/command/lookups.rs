@@ -2,10 +2,9 @@
 
 use super::{
     failure::Failure,
-    limits,
     look::Look,
     progress::Progress,
-    report::{Amount, Before},
+    report::{After, Amount, Before},
     screen::Screen,
     text::{counted, grouped, wrapped},
 };
@@ -33,8 +32,8 @@ pub fn show(
     if let Some(before) = Before::new(old.view(), tables[0], edition, cuts) {
         before.describe(screen, Amount::Some)?;
         screen.line("")?;
-        let fits = limits::of_tables(store.view(), &tables);
-        before.show_after(store.view(), &tables, &fits, screen, Amount::Some)?;
+        let after = After::of(store.view(), tables);
+        before.show_after(&after, screen, Amount::Some)?;
     }
     screen.line("")?;
     for entered in Entered::all(&old, store, list) {

@@ -25,6 +25,15 @@ pub struct Before {
     pub fits: Vec<Fit>,
 }
 
+/// The tables that came of one, kept and new in order.
+pub struct After {
+    /// The tables.
+    pub tables: Vec<Table>,
+    looks: Vec<Look>,
+    /// What they take.
+    pub fits: Vec<Fit>,
+}
+
 /// How much is shown.
 #[derive(Clone, Copy, Debug, PartialEq, Eq)]
 pub enum Amount {
@@ -32,6 +41,18 @@ pub enum Amount {
     Some,
     /// All there is.
     All,
+}
+
+impl After {
+    /// The tables as they are.
+    pub fn of(store: StoreRef, tables: Vec<Table>) -> Self {
+        let looks = tables.iter().filter_map(|&table| Look::at(store, table));
+        Self {
+            looks: looks.collect(),
+            fits: limits::of_tables(store, &tables),
+            tables,
+        }
+    }
 }
 
 impl Before {
@@ -132,16 +153,18 @@ impl Before {
         Ok(())
     }
 
-    /// The tables that came of it, kept and new in order, beside what it was, and what they take.
+    /// The tables that came of it, beside what it was, and what they take.
     pub fn show_after(
         &self,
-        store: StoreRef,
-        tables: &[Table],
-        fits: &[Fit],
+        after: &After,
         screen: &mut Screen,
         amount: Amount,
     ) -> Result<(), Failure> {
-        let looks: Vec<Look> = tables.iter().filter_map(|&t| Look::at(store, t)).collect();
+        let After {
+            tables,
+            looks,
+            fits,
+        } = after;
         let label = |place: usize| match place {
             0 => format!("kept {}", tables[0].number),
             _ => format!("new {}", tables[place].number),

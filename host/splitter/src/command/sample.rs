@@ -8,12 +8,12 @@ mod words;
 
 use super::{
     arguments::{Sample, Which},
-    failure::Failure,
+    failure::{Failure, What},
     files, lookups as in_lookups,
     outcome::Outcome,
     report::Amount,
     screen::Screen,
-    split::Show,
+    split::Piece,
     text::{shown, wrapped},
 };
 use splitter::{
@@ -36,7 +36,7 @@ struct Example {
 pub fn run(request: &Sample, screen: &mut Screen) -> Result<Outcome, Failure> {
     screen.style.unicode &= !request.ascii;
     let examples = examples(request.which)
-        .map_err(|refusal| Failure::refused(None, refusal, Explanation::default()))?;
+        .map_err(|refusal| Failure::refused(What::Store, refusal, Explanation::default()))?;
     match &request.directory {
         Some(directory) => write(examples, directory, screen),
         None => show(examples, request.edition, screen),
@@ -97,11 +97,6 @@ fn example(which: Which) -> Result<Example, Refusal> {
 }
 
 fn show(examples: Vec<Example>, edition: Edition, screen: &mut Screen) -> Result<(), Failure> {
-    let show = Show {
-        edition,
-        amount: Amount::Some,
-        check: true,
-    };
     let mut scratch = Scratch::new();
     for (place, example) in examples.into_iter().enumerate() {
         if place > 0 {
@@ -111,7 +106,14 @@ fn show(examples: Vec<Example>, edition: Edition, screen: &mut Screen) -> Result
         screen.line("")?;
         let (mut store, table) = (example.store, example.table);
         match example.list {
-            None => drop(show.split(&mut store, table, &mut scratch, screen)?),
+            None => {
+                let old = store.clone();
+                let mut piece = Piece::split(&mut store, table, edition, &mut scratch)?;
+                piece.show(Amount::Some, screen)?;
+                screen.flush()?;
+                piece.check(&old, &store)?;
+                piece.show_check(screen)?;
+            }
             Some(list) => {
                 let table = table.number;
                 in_lookups::show(&mut store, list, table, edition, &mut scratch, screen)?;

@@ -1,91 +1,93 @@
 //! `splitter split`: a store file with tables split.
 
 use super::{
-    arguments::{Name, Output, Split},
-    failure::Failure,
+    arguments::{Name, Split},
+    compact::Compaction,
+    failure::{Failure, What},
     files,
     json::Json,
     limits,
     look::Look,
     outcome::Outcome,
     readings::{self, Compared},
-    report::{Amount, Before},
+    report::{After, Amount, Before},
     screen::Screen,
-    text::{counted, shown},
     told,
 };
 use splitter::{
     explain::{Call, Lent},
     store_file::{StoreFile, Table},
-    Edition, Explanation, Fit, Refusal, Room, Scratch, Store,
+    Edition, Explanation, Refusal, Room, Scratch, Store,
 };
-use std::{fs, path::Path};
 
 /// Splits the tables of a store file, and writes the store. What came of it is said once it is written.
 pub fn run(request: &Split, screen: &mut Screen) -> Result<Outcome, Failure> {
     screen.style.unicode &= !request.plan.ascii;
-    let input = &request.plan.file;
-    let output = output(request)?;
+    let (input, amount) = (&request.plan.file, request.plan.amount());
+    let output = files::output(input, &request.output)?;
     let file = files::read_store(input)?;
     let tables = request.plan.tables(&file)?;
     screen.hold();
     request.plan.head(&file, screen)?;
 
     let (mut store, mut listed) = file.into_parts();
+    let [_, old_objects, _] = store.view().counts();
     let mut scratch = Scratch::new();
-    let show = Show {
-        edition: request.plan.edition,
-        amount: request.plan.amount(),
-        check: request.check,
-    };
     let mut pieces = Vec::new();
     for &table in &tables {
-        screen.line("")?;
-        let piece = show.split(&mut store, table, &mut scratch, screen);
+        let piece = split(&mut store, table, request, &mut scratch);
         let piece = piece.map_err(|failure| failure.at(input))?;
-        list(&mut listed, &piece.tables);
+        list(&mut listed, &piece.after.tables);
         pieces.push(piece);
     }
+    let compaction = request
+        .compact
+        .then(|| compact(&mut store, &mut listed, &mut pieces, old_objects));
+    let compaction = compaction.transpose()?;
+    for piece in &pieces {
+        screen.line("")?;
+        piece.show(amount, screen)?;
+        piece.show_check(screen)?;
+    }
+    if let Some(compaction) = &compaction {
+        screen.line("")?;
+        compaction.show(amount, screen)?;
+    }
     let file = StoreFile::new(store, listed).map_err(|error| files::about(output, error))?;
-    let bytes = file.to_bytes();
-    files::write_or_show(output, &bytes, screen)?;
-    screen.release()?;
-    screen.line("")?;
-    let written = counted(bytes.len(), "byte");
-    screen.line(&format!("Wrote {} ({written}).", shown(output)))?;
+    let bytes = files::write_store(output, &file, screen)?;
 
-    let outcome = match pieces.iter().any(|piece| piece.tables.len() > 1) {
+    let outcome = match pieces.iter().any(|piece| !piece.cuts.is_empty()) {
         true => Outcome::Split,
         false => Outcome::NothingToSplit,
     };
     let values = vec![
         ("edition", request.plan.edition.number().into()),
         ("output", told::path(output)),
-        ("bytes", bytes.len().into()),
+        ("bytes", bytes.into()),
         ("store", told::store(file.store().view())),
+        ("tables", Json::list(pieces.iter().map(Piece::told))),
         (
-            "tables",
-            pieces.iter().map(Piece::told).collect::<Vec<_>>().into(),
+            "compacted",
+            compaction.map(|it| Json::object(it.told())).into(),
         ),
     ];
     screen.json(&told::answer(Name::Split, outcome, input, values))?;
     Ok(outcome)
 }
 
-/// Where to write: over the input only where that was asked for.
-fn output(request: &Split) -> Result<&Path, Failure> {
-    let input = &request.plan.file;
-    let output = match &request.output {
-        Output::InPlace => return Ok(input),
-        Output::File(output) => output,
-    };
-    match (fs::canonicalize(input), fs::canonicalize(output)) {
-        (Ok(input), Ok(same)) if input == same => Err(Failure::Words(format!(
-            "{} is the file that is read: give another behind -o, or say --in-place to write over it",
-            shown(output)
-        ))),
-        _ => Ok(output),
+/// Splits a table, and reads all before and after where that was asked for.
+fn split(
+    store: &mut Store,
+    table: Table,
+    request: &Split,
+    scratch: &mut Scratch,
+) -> Result<Piece, Failure> {
+    let old = request.check.then(|| store.clone());
+    let mut piece = Piece::split(store, table, request.plan.edition, scratch)?;
+    if let Some(old) = old {
+        piece.check(&old, store)?;
     }
+    Ok(piece)
 }
 
 /// New tables, which stand behind the kept one, are listed behind it too.
@@ -96,95 +98,113 @@ fn list(listed: &mut Vec<Table>, tables: &[Table]) {
     listed.splice(place..end, tables.iter().copied());
 }
 
-/// How a split is made and shown.
-#[derive(Clone, Copy, Debug)]
-pub struct Show {
-    /// By which edition it is.
-    pub edition: Edition,
-    /// How much of it is shown.
-    pub amount: Amount,
-    /// Whether all pairs or attachments are read before and after.
-    pub check: bool,
+/// Drops what no table leads to. Only the numbers of the file that is written are told: nobody has seen those
+/// that the new tables had before.
+fn compact(
+    store: &mut Store,
+    listed: &mut [Table],
+    pieces: &mut [Piece],
+    old_objects: u32,
+) -> Result<Compaction, Failure> {
+    let compaction = Compaction::of(store, listed, &[]);
+    let mut compaction = compaction
+        .map_err(|refusal| Failure::refused(What::Store, refusal, Explanation::default()))?;
+    for table in pieces.iter_mut().flat_map(|it| &mut it.after.tables) {
+        table.number = compaction.numbers[&table.number];
+    }
+    compaction.numbers.retain(|&was, _| was < old_objects);
+    Ok(compaction)
 }
 
 /// What came of a table.
 pub struct Piece {
     table: Table,
+    edition: Edition,
     look: Option<Look>,
     cuts: Vec<u16>,
+    before: Option<Before>,
     /// The kept table and the new ones.
-    tables: Vec<Table>,
-    /// What these take.
-    fits: Vec<Fit>,
+    after: After,
     compared: Option<Compared>,
 }
 
 impl Piece {
+    /// Splits a table.
+    pub fn split(
+        store: &mut Store,
+        table: Table,
+        edition: Edition,
+        scratch: &mut Scratch,
+    ) -> Result<Self, Failure> {
+        let Table { number, kind } = table;
+        let cuts = kind.cut_plan(&*store, number, edition, scratch);
+        let cuts = cuts.map_err(|refusal| refused(store, table, edition, refusal))?;
+        let look = Look::at(store.view(), table);
+        let before = Before::new(store.view(), table, edition, cuts.clone());
+        let new_tables = kind.split(store, number, edition, scratch);
+        let new_tables = new_tables.map_err(|refusal| refused(store, table, edition, refusal))?;
+        let new_tables = new_tables.into_iter().map(|number| Table { number, kind });
+        let tables = [table].into_iter().chain(new_tables).collect();
+        Ok(Self {
+            table,
+            edition,
+            look,
+            cuts,
+            before,
+            after: After::of(store.view(), tables),
+            compared: None,
+        })
+    }
+
+    /// Reads all pairs or attachments before the split and after it.
+    pub fn check(&mut self, old: &Store, new: &Store) -> Result<(), Failure> {
+        let compared = readings::compare(old, self.table, new, &self.after.tables);
+        let compared =
+            compared.map_err(|refusal| refused(old, self.table, self.edition, refusal))?;
+        self.compared = Some(compared);
+        Ok(())
+    }
+
+    /// Shows the table, and what came of it.
+    pub fn show(&self, amount: Amount, screen: &mut Screen) -> Result<(), Failure> {
+        let Some(before) = &self.before else {
+            return Ok(());
+        };
+        before.describe(screen, amount)?;
+        if before.is_cut() {
+            screen.line("")?;
+            before.show_after(&self.after, screen, amount)?;
+        }
+        Ok(())
+    }
+
+    /// Shows that all read as before, if it was checked.
+    pub fn show_check(&self, screen: &mut Screen) -> Result<(), Failure> {
+        match &self.compared {
+            Some(compared) => {
+                screen.line("")?;
+                compared.show(screen)
+            }
+            None => Ok(()),
+        }
+    }
+
     fn told(&self) -> Json {
+        let After { tables, fits, .. } = &self.after;
         let mut values = told::table(self.table, self.look.as_ref());
-        let new = self.tables[1..].iter().map(|table| table.number);
+        let new = tables[1..].iter().map(|table| table.number);
         values.extend([
             ("cuts", Json::list(self.cuts.iter().copied())),
             ("new_tables", Json::list(new)),
-            ("results", limits::told(&self.fits, &self.tables)),
+            ("results", limits::told(fits, tables)),
             ("check", self.compared.as_ref().map(Compared::told).into()),
         ]);
         Json::object(values)
     }
 }
 
-impl Show {
-    /// Splits a table, and shows what came of it.
-    pub fn split(
-        self,
-        store: &mut Store,
-        table: Table,
-        scratch: &mut Scratch,
-        screen: &mut Screen,
-    ) -> Result<Piece, Failure> {
-        let Table { number, kind } = table;
-        let edition = self.edition;
-        let old = store.clone();
-        let refused = |refusal| {
-            let why = why(&old, table, edition, refusal);
-            Failure::refused(number, refusal, why)
-        };
-        let cuts = kind.cut_plan(&old, number, edition, scratch);
-        let cuts = cuts.map_err(refused)?;
-        let new_tables = kind.split(store, number, edition, scratch);
-        let new_tables = new_tables.map_err(refused)?.into_iter();
-        let new_tables = new_tables.map(|number| Table { number, kind });
-        let tables: Vec<Table> = [table].into_iter().chain(new_tables).collect();
-        let mut piece = Piece {
-            table,
-            look: Look::at(old.view(), table),
-            cuts: cuts.clone(),
-            fits: limits::of_tables(store.view(), &tables),
-            tables,
-            compared: None,
-        };
-        if let Some(before) = Before::new(old.view(), table, edition, cuts) {
-            before.describe(screen, self.amount)?;
-            if before.is_cut() {
-                screen.line("")?;
-                let Piece { tables, fits, .. } = &piece;
-                before.show_after(store.view(), tables, fits, screen, self.amount)?;
-            }
-        }
-        if self.check {
-            screen.flush()?;
-            let compared = readings::compare(&old, table, store, &piece.tables);
-            let compared = compared.map_err(refused)?;
-            screen.line("")?;
-            compared.show(screen)?;
-            piece.compared = Some(compared);
-        }
-        Ok(piece)
-    }
-}
-
 /// Why a table of a store is not split. Its store grows up to the maxima.
-fn why(store: &Store, table: Table, edition: Edition, refusal: Refusal) -> Explanation {
+fn refused(store: &Store, table: Table, edition: Edition, refusal: Refusal) -> Failure {
     let mut store = store.clone();
     if refusal == Refusal::NoRoom {
         store.reserve(Room::MOST);
@@ -193,5 +213,6 @@ fn why(store: &Store, table: Table, edition: Edition, refusal: Refusal) -> Expla
         edition: edition.number(),
         lent: Lent::ENOUGH,
     };
-    table.kind.explain_call(call, &store, table.number)
+    let why = table.kind.explain_call(call, &store, table.number);
+    Failure::refused(table.number, refusal, why)
 }

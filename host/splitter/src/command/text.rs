@@ -57,7 +57,12 @@ pub fn counted(number: usize, what: &str) -> String {
 /// What a store has in use.
 pub fn in_use(view: StoreRef) -> String {
     let [data, objects, links] = view.counts().map(|count| count as usize);
-    let order_only = match order_only(view) {
+    amounts([objects, links, order_only(view), data])
+}
+
+/// Objects, links, how many of these are order-only, and data bytes.
+pub fn amounts([objects, links, order_only, data]: [usize; 4]) -> String {
+    let order_only = match order_only {
         0 => String::new(),
         count => format!(" ({} order-only)", grouped(count)),
     };

@@ -47,6 +47,17 @@ pub const fn kind(kind: Kind) -> &'static str {
     }
 }
 
+/// The tables that a file lists.
+pub fn tables(tables: &[Table]) -> Json {
+    let told = tables.iter().map(|table| {
+        Json::object([
+            ("table", table.number.into()),
+            ("kind", kind(table.kind).into()),
+        ])
+    });
+    Json::list(told)
+}
+
 /// A table, and how much there is of it.
 pub fn table(table: Table, look: Option<&Look>) -> Values {
     let look = |of: fn(&Look) -> usize| Json::from(look.map(of));
@@ -122,6 +133,7 @@ fn place(place: &Place) -> (&'static str, Values) {
     match place {
         Place::Edition => ("edition", vec![]),
         Place::Table => ("table", vec![]),
+        Place::Root(entry) => ("root", vec![("entry", (*entry).into())]),
         Place::Count(buffer) => ("count", vec![("buffer", (*buffer).into())]),
         Place::Head(row) => ("head", vec![("row", (*row).into())]),
         Place::Tail(row) => ("tail", vec![("row", (*row).into())]),

@@ -73,6 +73,8 @@ pub enum Place {
     Table,
     /// The number of the lookup list that was asked for.
     LookupList,
+    /// The number of a root, by its entry in the list of roots.
+    Root(usize),
     /// A count of what is in use: `data`, `objects` or `links`.
     Count(&'static str),
     /// Where an object starts, by its row.
@@ -332,6 +334,7 @@ impl Display for Place {
             Self::Edition => f.write_str("the edition"),
             Self::Table => f.write_str("the number of the table"),
             Self::LookupList => f.write_str("the number of the lookup list"),
+            Self::Root(entry) => write!(f, "entry {entry} of the list of roots"),
             Self::Count(what) => write!(f, "the count of {} in use", counted(what)),
             Self::Head(row) => write!(f, "the head of object row {row}"),
             Self::Tail(row) => write!(f, "the tail of object row {row}"),

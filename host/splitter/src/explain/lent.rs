@@ -1,7 +1,7 @@
 //! What a call is lent beside the store.
 
 use super::{Asked, Fault, Part, Place, Wanted};
-use crate::{glyphs, Edition, Kind, Refusal};
+use crate::{glyphs, Edition, Kind, Refusal, StoreRef};
 
 /// A call, with what it is lent beside the store.
 #[derive(Clone, Copy, Debug, PartialEq, Eq)]
@@ -113,7 +113,6 @@ pub(super) fn bad_edition(asked: &Asked) -> Option<Fault> {
 
 pub(super) fn short_scratch(asked: &Asked) -> Option<Fault> {
     let lent = asked.call.lent();
-    let [_, objects, _] = asked.store.counts();
     let part = match asked.kind {
         Kind::Pairs => Part::Coverage,
         Kind::Marks => Part::MarkCoverage,
@@ -122,21 +121,27 @@ pub(super) fn short_scratch(asked: &Asked) -> Option<Fault> {
     let covered = glyphs::covered(coverage).len();
     let of_glyphs = "one for each covered glyph";
     let buffers = [
-        (
-            "walk",
-            lent.walk,
-            2 * objects as usize,
-            "two for each object in use",
-        ),
+        walk(asked.store, lent.walk),
         ("glyph_set", lent.glyph_set, 8_192, "one bit for each glyph"),
         ("glyphs", lent.glyphs, covered, of_glyphs),
         ("classes", lent.classes, covered, of_glyphs),
         ("cuts", lent.cuts, asked.items(), "one for each item"),
     ];
-    buffers
-        .into_iter()
-        .find_map(|(name, lent, least, because)| {
-            let wanted = Wanted::AtLeast(least as u64);
-            (lent < least).then(|| Fault::number(Place::Scratch(name), lent, wanted, because))
-        })
+    buffers.into_iter().find_map(short)
+}
+
+/// A buffer by its name, how many numbers of it are lent, how many are needed, and for what.
+type Buffer = (&'static str, usize, usize, &'static str);
+
+/// The walk, of which so much is lent.
+pub(super) fn walk(store: StoreRef, lent: usize) -> Buffer {
+    let [_, objects, _] = store.counts();
+    let because = "two for each object in use";
+    ("walk", lent, 2 * objects as usize, because)
+}
+
+/// A buffer of which too little is lent.
+pub(super) fn short((name, lent, least, because): Buffer) -> Option<Fault> {
+    let wanted = Wanted::AtLeast(least as u64);
+    (lent < least).then(|| Fault::number(Place::Scratch(name), lent, wanted, because))
 }

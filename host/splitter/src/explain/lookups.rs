@@ -15,7 +15,7 @@ use crate::{
 const MOST: usize = 65_535;
 
 pub(super) fn list_not_in_use(asked: &Asked) -> Option<Fault> {
-    number_not_in_use(asked, Place::LookupList, asked.call.list()?)
+    number_not_in_use(asked.store, Place::LookupList, asked.call.list()?)
 }
 
 /// The list, then its lookups in order, then whether one names the table.

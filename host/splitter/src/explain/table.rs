@@ -1,15 +1,15 @@
 //! What is wrong with a table's number, or with its length.
 
 use super::{Asked, Fault, Part, Place, Wanted};
-use crate::{table::row_size, Kind};
+use crate::{table::row_size, Kind, StoreRef};
 
 pub(super) fn not_in_use(asked: &Asked) -> Option<Fault> {
-    number_not_in_use(asked, Place::Table, asked.table)
+    number_not_in_use(asked.store, Place::Table, asked.table)
 }
 
 /// The number of an object that was asked for, where it is not in use.
-pub(super) fn number_not_in_use(asked: &Asked, place: Place, number: u32) -> Option<Fault> {
-    let [_, objects, _] = asked.store.counts();
+pub(super) fn number_not_in_use(store: StoreRef, place: Place, number: u32) -> Option<Fault> {
+    let [_, objects, _] = store.counts();
     let wanted = Wanted::Below(objects.into());
     (number >= objects).then(|| {
         let because = "how many objects are in use";

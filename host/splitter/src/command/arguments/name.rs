@@ -3,6 +3,9 @@
 use crate::command::{failure::Failure, text::shown_word};
 use std::ffi::OsStr;
 
+/// The options that may be there more than once.
+pub const REPEATED: [&str; 1] = ["--root"];
+
 /// A command.
 #[derive(Clone, Copy, Debug, PartialEq, Eq)]
 pub enum Name {
@@ -12,6 +15,8 @@ pub enum Name {
     Plan,
     /// `split`
     Split,
+    /// `compact`
+    Compact,
     /// `pair`
     Pair,
     /// `mark`
@@ -25,10 +30,11 @@ pub enum Name {
 }
 
 impl Name {
-    const ALL: [Self; 8] = [
+    const ALL: [Self; 9] = [
         Self::Sample,
         Self::Plan,
         Self::Split,
+        Self::Compact,
         Self::Pair,
         Self::Mark,
         Self::Dump,
@@ -42,6 +48,7 @@ impl Name {
             Self::Sample => "sample",
             Self::Plan => "plan",
             Self::Split => "split",
+            Self::Compact => "compact",
             Self::Pair => "pair",
             Self::Mark => "mark",
             Self::Dump => "dump",
@@ -67,9 +74,18 @@ impl Name {
                 ("--output", true),
                 ("--in-place", false),
                 ("--check", false),
+                ("--compact", false),
                 ("--marks", false),
                 ("--all", false),
                 ("--ascii", false),
+                ("--json", false),
+                ("--quiet", false),
+            ],
+            Self::Compact => &[
+                ("--root", true),
+                ("--output", true),
+                ("--in-place", false),
+                ("--all", false),
                 ("--json", false),
                 ("--quiet", false),
             ],

@@ -111,6 +111,8 @@ fn forms() {
         ("split f -o g --json", Form::Json),
         ("split f -o -", Form::Quiet),
         ("split - -o ./-", Form::Text),
+        ("compact f --in-place --json", Form::Json),
+        ("compact f -o -", Form::Quiet),
     ] {
         assert_eq!(of(words).unwrap().form(), form, "{words}");
     }
@@ -160,6 +162,7 @@ fn splits() {
             plan: plan_of("f", Some(2)),
             output,
             check,
+            compact: false,
         })
     };
     let to_file = || Output::File("g".into());
@@ -169,6 +172,30 @@ fn splits() {
         of("split f 2 --in-place"),
         Ok(split(Output::InPlace, false))
     );
+    let compacted = of("split f 2 -o g --compact").unwrap();
+    assert!(matches!(
+        compacted,
+        Request::Split(Split { compact: true, .. })
+    ));
+}
+
+#[test]
+fn compactions() {
+    let compact = |output, roots: &[u32]| {
+        Request::Compact(Compact {
+            file: "f".into(),
+            roots: roots.to_vec(),
+            output,
+            all: false,
+            form: Form::Text,
+        })
+    };
+    let to_file = || Output::File("g".into());
+    assert_eq!(of("compact f -o g"), Ok(compact(to_file(), &[])));
+    let roots = "compact --root 7 f --root=0x7 -o g --root 4294967295";
+    assert_eq!(of(roots), Ok(compact(to_file(), &[7, 7, u32::MAX])));
+    let in_place = of("compact f --root 0 --in-place");
+    assert_eq!(in_place, Ok(compact(Output::InPlace, &[0])));
 }
 
 #[test]
@@ -208,6 +235,17 @@ fn words_that_cannot_be_followed() {
         ("split f -o g --in-place", "not both"),
         ("split f -o - --json", "not both"),
         ("split - --in-place", "cannot write over standard input"),
+        (
+            "split f -o g --compact=1",
+            "takes --compact without a value",
+        ),
+        ("plan f --compact", "has no option --compact"),
+        ("compact f", "add -o FILE"),
+        ("compact f 2 -o g", "no use for the word \"2\""),
+        ("compact f -o g --root", "wants something behind --root"),
+        ("compact f -o g --root 1,2", "wants ROOT to be a number"),
+        ("compact f -o g --edition 2", "has no option --edition"),
+        ("compact - --in-place", "cannot write over standard input"),
         ("plan f --json --quiet", "takes --json or --quiet, not both"),
         ("sample --quiet", "has no option --quiet"),
         ("pair f 0", "pair wants G2"),

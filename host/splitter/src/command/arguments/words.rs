@@ -1,6 +1,6 @@
 //! The words behind a command, sorted.
 
-use super::Name;
+use super::{name::REPEATED, Name};
 use crate::command::{failure::Failure, screen::Form, text::shown_word};
 use splitter::Edition;
 use std::{collections::VecDeque, ffi::OsString};
@@ -54,7 +54,7 @@ impl Words {
             let word = shown_word(word.as_ref());
             return Err(self.failure(&format!("has no option {word}")));
         };
-        if self.has(name) {
+        if self.has(name) && !REPEATED.contains(&name) {
             return Err(self.failure(&format!("takes {word} once")));
         }
         let value = match (takes_value, value) {
@@ -80,6 +80,13 @@ impl Words {
     pub fn value(&self, name: &str) -> Option<OsString> {
         let mut options = self.options.iter();
         options.find(|(option, _)| *option == name)?.1.clone()
+    }
+
+    /// The values of an option, which are numbers.
+    pub fn numbers<N: TryFrom<u32>>(&self, name: &str, what: &str) -> Result<Vec<N>, Failure> {
+        let options = self.options.iter().filter(|(option, _)| *option == name);
+        let values = options.filter_map(|(_, value)| value.as_ref());
+        values.map(|word| self.to_number(what, word)).collect()
     }
 
     /// By which edition tables are cut: the first, unless another one is asked for.

@@ -1,11 +1,11 @@
--- How long objects in a row are. Assumes nothing.
+-- Lists in a row: one behind another, and how long they are. Assumes nothing.
 use Prim.Native.Nat.{ℕ, zero, suc, _+_}
 use mathlib.Core.Path.{_≡_, refl, sym, ap, _∙_}
 use mathlib.Core.List.{List, [], _∷_, _++_, append-assoc}
 use native.Mathlib.Omega.{arith}
 use lib.ListN.{length, length-append}
 use Rattle.folds.specs.Folds.{sum, flat}
 use Rattle.folds.specs.Lists.{join}
 
 pub join-append : (xs ys : List (List ℕ)) → join (xs ++ ys) ≡ join xs ++ join ys
 unfolding join

@@ -1,0 +1,11 @@
+pub mod Numbers
+pub mod Cases
+pub mod Kept
+pub mod Objects
+pub mod Links
+pub mod Orders
+pub mod Again
+pub mod SameReach
+pub mod Rests
+pub mod Moved
+pub mod Pinned

@@ -1,0 +1,11 @@
+pub mod Kept
+pub mod Rests
+pub mod Readings
+pub mod Cuts
+pub mod MarkCuts
+pub mod NextCall
+pub mod NextSplits
+pub mod Entries
+pub mod Promised
+pub mod Unique
+pub mod Pinned
