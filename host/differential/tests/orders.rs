@@ -240,7 +240,7 @@ fn a_link_that_does_not_stay_is_found() {
     ];
     for (old, new) in wrong {
         let found = frame(&with_another(&split, old, new)).unwrap_err();
-        let is_of_links = found.starts_with("links[") || found.ends_with("of a new object");
+        let is_of_links = found.starts_with("links") || found.ends_with("of a new object");
         assert!(is_of_links, "{found}");
     }
 }

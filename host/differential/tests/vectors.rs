@@ -63,7 +63,7 @@ fn all_that_is_to_be_replayed_of_lookups_occurs() {
         sample.kinds
     );
     assert!(sample.tally.cut_counts[..4].iter().all(|&count| count > 0));
-    assert!(sample.tally.rewritten > 5 && sample.tally.orders[2] > 20);
+    assert!(sample.tally.rewritten > 5 && sample.tally.orders[2] > 10);
     assert!(sample
         .output
         .contains(&format!("cases of lookups: {}", sample.in_lookups)));
