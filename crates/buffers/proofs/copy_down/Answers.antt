@@ -1,0 +1,18 @@
+-- `buffers::copy_down` meets its contract: the bytes that are read lie behind those written so far, and are still as they came. Assumes nothing.
+use Prim.Native.Nat.{◌-◌}
+use native.Mathlib.Omega.{arith}
+use borrow.Author.Rules.{rules}
+use Rattle.folds.proofs.Writing.{write_start}
+use Rattle.buffers.proofs.Copying.{Copying, down_turn, copy_stop}
+use Rattle.buffers.proofs.copy_down.Goals as goal
+
+pub loop-k-init : goal.loop-k-init
+loop-k-init c = write_start _ _ _ _ (omega (arith, c.requires.at_le_from, c.requires.count_in_bounds))
+
+pub loop-k-preserved : goal.loop-k-preserved
+loop-k-preserved c =
+    down_turn _ _ _ _ c.requires.count_in_bounds (omega (arith, c.requires.at_le_from, c.requires.count_in_bounds)) _ _
+    c.loop-k.invariant c.requires.at_le_from (search rules)
+
+pub returns : goal.returns
+returns c = copy_stop _ _ _ _ c.requires.count_in_bounds (omega (arith, c.requires.at_le_from, c.requires.count_in_bounds)) _ _ c.loop-k.invariant (search rules)
