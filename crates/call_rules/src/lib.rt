@@ -7,7 +7,7 @@ ghost use Rattle.call_rules.specs.Settings.{known};
 
 // Every answer, those of refusals in the one order in which they are asked: a call skips what it does not have. `Done` is also asked: for another format between
 // the two clauses of `BadTable`, and where there is no cut behind `UnsortedSets`. specs/Answers.antt gives each its number.
-#[derive(Drop)]
+#[derive(Clone, Copy)]
 pub enum Answer {
     Done,
     BadEdition,
@@ -25,7 +25,7 @@ pub enum Answer {
 }
 
 // How long each scratch is.
-#[derive(Drop)]
+#[derive(Clone, Copy)]
 pub struct Lengths {
     pub walk: usize,
     pub glyph_set: usize,
@@ -35,7 +35,7 @@ pub struct Lengths {
 }
 
 // How long the data, the object rows, the link rows and the result list are that the caller has lent.
-#[derive(Drop)]
+#[derive(Clone, Copy)]
 pub struct Lent {
     pub data: usize,
     pub objects: usize,
@@ -44,7 +44,7 @@ pub struct Lent {
 }
 
 // What a call needs beside what is in use: new objects, new links, their bytes, and entries of the result list.
-#[derive(Drop)]
+#[derive(Clone, Copy)]
 pub struct Needs {
     pub objects: usize,
     pub links: usize,
@@ -53,7 +53,7 @@ pub struct Needs {
 }
 
 // How a call cuts: by which edition of the cutting rule.
-#[derive(Drop)]
+#[derive(Clone, Copy)]
 pub struct Settings {
     pub edition: u32,
 }

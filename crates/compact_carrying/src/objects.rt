@@ -9,7 +9,7 @@ use buffers::{copy_down, zero_bytes, zero_numbers};
 use store_object_rows::put_object;
 
 // Where a kept object ends now, and how many of its bytes have moved.
-#[derive(Drop)]
+#[derive(Clone, Copy)]
 struct Placed {
     end: u32,
     moved: u32,
@@ -38,7 +38,7 @@ fn place(data: &mut [u8], objects: &mut [u32], i: usize, j: usize, at: u32) -> P
 }
 
 // How many bytes and objects are in use now, and how many bytes have moved.
-#[derive(Drop)]
+#[derive(Clone, Copy)]
 pub struct Packed {
     pub bytes: u32,
     pub objects: u32,

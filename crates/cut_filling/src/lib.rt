@@ -8,7 +8,7 @@ ghost use Rattle.folds.specs.Moments.{came, left};
 ghost use Rattle.cut_filling.specs.Filling.{Fills, IsDue, ItemAdded, Cut};
 
 // The table that is being filled: its first item, the sum of its items so far, and how many cuts stand before it.
-#[derive(Drop)]
+#[derive(Clone, Copy)]
 pub struct Filling {
     pub first: u16,
     pub sum: u64,

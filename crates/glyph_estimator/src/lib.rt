@@ -15,7 +15,7 @@ use glyph_set::words::run_count;
 const FEW: usize = 32;
 
 // First and last glyph, glyphs and runs for coverage, and the two sizes of class definition 1: listed and in ranges.
-#[derive(Drop)]
+#[derive(Clone, Copy)]
 pub struct Estimator {
     pub first: u16,
     pub last: u16,

@@ -16,21 +16,21 @@ use ot_layouts::{Header, Reading};
 use store_reader::{Child, bytes_of, child_at};
 
 // Which of the two an object is read as.
-#[derive(Drop)]
+#[derive(Clone, Copy)]
 pub enum PartKind {
     Coverage,
     ClassDef,
 }
 
 // A readable coverage or class definition: the object, and what it was read into.
-#[derive(Drop)]
+#[derive(Clone, Copy)]
 pub struct Part {
     pub object: u32,
     pub header: Header,
 }
 
 // A part that is linked and readable, or none.
-#[derive(Drop)]
+#[derive(Clone, Copy)]
 pub enum Linked {
     To(Part),
     Nothing,

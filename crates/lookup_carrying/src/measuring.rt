@@ -9,7 +9,7 @@ use pair_carrying::measuring::measure_needs;
 use pair_checks::PairTable;
 
 // What the split needs, what its lookups need, and whether none of these has more subtables than its count can say.
-#[derive(Drop)]
+#[derive(Clone, Copy)]
 pub struct Measures {
     pub fits: bool,
     pub split: Needs,

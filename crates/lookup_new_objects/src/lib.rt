@@ -19,7 +19,7 @@ use store_object_rows::put_object;
 use store_reader::{CHILD, LinkRows, PER_LINK, bytes_of, rows_of};
 
 // A new lookup: how many subtables and links it has, and how many bytes it takes.
-#[derive(Drop)]
+#[derive(Clone, Copy)]
 struct Size {
     subtables: usize,
     links: usize,
@@ -27,7 +27,7 @@ struct Size {
 }
 
 // What new lookups need, and whether none has more subtables than its count can say.
-#[derive(Drop)]
+#[derive(Clone, Copy)]
 pub struct Extent {
     pub fits: bool,
     pub needs: Needs,

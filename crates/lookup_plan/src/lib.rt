@@ -16,7 +16,7 @@ use pair_plan::{Decision, decide_sound};
 use store_reader::is_sound;
 
 // What the checks of the list say: it is good, or the call has its answer.
-#[derive(Drop)]
+#[derive(Clone, Copy)]
 pub enum Listing {
     Good,
     Settled(Answer),

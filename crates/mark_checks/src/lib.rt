@@ -18,21 +18,21 @@ use ot_wire::u16_at;
 use store_reader::{Child, bytes_of, child_at, is_sound};
 
 // A readable array: the object, and how many marks or bases it has.
-#[derive(Drop)]
+#[derive(Clone, Copy)]
 pub struct Array {
     pub object: u32,
     pub count: u16,
 }
 
 // An array that is linked and readable, or none.
-#[derive(Drop)]
+#[derive(Clone, Copy)]
 pub enum FoundArray {
     At(Array),
     Nothing,
 }
 
 // A table that no check refuses.
-#[derive(Drop)]
+#[derive(Clone, Copy)]
 pub struct MarkTable {
     pub classes: u16,
     pub coverage: Part,
@@ -43,7 +43,7 @@ pub struct MarkTable {
 }
 
 // What the checks say: the table is open, or the call has its answer, which for a table of another format is 0.
-#[derive(Drop)]
+#[derive(Clone, Copy)]
 pub enum Checked {
     Open(MarkTable),
     Settled(Answer),

@@ -17,7 +17,7 @@ use store_reader::held_rows::{held_row, hold_row, rows_each};
 use store_reader::{Child, LinkRows, child_in, row_near, rows_of};
 
 // The table's arrays and its base coverage as objects, and how many classes and bases it has.
-#[derive(Drop)]
+#[derive(Clone, Copy)]
 pub struct Arrays {
     pub mark_array: u32,
     pub base_array: u32,
@@ -27,14 +27,14 @@ pub struct Arrays {
 }
 
 // The link rows of the two arrays.
-#[derive(Drop)]
+#[derive(Clone, Copy)]
 struct ArrayRows {
     marks: LinkRows,
     bases: LinkRows,
 }
 
 // Where the next row goes, and the row of the old array behind those that have been copied.
-#[derive(Drop)]
+#[derive(Clone, Copy)]
 struct Reached {
     at: usize,
     old: usize,

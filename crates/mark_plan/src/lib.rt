@@ -25,14 +25,14 @@ use mark_checks::{Checked, MarkTable};
 use store_walk::begin_walk;
 
 // A table that is not refused, and how many cuts it gets; they stand at the front of the scratch.
-#[derive(Drop)]
+#[derive(Clone, Copy)]
 pub struct Plan {
     pub table: MarkTable,
     pub cuts: usize,
 }
 
 // What is decided: cuts, or the call has its answer, which for a table of another format is 0.
-#[derive(Drop)]
+#[derive(Clone, Copy)]
 pub enum Decision {
     Cut(Plan),
     Settled(Answer),

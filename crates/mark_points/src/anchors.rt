@@ -12,14 +12,14 @@ use store_reader::{LinkRows, next_row, row_near};
 use store_walk::subgraph_size;
 
 // The link rows of the mark array and of the base array.
-#[derive(Drop)]
+#[derive(Clone, Copy)]
 pub struct ArrayRows {
     pub marks: LinkRows,
     pub bases: LinkRows,
 }
 
 // What a slot's anchor adds, the first row at or past the slot, and the first row past it: there is a link where these are two.
-#[derive(Drop)]
+#[derive(Clone, Copy)]
 struct Slot {
     size: u64,
     row: usize,

@@ -19,7 +19,7 @@ pub mod table_info;
 pub use table_info::TableInfo;
 
 // The table that is being filled, where the next class's marks start, and the length of the coverage of the marks in the table.
-#[derive(Drop)]
+#[derive(Clone, Copy)]
 pub struct Columns {
     pub filling: Filling,
     pub from: usize,

@@ -2,7 +2,7 @@
 
 // The mark array and the base array; how many mark classes and bases there are; where a sum starts, with the base coverage's length; and the
 // first mark of a walk that no object has yet.
-#[derive(Drop)]
+#[derive(Clone, Copy)]
 pub struct TableInfo {
     pub mark_array: u32,
     pub base_array: u32,

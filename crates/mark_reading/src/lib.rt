@@ -22,14 +22,14 @@ use ot_wire::u16_at;
 use store_reader::{Child, bytes_of, child_at};
 
 // The anchor objects of a mark and of a base.
-#[derive(Drop)]
+#[derive(Clone, Copy)]
 pub struct Anchors {
     pub mark: u32,
     pub base: u32,
 }
 
 // The two, or no attachment.
-#[derive(Drop)]
+#[derive(Clone, Copy)]
 pub enum Attachment {
     Of(Anchors),
     Nothing,

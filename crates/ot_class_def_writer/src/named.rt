@@ -7,7 +7,7 @@ ghost use Rattle.ot_class_def_writer.specs.Entries.{reduced_entries, joins_at, R
 ghost use Rattle.ot_class_def_writer.specs.Written.{ranges_win};
 
 // What decides the format: how many runs, how many glyphs from first to last; and the entry and the glyph that they start with.
-#[derive(Drop)]
+#[derive(Clone, Copy)]
 pub struct Outline {
     pub runs: usize,
     pub from: usize,

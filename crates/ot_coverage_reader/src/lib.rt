@@ -17,7 +17,7 @@ use ot_ranges::ranges_fit;
 use ot_wire::u16_at;
 
 // A glyph's place in the coverage.
-#[derive(Drop)]
+#[derive(Clone, Copy)]
 pub enum Place {
     At(usize),
     Nowhere,

@@ -5,7 +5,7 @@ ghost use Rattle.std.specs.Prelude.{◌≡◌, ◌<◌};
 ghost use Rattle.ot_layouts.specs.Values.{field_at};
 
 // A row of the fixed table of a value format's eight low bits: which bit, whether it is a device, and the field's place in a pair answer.
-#[derive(Drop)]
+#[derive(Clone, Copy)]
 pub struct Field {
     pub mask: u16,
     pub device: bool,
@@ -65,21 +65,21 @@ pub fn field_at(j: usize) -> Field
 }
 
 // Format 1 of Coverage and of ClassDef is a list, format 2 is ranges.
-#[derive(Drop)]
+#[derive(Clone, Copy)]
 pub enum Kind {
     List,
     Ranges,
 }
 
 // What a Coverage or a ClassDef is read into: a list or ranges, and how many glyphs or ranges.
-#[derive(Drop)]
+#[derive(Clone, Copy)]
 pub struct Header {
     pub kind: Kind,
     pub count: usize,
 }
 
 // What reading a Coverage or a ClassDef answers.
-#[derive(Drop)]
+#[derive(Clone, Copy)]
 pub enum Reading {
     Readable(Header),
     Unreadable,

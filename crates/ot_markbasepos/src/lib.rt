@@ -10,14 +10,14 @@ ghost use Rattle.ot_markbasepos.specs.Kinds.{readable_as, slot_of};
 use ot_wire::u16_at;
 
 // Which of its two arrays.
-#[derive(Drop)]
+#[derive(Clone, Copy)]
 pub enum ArrayKind {
     Marks,
     Bases,
 }
 
 // What a link belongs to: the table itself, its mark array, or its base array.
-#[derive(Drop)]
+#[derive(Clone, Copy)]
 pub enum Holder {
     Table,
     Marks,

@@ -14,7 +14,7 @@ use ot_wire::u16_at;
 
 // What stands where in a table: both formats are a header and a count of items, each of some units (a slot, or a pair's two value records). The header has
 // `heads` links, of which `own` lead to parts that are the table's own, and the count at `count_at`.
-#[derive(Drop)]
+#[derive(Clone, Copy)]
 pub struct Layout {
     pub format: u16,
     pub header: usize,
@@ -30,7 +30,7 @@ pub struct Layout {
 }
 
 // A table of format 1 or 2 of the exact length, one of another format, or one that is too short or of another length.
-#[derive(Drop)]
+#[derive(Clone, Copy)]
 pub enum Opened {
     Pair(Layout),
     Other,

@@ -10,7 +10,7 @@ ghost use Rattle.ot_ranges.specs.Ranges.{range_found, range_of, range_bytes};
 use ot_wire::{put_u16, u16_at};
 
 // Where among the ranges a glyph is.
-#[derive(Drop)]
+#[derive(Clone, Copy)]
 pub enum Found {
     At(usize),
     Nowhere,

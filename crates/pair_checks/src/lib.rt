@@ -19,7 +19,7 @@ use ot_pairpos::{Layout, Opened, open};
 use store_reader::{bytes_of, is_sound};
 
 // A table that no check refuses. In format 1 there are no class definitions, and the coverage stands for them.
-#[derive(Drop)]
+#[derive(Clone, Copy)]
 pub struct PairTable {
     pub layout: Layout,
     pub coverage: Part,
@@ -29,7 +29,7 @@ pub struct PairTable {
 }
 
 // What the checks say: the table is open, or the call has its answer, which for a table of another format is 0.
-#[derive(Drop)]
+#[derive(Clone, Copy)]
 pub enum Checked {
     Open(PairTable),
     Settled(Answer),

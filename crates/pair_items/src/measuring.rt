@@ -11,7 +11,7 @@ use store_reader::next_row;
 use store_walk::subgraph_size;
 
 // An item's size, and the row at which the next item's links start.
-#[derive(Drop)]
+#[derive(Clone, Copy)]
 pub struct Measured {
     pub size: u64,
     pub next: usize,

@@ -3,7 +3,7 @@ ghost use Rattle.std.specs.Prelude.{◌≡◌, ◌+◌, ◌*◌, ◌<◌};
 
 // The table; its header's length, at which a sum starts, an item's, and how many items there are; the length of the object that stands beside
 // the items, coverage in format 1 and class definition 2 in format 2; and the first mark of a walk that no object has yet.
-#[derive(Drop)]
+#[derive(Clone, Copy)]
 pub struct TableInfo {
     pub table: u32,
     pub header: usize,

@@ -31,14 +31,14 @@ use store_reader::is_sound;
 use store_walk::begin_walk;
 
 // A table that is not refused, and how many cuts it gets; they stand at the front of the scratch.
-#[derive(Drop)]
+#[derive(Clone, Copy)]
 pub struct Plan {
     pub table: PairTable,
     pub cuts: usize,
 }
 
 // What is decided: cuts, or the call has its answer, which for a table of another format is 0.
-#[derive(Drop)]
+#[derive(Clone, Copy)]
 pub enum Decision {
     Cut(Plan),
     Settled(Answer),

@@ -12,7 +12,7 @@ use glyph_class_parts::class_end;
 use glyph_estimator::{Estimator, forget};
 
 // The glyphs from `first` up to `to` are in the estimator and in the set; those of the last class start at `from`.
-#[derive(Drop)]
+#[derive(Clone, Copy)]
 pub struct Classes {
     pub estimator: Estimator,
     pub first: usize,

@@ -14,7 +14,7 @@ use pair_row_classes::Classes;
 use store_reader::first_row;
 
 // The table that is being filled, the link row at which the next class-1 row's links start, and the classes of the rows in the table.
-#[derive(Drop)]
+#[derive(Clone, Copy)]
 pub struct Rows {
     pub filling: Filling,
     pub row: usize,

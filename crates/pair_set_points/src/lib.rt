@@ -16,7 +16,7 @@ use store_reader::first_row;
 
 // The table that is being filled, the row at which the next pair set's link stands or would stand, and the length of the coverage of the
 // pair sets in the table.
-#[derive(Drop)]
+#[derive(Clone, Copy)]
 pub struct Sets {
     pub filling: Filling,
     pub row: usize,

@@ -14,7 +14,7 @@ use buffers::lesser;
 use ot_wire::u16_at;
 
 // The record of a pair set that a search finds.
-#[derive(Drop)]
+#[derive(Clone, Copy)]
 pub enum Found {
     At(usize),
     Nothing,

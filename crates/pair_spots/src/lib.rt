@@ -22,7 +22,7 @@ use pair_sets::{Found, record_in_set};
 use store_reader::{Child, bytes_of, child_at};
 
 // Where a pair's values stand: in which object, and from which byte on.
-#[derive(Drop)]
+#[derive(Clone, Copy)]
 pub enum Spot {
     At { object: u32, at: usize },
     Nowhere,

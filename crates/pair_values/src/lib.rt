@@ -19,7 +19,7 @@ use ot_wire::u16_at;
 use store_reader::{Child, bytes_of, child_at};
 
 // A pair as it is answered: whether there is one, and eight numbers for each glyph.
-#[derive(Drop)]
+#[derive(Clone, Copy)]
 pub struct PairAnswer {
     pub found: bool,
     pub first: [i32; 8],

@@ -12,7 +12,7 @@ ghost use Rattle.store_link_rows.specs.Rows.{segment, link_of, link_in, row, row
 use store_reader::{CHILD, KIND, PARENT, PER_LINK, POSITION, WIDTH};
 
 // The numbers of a link row.
-#[derive(Drop)]
+#[derive(Clone, Copy)]
 struct Row {
     parent: u32,
     position: u32,

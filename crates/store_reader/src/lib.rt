@@ -28,14 +28,14 @@ pub const KIND: usize = 4;
 pub const ORDERS: u32 = 16777216;
 
 // What a look for the child at a position finds.
-#[derive(Drop)]
+#[derive(Clone, Copy)]
 pub enum Child {
     Of(u32),
     Nowhere,
 }
 
 // Link rows one behind the other: those from `first` on, before `after`.
-#[derive(Drop)]
+#[derive(Clone, Copy)]
 pub struct LinkRows {
     pub first: usize,
     pub after: usize,

@@ -11,7 +11,7 @@ use store_reader::{
 use store_walk::{prepare, subgraph_size};
 
 // What there is to say of a store's first object: whether the store is sound, whether the object can be reached from itself, and how many bytes it reaches.
-#[derive(Drop)]
+#[derive(Clone, Copy)]
 pub struct Report {
     pub sound: u64,
     pub cycle: u64,

@@ -4,14 +4,14 @@ ghost use Rattle.io.specs.Counts.{IsPrefixLen};
 ghost use Rattle.folds.specs.Moments.{left};
 
 // A number, and the place behind it.
-#[derive(Drop)]
+#[derive(Clone, Copy)]
 pub struct Number {
     pub value: u32,
     pub at: usize,
 }
 
 // So many numbers of one value, as the place where they end in their array; and the place behind them in the text.
-#[derive(Drop)]
+#[derive(Clone, Copy)]
 pub struct Run {
     pub value: u32,
     pub end: usize,
@@ -19,7 +19,7 @@ pub struct Run {
 }
 
 // How many numbers an array has, and the place behind it in the text.
-#[derive(Drop)]
+#[derive(Clone, Copy)]
 pub struct Laid {
     pub count: usize,
     pub at: usize,

@@ -5,14 +5,14 @@ use crate::input::read_number;
 use libc::STDOUT_FILENO;
 
 // The place behind what was compared, and whether it was as stored.
-#[derive(Drop)]
+#[derive(Clone, Copy)]
 pub struct Seen {
     pub at: usize,
     pub agrees: bool,
 }
 
 // What a call answers, how many numbers it puts into its list, and the digest of all that it leaves; and the place behind what it is lent.
-#[derive(Drop)]
+#[derive(Clone, Copy)]
 pub struct Called {
     pub at: usize,
     pub answer: u32,
@@ -21,7 +21,7 @@ pub struct Called {
 }
 
 // What a reading answers, whether two glyphs have something, and whether that is as stored.
-#[derive(Drop)]
+#[derive(Clone, Copy)]
 pub struct Reading {
     pub answer: u32,
     pub found: u32,

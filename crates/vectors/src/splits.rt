@@ -6,7 +6,7 @@ use crate::report::{Called, Seen, both, call_agrees, same};
 use splitter::{split_markbasepos, split_pairpos};
 
 // What came of a split, whether its table is one of marks, and whether all is as stored; and the place behind it.
-#[derive(Drop)]
+#[derive(Clone, Copy)]
 pub struct Outcome {
     pub at: usize,
     pub marks: bool,
