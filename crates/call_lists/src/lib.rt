@@ -12,7 +12,7 @@ use call_rules::{Answer, number_of};
 // Copies the places to the front of the list.
 fn copy_places(cuts: &[u16], places: &mut [u16])
     requires { length cuts.now ≤ length places.old }
-    ensures { left places ≡ put (came places) 0 (came cuts) }
+    ensures { left places ≡ put (came places) 0 cuts.now }
 {
     let mut k: usize = 0;
     while k < cuts.len() {
@@ -24,7 +24,7 @@ fn copy_places(cuts: &[u16], places: &mut [u16])
 // Hands out the places and their count, if the list is long enough, and answers.
 pub fn list_places(cuts: &[u16], places: &mut [u16], place_count: &mut u32) -> u32
     requires { length cuts.now < 65536 }
-    ensures { handed result (left place_count) (left places) ≡ places_handed (came cuts) (came places) }
+    ensures { handed result (left place_count) (left places) ≡ places_handed cuts.now (came places) }
 {
     let count = cuts.len();
     if places.len() < count {

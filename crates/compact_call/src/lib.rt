@@ -16,7 +16,7 @@ use store_reader::is_sound;
 
 // Whether each root is below `count`.
 fn roots_used(roots: &[u32], count: u32) -> bool
-    ensures { result ≡ roots_used count (came roots) }
+    ensures { result ≡ roots_used count roots.now }
 {
     let mut k: usize = 0;
     while k < roots.len() {
@@ -37,7 +37,7 @@ fn refusal(
     roots: &[u32],
     walk: &[u32],
 ) -> u32
-    ensures { first_case (compact_cases (store_came_with «data» objects links counts) (came roots) (came walk))
+    ensures { first_case (compact_cases (store_came_with «data» objects links counts) roots.now walk.now)
         ≡ refusal_of result }
 {
     if !is_sound(data, objects, links, counts) {

@@ -12,7 +12,7 @@ use store_reader::{CHILD, PARENT, PER_LINK};
 // Whether both ends of a link are marked.
 fn keeps_ends(walk: &[u32], parent: usize, child: usize) -> bool
     requires { (parent < length walk.now) × (child < length walk.now) }
-    ensures { result ≡ has_mark (came walk) parent && has_mark (came walk) child }
+    ensures { result ≡ has_mark walk.now parent && has_mark walk.now child }
 {
     if 0 < walk[parent] {
         0 < walk[child]
@@ -25,7 +25,7 @@ fn keeps_ends(walk: &[u32], parent: usize, child: usize) -> bool
 fn pack_links(links: &mut [u32], counts: [u32; 3], walk: &[u32]) -> u32
     requires by_index { (b o : List ℕ) × (sound (lent b o links.old counts) ≡ true) }
     requires numbered { Numbered walk.now (get_or counts 1 0) }
-    ensures { PackedLinks (lent [] [] (came links) counts) (has_mark (came walk)) (left links) result }
+    ensures { PackedLinks (lent [] [] (came links) counts) (has_mark walk.now) (left links) result }
 {
     let mut j: usize = 0;
     let mut k: usize = 0;
@@ -48,7 +48,7 @@ fn pack_links(links: &mut [u32], counts: [u32; 3], walk: &[u32]) -> u32
 pub fn compact_links(links: &mut [u32], counts: [u32; 3], walk: &[u32]) -> u32
     requires by_index { (b o : List ℕ) × (sound (lent b o links.old counts) ≡ true) }
     requires numbered { Numbered walk.now (get_or counts 1 0) }
-    ensures { LinksLeft (lent [] [] (came links) counts) (has_mark (came walk)) (left links) result }
+    ensures { LinksLeft (lent [] [] (came links) counts) (has_mark walk.now) (left links) result }
 {
     let kept = pack_links(links, counts, walk);
     zero_numbers(

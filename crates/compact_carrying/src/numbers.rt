@@ -25,7 +25,7 @@ pub fn number_kept(walk: &mut [u32], n: usize)
 pub fn rewrite_roots(roots: &mut [u32], n: usize, walk: &[u32])
     requires by_index { (i : ℕ) → i < length roots.old → get_or roots.old i 0 < n }
     requires n_in_bounds { (2 * n ≤ length walk.now) × (n ≤ 65536) }
-    ensures { left roots ≡ map (number_in (came walk) n) (came roots) }
+    ensures { left roots ≡ map (number_in walk.now n) (came roots) }
 {
     let mut k: usize = 0;
     while k < roots.len() {

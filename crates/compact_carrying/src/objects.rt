@@ -49,7 +49,7 @@ pub struct Packed {
 fn pack_objects(data: &mut [u8], objects: &mut [u32], counts: [u32; 3], walk: &[u32]) -> Packed
     requires by_index { (l : List ℕ) × (sound (lent «data».old objects.old l counts) ≡ true) }
     requires counts_in_bounds { get_or counts 1 0 ≤ length walk.now }
-    ensures { PackedObjects (lent (came «data») (came objects) [] counts) (has_mark (came walk)) (left «data») (left objects) result }
+    ensures { PackedObjects (lent (came «data») (came objects) [] counts) (has_mark walk.now) (left «data») (left objects) result }
 {
     let mut at: u32 = 0;
     let mut j: usize = 0;
@@ -82,7 +82,7 @@ pub fn compact_objects(
 ) -> Packed
     requires by_index { (l : List ℕ) × (sound (lent «data».old objects.old l counts) ≡ true) }
     requires counts_in_bounds { get_or counts 1 0 ≤ length walk.now }
-    ensures { ObjectsLeft (lent (came «data») (came objects) [] counts) (has_mark (came walk)) (left «data») (left objects) result }
+    ensures { ObjectsLeft (lent (came «data») (came objects) [] counts) (has_mark walk.now) (left «data») (left objects) result }
 {
     let packed = pack_objects(data, objects, counts, walk);
     let bytes = packed.bytes;

@@ -15,7 +15,7 @@ use store_walk::{first_row_of, prepare, subgraph_size};
 fn offsets_of(links: &[u32], counts: [u32; 3], object: u32, walk: &[u32]) -> LinkRows
     requires by_index { (b o : List ℕ) × (sound (lent b o links.now counts) ≡ true) }
     requires object_bound { (object < get_or counts 1 0) × (2 * get_or counts 1 0 ≤ length walk.now) × RowEnds links.now counts walk.now }
-    ensures { ParentRows (came links) (get_or counts 2 0) object result }
+    ensures { ParentRows links.now (get_or counts 2 0) object result }
 {
     let n = counts[1] as usize;
     let m = counts[2] as usize;
@@ -28,8 +28,8 @@ fn offsets_of(links: &[u32], counts: [u32; 3], object: u32, walk: &[u32]) -> Lin
 fn mark_root(objects: &[u32], links: &[u32], counts: [u32; 3], root: u32, walk: &mut [u32])
     requires by_index { (b : List ℕ) × (sound (lent b objects.now links.now counts) ≡ true) }
     requires root_bound { (root < get_or counts 1 0) × ((roots : List ℕ) × Rooting objects.now links.now counts roots walk.old) }
-    ensures { (roots : List ℕ) → Rooting (came objects) (came links) counts roots (came walk)
-        → Rooting (came objects) (came links) counts (roots ++ root ∷ []) (left walk) }
+    ensures { (roots : List ℕ) → Rooting objects.now links.now counts roots (came walk)
+        → Rooting objects.now links.now counts (roots ++ root ∷ []) (left walk) }
 {
     let r = root as usize;
     if walk[r] == 0 {
@@ -46,7 +46,7 @@ pub fn mark_kept(objects: &[u32], links: &[u32], counts: [u32; 3], roots: &[u32]
     requires by_index { (b : List ℕ) × (sound (lent b objects.now links.now counts) ≡ true) }
     requires by_index_2 { (i : ℕ) → i < length roots.now → get_or roots.now i 0 < get_or counts 1 0 }
     requires counts_in_bounds { 2 * get_or counts 1 0 ≤ length walk.old }
-    ensures { Rooting (came objects) (came links) counts (came roots) (left walk) }
+    ensures { Rooting objects.now links.now counts roots.now (left walk) }
 {
     prepare(links, counts, walk);
     let mut k: usize = 0;

@@ -12,7 +12,7 @@ use glyph_sort::sort_pairs;
 // Where the part of the classes from `from` on that lie below `hi` ends.
 pub fn part_end(classes: &[u16], from: usize, hi: u16) -> usize
     requires { from ≤ length classes.now }
-    ensures { PartEnd (came classes) from hi result }
+    ensures { PartEnd classes.now from hi result }
 {
     let mut at = from;
     while at < classes.len() {
@@ -27,7 +27,7 @@ pub fn part_end(classes: &[u16], from: usize, hi: u16) -> usize
 // The cut behind cut j, or the count of items where j is the last.
 pub fn cut_after(cuts: &[u16], j: usize, count: u16) -> u16
     requires { j < length cuts.now }
-    ensures { result ≡ get_or (came cuts) (j + 1) count }
+    ensures { result ≡ get_or cuts.now (j + 1) count }
 {
     if j + 1 < cuts.len() {
         return cuts[j + 1];
@@ -47,7 +47,7 @@ fn order_part(glyphs: &mut [u16], classes: &mut [u16], a: usize, b: usize)
 // Puts the part of each table back in order by glyph, where glyphs and classes are in order by class.
 pub fn order_parts(glyphs: &mut [u16], classes: &mut [u16], cuts: &[u16], count: u16)
     requires { Sorted glyphs.old classes.old cuts.now count }
-    ensures { PartsOrdered (came glyphs) (came classes) (came cuts) count (left glyphs) (left classes) }
+    ensures { PartsOrdered (came glyphs) (came classes) cuts.now count (left glyphs) (left classes) }
 {
     let mut at = 0;
     let mut k = 0;

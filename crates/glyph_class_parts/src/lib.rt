@@ -2,13 +2,12 @@
 #![tactic(auto)]
 
 ghost use Rattle.std.specs.Prelude.{◌≤◌, length};
-ghost use Rattle.folds.specs.Moments.{came};
 ghost use Rattle.glyph_class_parts.specs.ClassParts.{ClassEnd};
 
 // Where the entries of a class, which start at `from`, end.
 pub fn class_end(classes: &[u16], from: usize, class: u16) -> usize
     requires { from ≤ length classes.now }
-    ensures { ClassEnd (came classes) from class result }
+    ensures { ClassEnd classes.now from class result }
 {
     let mut end = from;
     while end < classes.len() {

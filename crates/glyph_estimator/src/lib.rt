@@ -56,7 +56,7 @@ impl Estimator {
     // Adds a class with its glyphs, which are not in the set yet, and puts them in. A class with no glyphs changes nothing.
     pub fn add(self, class: u16, glyphs: &[u16], set: &mut [u8]) -> Self
         requires { EstimatorReady self set.old glyphs.now }
-        ensures { ClassAdded self (came set) class (came glyphs) result (left set) }
+        ensures { ClassAdded self (came set) class glyphs.now result (left set) }
     {
         if self.fills_words(glyphs) {
             return self.add_by_word(class, glyphs, set);
@@ -82,7 +82,7 @@ impl Estimator {
     // Adds a class glyph by glyph, each with the runs that it makes or joins.
     fn add_by_glyph(mut self, class: u16, glyphs: &[u16], set: &mut [u8]) -> Self
         requires { EstimatorReady self set.old glyphs.now }
-        ensures { ClassAdded self (came set) class (came glyphs) result (left set) }
+        ensures { ClassAdded self (came set) class glyphs.now result (left set) }
     {
         let mut k: usize = 0;
         while k < glyphs.len() {
@@ -95,7 +95,7 @@ impl Estimator {
     // Adds a class as a whole: once its glyphs are in the set, the runs are counted by the word.
     fn add_by_word(mut self, class: u16, glyphs: &[u16], set: &mut [u8]) -> Self
         requires { EstimatorReady self set.old glyphs.now }
-        ensures { ClassAdded self (came set) class (came glyphs) result (left set) }
+        ensures { ClassAdded self (came set) class glyphs.now result (left set) }
     {
         let mut k: usize = 0;
         while k < glyphs.len() {
@@ -110,7 +110,7 @@ impl Estimator {
     fn add_glyph(mut self, class: u16, glyphs: &[u16], k: usize, set: &mut [u8]) -> Self
         requires k_in_bounds { k < length glyphs.now }
         requires takes { Takes self set.old (get_or glyphs.now k 0) }
-        ensures { Taken self (came set) class (came glyphs) k result (left set) }
+        ensures { Taken self (came set) class glyphs.now k result (left set) }
     {
         let joined = glyph_set::joined(set, glyphs[k]);
         self = self.take_glyph(class, glyphs, k, set);
@@ -122,7 +122,7 @@ impl Estimator {
     fn take_glyph(mut self, class: u16, glyphs: &[u16], k: usize, set: &mut [u8]) -> Self
         requires k_in_bounds { k < length glyphs.now }
         requires takes { Takes (counted self set.old) set.old (get_or glyphs.now k 0) }
-        ensures taken { Taken (counted self (came set)) (came set) class (came glyphs) k (counted result (left set)) (left set) }
+        ensures taken { Taken (counted self (came set)) (came set) class glyphs.now k (counted result (left set)) (left set) }
         ensures runs_value { result.runs ≡ self.runs }
     {
         self = self.cover(glyphs[k], set);
@@ -205,7 +205,7 @@ impl Estimator {
 // Takes glyphs out of the set, each with its byte: all that were put in, and it is empty again.
 pub fn forget(set: &mut [u8], glyphs: &[u16])
     requires { 8192 ≤ length set.old }
-    ensures { left set ≡ blank_all (came set) (came glyphs) }
+    ensures { left set ≡ blank_all (came set) glyphs.now }
 {
     let mut k: usize = 0;
     while k < glyphs.len() {
@@ -217,7 +217,7 @@ pub fn forget(set: &mut [u8], glyphs: &[u16])
 // 1 where glyph `k` starts a run, 0 where it adjoins the one before it.
 fn starts_run(glyphs: &[u16], k: usize) -> usize
     requires { k < length glyphs.now }
-    ensures { result ≡ starts_run (came glyphs) k }
+    ensures { result ≡ starts_run glyphs.now k }
 {
     if k == 0 {
         return 1;

@@ -6,7 +6,6 @@ ghost use Rattle.ot_layouts.specs.Coverage.{coverage_of, cover_glyphs, cover_pla
 ghost use Rattle.ot_layouts.specs.ClassDef.{class_def_of, class_of};
 ghost use Rattle.ot_coverage_reader.specs.Coverage.{place_found};
 ghost use Rattle.store_rules.specs.Store.{lent, sound, bytes_of};
-ghost use Rattle.folds.specs.Moments.{came};
 ghost use Rattle.store_rules.specs.Moments.{store_came_with, store_now_with};
 ghost use Rattle.glyph_parts.specs.Parts.{read_as, part_found, linked_of, ReadPart};
 
@@ -38,7 +37,7 @@ pub enum Linked {
 
 // What the bytes are, read as one of the two.
 fn read_as(bytes: &[u8], kind: PartKind) -> Reading
-    ensures { result ≡ read_as kind (came bytes) }
+    ensures { result ≡ read_as kind bytes.now }
 {
     match kind {
         PartKind::Coverage => read_coverage(bytes),
@@ -74,7 +73,7 @@ pub fn linked_part(
 // How many glyphs a coverage that was read covers.
 pub fn glyphs_of(data: &[u8], objects: &[u32], coverage: Part) -> usize
     requires { ReadPart coverage_of «data».now objects.now coverage }
-    ensures { (l c : List ℕ) → result ≡ length (cover_glyphs (bytes_of (lent (came «data») (came objects) l c) coverage.object)) }
+    ensures { (l c : List ℕ) → result ≡ length (cover_glyphs (bytes_of (lent «data».now objects.now l c) coverage.object)) }
 {
     glyph_count(
         bytes_of(data, objects, coverage.object as usize),
@@ -85,7 +84,7 @@ pub fn glyphs_of(data: &[u8], objects: &[u32], coverage: Part) -> usize
 // The glyph's place in a coverage that was read.
 pub fn place_in(data: &[u8], objects: &[u32], coverage: Part, glyph: u16) -> Place
     requires { ReadPart coverage_of «data».now objects.now coverage }
-    ensures { (l c : List ℕ) → place_found result ≡ cover_place (bytes_of (lent (came «data») (came objects) l c) coverage.object) glyph }
+    ensures { (l c : List ℕ) → place_found result ≡ cover_place (bytes_of (lent «data».now objects.now l c) coverage.object) glyph }
 {
     place_of(
         bytes_of(data, objects, coverage.object as usize),
@@ -97,7 +96,7 @@ pub fn place_in(data: &[u8], objects: &[u32], coverage: Part, glyph: u16) -> Pla
 // The glyph's class by a class definition that was read.
 pub fn class_in(data: &[u8], objects: &[u32], class_def: Part, glyph: u16) -> u16
     requires { ReadPart class_def_of «data».now objects.now class_def }
-    ensures { (l c : List ℕ) → result ≡ class_of (bytes_of (lent (came «data») (came objects) l c) class_def.object) glyph }
+    ensures { (l c : List ℕ) → result ≡ class_of (bytes_of (lent «data».now objects.now l c) class_def.object) glyph }
 {
     class_of(
         bytes_of(data, objects, class_def.object as usize),

@@ -12,7 +12,7 @@ ghost use Rattle.glyph_set.specs.GlyphSet.{member, mark, blank, present, behind,
 // Whether the glyph is in the set.
 pub fn contains(set: &[u8], glyph: u16) -> bool
     requires { 8192 ≤ length set.now }
-    ensures { result ≡ member (came set) glyph }
+    ensures { result ≡ member set.now glyph }
 {
     let at = (glyph / 8) as usize;
     (set[at] >> (glyph % 8)) & 1 == 1
@@ -39,7 +39,7 @@ pub fn clear_byte(set: &mut [u8], glyph: u16)
 // How many of the glyph's two neighbours are in the set: with a glyph more there are 1 - `joined` runs more.
 pub fn joined(set: &[u8], glyph: u16) -> usize
     requires { 8192 ≤ length set.now }
-    ensures { result ≡ joined (came set) glyph }
+    ensures { result ≡ joined set.now glyph }
 {
     present_before(set, glyph) + present_behind(set, glyph)
 }
@@ -47,7 +47,7 @@ pub fn joined(set: &[u8], glyph: u16) -> usize
 // The glyph before, which 0 has none of.
 fn present_before(set: &[u8], glyph: u16) -> usize
     requires { 8192 ≤ length set.now }
-    ensures { result ≡ before (present (came set)) glyph }
+    ensures { result ≡ before (present set.now) glyph }
 {
     if glyph == 0 {
         return 0;
@@ -58,7 +58,7 @@ fn present_before(set: &[u8], glyph: u16) -> usize
 // The glyph behind, which 65,535 has none of.
 fn present_behind(set: &[u8], glyph: u16) -> usize
     requires { 8192 ≤ length set.now }
-    ensures { result ≡ behind (came set) glyph }
+    ensures { result ≡ behind set.now glyph }
 {
     if glyph == 65535 {
         return 0;
@@ -69,7 +69,7 @@ fn present_behind(set: &[u8], glyph: u16) -> usize
 // 1 where the glyph is in the set, else 0.
 fn present(set: &[u8], glyph: u16) -> usize
     requires { 8192 ≤ length set.now }
-    ensures { result ≡ present (came set) glyph }
+    ensures { result ≡ present set.now glyph }
 {
     contains(set, glyph) as usize
 }

@@ -1,7 +1,6 @@
 // The runs of a set counted by the word: eight bytes are a number whose bit j is glyph j behind their first, and a run starts at each bit that
 // is set while the one before it is not.
 ghost use Rattle.std.specs.Prelude.{◌≡◌, ◌+◌, ◌*◌, ◌/◌, ◌^◌, ◌<◌, ◌≤◌, length};
-ghost use Rattle.folds.specs.Moments.{came};
 ghost use Rattle.glyph_set.specs.GlyphSet.{run_count};
 ghost use Rattle.glyph_set.specs.Words.{starts_in, WordOf, Spans};
 
@@ -9,7 +8,7 @@ ghost use Rattle.glyph_set.specs.Words.{starts_in, WordOf, Spans};
 pub fn run_count(set: &[u8], first: u16, last: u16) -> usize
     requires in_bounds { 8192 ≤ length set.now }
     requires spans { Spans set.now first last }
-    ensures { result ≡ run_count (came set) }
+    ensures { result ≡ run_count set.now }
 {
     let end = 8 * ((last / 64) as usize) + 8;
     let mut at = 8 * ((first / 64) as usize);
@@ -27,7 +26,7 @@ pub fn run_count(set: &[u8], first: u16, last: u16) -> usize
 // The word of the eight bytes from byte `at` on.
 fn word_at(set: &[u8], at: usize) -> u64
     requires { at + 8 ≤ length set.now }
-    ensures { WordOf (came set) (8 * at) result }
+    ensures { WordOf set.now (8 * at) result }
 {
     wide(set[at])
         + 0x100 * wide(set[at + 1])

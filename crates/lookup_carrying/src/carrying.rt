@@ -25,7 +25,7 @@ fn enter_lookups(
 )
     requires { LookupsReady (store_now «data» objects links counts) table tables.now marks.now lookups.now }
     ensures { store_left «data» objects links counts
-        ≡ entered_store (store_came «data» objects links counts) table (came tables) (came lookups) (store_came «data» objects links counts) }
+        ≡ entered_store (store_came «data» objects links counts) table tables.now lookups.now (store_came «data» objects links counts) }
 {
     let first = counts[1];
     let bytes = write_lookups(data, objects, links, *counts, table, tables.len(), lookups);
@@ -56,7 +56,7 @@ pub fn carry_all(
 )
     requires { CarryingAll (store_now «data» objects links counts) table opened needs glyphs.now classes.now cuts.now new_tables.old
         marks.now lookups.now }
-    ensures { EnteredAt (store_came «data» objects links counts) table (came cuts) (came lookups) (came new_tables)
+    ensures { EnteredAt (store_came «data» objects links counts) table cuts.now lookups.now (came new_tables)
         (store_left «data» objects links counts) (left new_tables) }
 {
     let count = cuts.len();

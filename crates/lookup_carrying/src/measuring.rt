@@ -1,5 +1,5 @@
 // What a split and its lookups need beside what is in use, each by itself.
-ghost use Rattle.folds.specs.Moments.{came, left};
+ghost use Rattle.folds.specs.Moments.{left};
 ghost use Rattle.store_rules.specs.Moments.{store_came_with, store_now_with};
 ghost use Rattle.lookup_carrying.specs.Measuring.{MeasuringAll, MeasuredAll};
 
@@ -30,7 +30,7 @@ pub fn measure_all(
     cuts: &[u16],
 ) -> Measures
     requires { MeasuringAll (store_now_with «data» objects links counts) table opened glyphs.old classes.old cuts.now lookups.now }
-    ensures { MeasuredAll (store_came_with «data» objects links counts) table (left glyphs) (left classes) (came cuts) (came lookups) result }
+    ensures { MeasuredAll (store_came_with «data» objects links counts) table (left glyphs) (left classes) cuts.now lookups.now result }
 {
     let split = measure_needs(data, objects, opened, glyphs, classes, cuts);
     let extent = measure(data, objects, links, counts, table, cuts.len(), lookups);

@@ -2,7 +2,6 @@
 ghost use Rattle.std.specs.Prelude.{ℕ, ◌+◌, ◌*◌, ◌<◌, ◌≡◌, true, List, get_or};
 ghost use Rattle.folds.specs.Folds.{all, upto};
 ghost use Rattle.folds.specs.Lists.{among};
-ghost use Rattle.folds.specs.Moments.{came};
 ghost use Rattle.ot_layouts.specs.Lookup.{is_one_of};
 ghost use Rattle.store_rules.specs.Store.{lent, per_link, row_position, all_at, sound};
 ghost use Rattle.store_rules.specs.Moments.{store_came_with, store_now_with};
@@ -51,8 +50,8 @@ pub fn lookup_fits(
 fn all_at(links: &[u32], counts: [u32; 3], parent: u32, start: u32, count: u16) -> bool
     requires { InOrder links.now (get_or counts 2 0) × (parent < 65536) }
     ensures { (b o : List ℕ)
-        → sound (lent b o (came links) counts) ≡ true
-        → result ≡ all_at (lent b o (came links) counts) parent (is_one_of start count) }
+        → sound (lent b o links.now counts) ≡ true
+        → result ≡ all_at (lent b o links.now counts) parent (is_one_of start count) }
 {
     let rows = rows_of(links, counts[2] as usize, parent);
     rows_at_slots(links, rows, start, count)
@@ -61,7 +60,7 @@ fn all_at(links: &[u32], counts: [u32; 3], parent: u32, start: u32, count: u16) 
 // Whether these rows do.
 fn rows_at_slots(links: &[u32], rows: LinkRows, start: u32, slots: u16) -> bool
     requires { RowsIn links.now rows }
-    ensures { result ≡ all (λ i. is_one_of start slots (get_or (came links) (per_link * (rows.first + i) + row_position) 0)) (row_count rows) }
+    ensures { result ≡ all (λ i. is_one_of start slots (get_or links.now (per_link * (rows.first + i) + row_position) 0)) (row_count rows) }
 {
     let first = rows.first;
     let count = rows.after - first;
@@ -99,7 +98,7 @@ pub fn is_rewritten(
 // Whether one of these rows leads to the table.
 fn rows_lead_to(links: &[u32], rows: LinkRows, table: u32) -> bool
     requires { RowsIn links.now rows }
-    ensures { result ≡ among table (upto (leads_at (came links) rows) (row_count rows)) }
+    ensures { result ≡ among table (upto (leads_at links.now rows) (row_count rows)) }
 {
     let first = rows.first;
     let count = rows.after - first;

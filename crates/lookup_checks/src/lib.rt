@@ -6,7 +6,6 @@ pub mod marks;
 pub mod order;
 
 ghost use Rattle.std.specs.Prelude.{◌≡◌, not};
-ghost use Rattle.folds.specs.Moments.{came};
 ghost use Rattle.store_rules.specs.Moments.{store_came_with, store_now_with};
 ghost use Rattle.lookup_rules.specs.Listed.{bad_list};
 ghost use Rattle.lookup_checks.specs.Objects.{ObjectInUse};
@@ -50,7 +49,7 @@ fn lookups_fit(
     marks: &mut [u32],
 ) -> bool
     requires { RowsUsed (store_now_with «data» objects links counts) rows }
-    ensures { result ≡ fit_and_name (store_came_with «data» objects links counts) table (leads_at (came links) rows) (row_count rows) }
+    ensures { result ≡ fit_and_name (store_came_with «data» objects links counts) table (leads_at links.now rows) (row_count rows) }
 {
     clear_u32(marks);
     let first = rows.first;

@@ -1,6 +1,6 @@
 // The lookups of a list that are to be rewritten, and marks of objects by which every link to one of them is found in one pass.
 ghost use Rattle.std.specs.Prelude.{◌*◌, ◌≤◌, ◌≡◌, false, length, get_or};
-ghost use Rattle.folds.specs.Moments.{came, left};
+ghost use Rattle.folds.specs.Moments.{left};
 ghost use Rattle.store_rules.specs.Moments.{store_came_with, store_now_with};
 ghost use Rattle.lookup_rules.specs.Listed.{rewritten, bad_list};
 ghost use Rattle.lookup_checks.specs.Objects.{ObjectInUse};
@@ -45,7 +45,7 @@ fn order_rows(
 ) -> usize
     requires rows_used { RowsUsed (store_now_with «data» objects links counts) rows }
     requires orderable { Orderable (store_now_with «data» objects links counts) (leads_at links.now rows) (row_count rows) walk.old }
-    ensures { Ordered (get_or counts 1 0) (chosen (store_came_with «data» objects links counts) table (leads_at (came links) rows) (row_count rows)) (left walk) result }
+    ensures { Ordered (get_or counts 1 0) (chosen (store_came_with «data» objects links counts) table (leads_at links.now rows) (row_count rows)) (left walk) result }
 {
     let marks = counts[1] as usize;
     let first = rows.first;

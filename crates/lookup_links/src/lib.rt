@@ -23,7 +23,7 @@ use store_reader::{CHILD, PER_LINK, POSITION, rows_of};
 fn put_tables(links: &mut [u32], at: usize, parent: u32, position: u32, tables: &[u32]) -> usize
     requires tables_in_bounds { per_link * (at + length tables.now) ≤ length links.old }
     requires tables_bound { position + 2 * length tables.now ≤ 4294967296 }
-    ensures { Copied (came links) at (new_table_links (came tables) parent position) (left links) result }
+    ensures { Copied (came links) at (new_table_links tables.now parent position) (left links) result }
 {
     let mut j = 0;
     while j < tables.len() {
@@ -45,7 +45,7 @@ fn enter_row(
     tables: &[u32],
 ) -> usize
     requires { RowReady links.old table tables.now k up at parent }
-    ensures { Copied (came links) at (link_entered table (came tables) parent up (link_in (came links) k)) (left links) result }
+    ensures { Copied (came links) at (link_entered table tables.now parent up (link_in (came links) k)) (left links) result }
 {
     let position = links[PER_LINK * k + POSITION] + ((2 * up) as u32);
     let child = links[PER_LINK * k + CHILD];
@@ -67,7 +67,7 @@ fn enter_lookup(
     tables: &[u32],
 ) -> usize
     requires { LookupReady links.old counts table tables.now lookup parent at }
-    ensures { Copied (came links) at (lookup_copies table (came tables) (in_use (came links) counts) lookup parent) (left links) result }
+    ensures { Copied (came links) at (lookup_copies table tables.now (in_use (came links) counts) lookup parent) (left links) result }
 {
     let rows = rows_of(links, counts[2] as usize, lookup);
     let mut next = at;
@@ -91,8 +91,8 @@ pub fn enter_links(
     first: u32,
 ) -> usize
     requires { EnteringLent links.old counts table tables.now lookups.now first }
-    ensures { (b o : List ℕ) → Entering (lent b o (came links) counts) table (came tables) (came lookups) first
-        → Copied (came links) (get_or counts 2 0) (new_lookup_links (lent b o (came links) counts) table (came tables) (came lookups) first)
+    ensures { (b o : List ℕ) → Entering (lent b o (came links) counts) table tables.now lookups.now first
+        → Copied (came links) (get_or counts 2 0) (new_lookup_links (lent b o (came links) counts) table tables.now lookups.now first)
         (left links) result }
 {
     let mut next = counts[2] as usize;
@@ -115,7 +115,7 @@ pub fn enter_links(
 // Where a link to `child` leads then: mark m + 2 is that of the old lookup whose new one is object `first` + m.
 fn moved_child(marks: &[u32], child: u32, first: u32) -> u32
     requires { 2 ≤ get_or marks.now child 0 → first + (get_or marks.now child 0 - 2) < 4294967296 }
-    ensures { result ≡ moved_by (came marks) first child }
+    ensures { result ≡ moved_by marks.now first child }
 {
     let at = child as usize;
     if marks.len() <= at {
@@ -131,7 +131,7 @@ fn moved_child(marks: &[u32], child: u32, first: u32) -> u32
 // Each of the first `count` rows that leads to a marked lookup leads to its new one.
 fn lead_links(links: &mut [u32], count: usize, marks: &[u32], first: u32)
     requires { Leading links.old count marks.now first }
-    ensures { (ps : List ℕ) → Marked ps (came marks)
+    ensures { (ps : List ℕ) → Marked ps marks.now
         → left links ≡ put (came links) 0 (row_numbers (map (redirected first ps) (links_in (came links) count))) }
 {
     let mut k = 0;
@@ -145,7 +145,7 @@ fn lead_links(links: &mut [u32], count: usize, marks: &[u32], first: u32)
 // The same, and then the order-only rows of each parent are put in order again, which go by their children.
 pub fn redirect_links(links: &mut [u32], count: usize, marks: &[u32], first: u32)
     requires { Redirecting links.old count marks.now first }
-    ensures { (ps : List ℕ) → Marked ps (came marks)
+    ensures { (ps : List ℕ) → Marked ps marks.now
         → left links ≡ put (came links) 0 (row_numbers (in_order (map (redirected first ps) (links_in (came links) count)))) }
 {
     lead_links(links, count, marks, first);

@@ -4,7 +4,7 @@
 ghost use Rattle.std.specs.Prelude.{ℕ, ◌*◌, ◌≤◌, ◌≡◌, ◌&&◌, List, [], ◌∷◌, length, get_or, leb};
 ghost use Rattle.folds.specs.Lists.{part};
 ghost use Rattle.folds.specs.Moments.{came, left};
-ghost use Rattle.store_rules.specs.Store.{per_link};
+ghost use Rattle.store_rules.specs.Store.{lent, per_link};
 ghost use Rattle.store_rules.specs.Moments.{store_came_with, store_now_with};
 ghost use Rattle.store_object_rows.specs.Objects.{Laid, Written};
 ghost use Rattle.lookup_rules.specs.Written.{new_lookup, new_lookups};
@@ -36,7 +36,7 @@ pub struct Extent {
 // How many of these rows lead to the table.
 fn count_listings(links: &[u32], rows: LinkRows, table: u32) -> usize
     requires { (rows.first ≤ rows.after) × (per_link * rows.after ≤ length links.now) }
-    ensures { result ≡ listed_in (came links) rows table }
+    ensures { result ≡ listed_in links.now rows table }
 {
     let mut listings = 0;
     let mut k = rows.first;
@@ -94,7 +94,7 @@ pub fn measure(
     lookups: &[u32],
 ) -> Extent
     requires { Measuring (store_now_with «data» objects links counts) tables lookups.now }
-    ensures { (us : List ℕ) → length us ≡ tables → LookupsMeasured (store_came_with «data» objects links counts) table us (came lookups) result }
+    ensures { (us : List ℕ) → length us ≡ tables → LookupsMeasured (store_came_with «data» objects links counts) table us lookups.now result }
 {
     let mut fits = true;
     let mut needed = 0;
@@ -145,8 +145,8 @@ fn write_lookup(
     at: usize,
     row: usize,
 ) -> usize
-    requires { NewLookupReady (store_now_with «data» objects links counts) table tables lookup at row }
-    ensures { Written (came «data») (came objects) at row (lookup_with (store_came_with «data» objects links counts) table tables lookup ∷ [])
+    requires { NewLookupReady (lent «data».old objects.old links.now counts) table tables lookup at row }
+    ensures { Written (came «data») (came objects) at row (lookup_with (lent «data».old objects.old links.now counts) table tables lookup ∷ [])
         (left «data») (left objects) result }
 {
     let size = measure_lookup(data, objects, links, counts, table, tables, lookup);
@@ -167,10 +167,10 @@ pub fn write_lookups(
     tables: usize,
     lookups: &[u32],
 ) -> usize
-    requires { WritingLookups (store_now_with «data» objects links counts) table tables lookups.now }
+    requires { WritingLookups (lent «data».old objects.old links.now counts) table tables lookups.now }
     ensures { (us : List ℕ) → length us ≡ tables
         → Written (came «data») (came objects) (get_or counts 0 0) (get_or counts 1 0)
-        (new_lookups (store_came_with «data» objects links counts) table us (came lookups)) (left «data») (left objects) result }
+        (new_lookups (lent «data».old objects.old links.now counts) table us lookups.now) (left «data») (left objects) result }
 {
     let mut at = counts[0] as usize;
     let mut row = counts[1] as usize;

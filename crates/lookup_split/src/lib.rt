@@ -40,9 +40,9 @@ fn enter_at(
 ) -> u32
     requires { Placing (store_now «data» objects links counts) table opened glyphs.old classes.old cuts.now marks.now lookups.now }
     ensures { (w : Scratch)
-        → outcome result (cond (eqb result 0) (length (came cuts)) 0) (store_left «data» objects links counts) (left new_tables) (cleared w)
-        ≡ entered_unless (room_cases (store_came «data» objects links counts) table (came cuts) (came lookups) (came new_tables))
-        (store_came «data» objects links counts) table (came cuts) (came lookups) w (came new_tables) }
+        → outcome result (cond (eqb result 0) (length cuts.now) 0) (store_left «data» objects links counts) (left new_tables) (cleared w)
+        ≡ entered_unless (room_cases (store_came «data» objects links counts) table cuts.now lookups.now (came new_tables))
+        (store_came «data» objects links counts) table cuts.now lookups.now w (came new_tables) }
 {
     let measures = measure_all(
         data, objects, links, *counts, table, opened, lookups, glyphs, classes, cuts,
@@ -87,7 +87,7 @@ fn enter_planned(
     requires { EnterReady (store_now «data» objects links counts) list table plan glyphs.old classes.old cuts.now walk.old }
     ensures { (w : Scratch)
         → outcome result (left new_count) (store_left «data» objects links counts) (left new_tables) (cleared w)
-        ≡ entered_then (store_came «data» objects links counts) list table (part (came cuts) 0 plan.cuts) w (came new_tables) }
+        ≡ entered_then (store_came «data» objects links counts) list table (part cuts.now 0 plan.cuts) w (came new_tables) }
 {
     *new_count = 0;
     let count = plan.cuts;

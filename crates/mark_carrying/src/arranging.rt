@@ -24,7 +24,7 @@ fn arrange(
     class_count: u16,
 )
     requires { MarksNumbered array.now numbers.old classes.old glyph_set.old cuts.now class_count }
-    ensures { Arranged (left numbers) (left classes) (came cuts) class_count (entries_by (came array) (came numbers)) }
+    ensures { Arranged (left numbers) (left classes) cuts.now class_count (entries_by array.now (came numbers)) }
 {
     order_marks(array, numbers, classes, glyph_set);
     order_parts(numbers, classes, cuts, class_count);
@@ -42,7 +42,7 @@ pub fn arrange_glyphs(
 )
     requires { (l c : List ℕ) × (t : ℕ)
         × Arranging (lent «data».now objects.now l c) t opened opened.glyphs glyphs.old classes.old glyph_set.old cuts.now }
-    ensures { ArrangesGlyphs (came «data») (came objects) opened (came glyphs) (came classes) (came glyph_set) (came cuts) (left glyphs) (left classes) }
+    ensures { ArrangesGlyphs «data».now objects.now opened (came glyphs) (came classes) (came glyph_set) cuts.now (left glyphs) (left classes) }
 {
     let coverage = opened.coverage;
     let marks = opened.marks;
@@ -74,7 +74,7 @@ pub fn arrange_places(
 )
     requires { (l c : List ℕ) × (t : ℕ)
         × Arranging (lent «data».now objects.now l c) t opened opened.marks.count places.old classes.old glyph_set.old cuts.now }
-    ensures { ArrangesPlaces (came «data») (came objects) opened (came places) (came classes) (came glyph_set) (came cuts) (left places) (left classes) }
+    ensures { ArrangesPlaces «data».now objects.now opened (came places) (came classes) (came glyph_set) cuts.now (left places) (left classes) }
 {
     let marks = opened.marks;
     number_u16(places);

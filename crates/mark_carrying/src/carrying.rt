@@ -21,7 +21,7 @@ use ot_wire::put_u16;
 fn keep_classes(data: &mut [u8], objects: &[u32], table: u32, count: u16)
     requires table_in_bounds { 2 * table < length objects.now }
     requires class_count_at_in_bounds { get_or objects.now (2 * table) 0 + class_count_at + 1 < length «data».old }
-    ensures { left «data» ≡ put (came «data») (get_or (came objects) (2 * table) 0 + class_count_at) (be16 count) }
+    ensures { left «data» ≡ put (came «data») (get_or objects.now (2 * table) 0 + class_count_at) (be16 count) }
 {
     let head = objects[2 * (table as usize)] as usize;
     put_u16(data, head + 6, count);
@@ -45,9 +45,9 @@ fn relink(
         × Relinking (lent b o links.old counts) table opened «data».now objects.now places.old classes.old glyph_set.old
         cuts.now }
     ensures { (b o : List ℕ)
-        → Relinking (lent b o (came links) counts) table opened (came «data») (came objects) (came places) (came classes) (came glyph_set)
-        (came cuts)
-        → LinksSplit (lent b o (came links) counts) table (came cuts) (left links) result }
+        → Relinking (lent b o (came links) counts) table opened «data».now objects.now (came places) (came classes) (came glyph_set)
+        cuts.now
+        → LinksSplit (lent b o (came links) counts) table cuts.now (left links) result }
 {
     let marks = opened.marks;
     let bases = opened.bases;
@@ -81,7 +81,7 @@ pub fn carry_out(
 )
     requires { Carrying (store_now «data» objects links counts) table opened needs glyphs.old classes.old glyph_set.old cuts.now
         new_tables.old }
-    ensures { CutAt (store_came «data» objects links counts) table (came cuts) (came new_tables) (store_left «data» objects links counts)
+    ensures { CutAt (store_came «data» objects links counts) table cuts.now (came new_tables) (store_left «data» objects links counts)
         (left new_tables) }
 {
     let bases = opened.bases;

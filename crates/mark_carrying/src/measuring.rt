@@ -23,8 +23,8 @@ fn links_from(links: &[u32], counts: [u32; 3], object: u32) -> usize
     requires { InOrder links.now (get_or counts 2 0) × (object < 65536) }
     ensures upper_bound { result ≤ get_or counts 2 0 }
     ensures by_index { (b o : List ℕ)
-        → sound (lent b o (came links) counts) ≡ true
-        → result ≡ links_from (lent b o (came links) counts) object }
+        → sound (lent b o links.now counts) ≡ true
+        → result ≡ links_from (lent b o links.now counts) object }
 {
     let rows = rows_of(links, counts[2] as usize, object);
     rows.after - rows.first
@@ -59,8 +59,8 @@ pub fn measure_needs(
         × Arranging (store_now_with «data» objects links counts) t opened opened.glyphs glyphs.old classes.old glyph_set.old cuts.now }
     ensures { (t : ℕ)
         → Arranging (store_came_with «data» objects links counts) t opened opened.glyphs (came glyphs) (came classes) (came glyph_set)
-        (came cuts)
-        → Measured (store_came_with «data» objects links counts) t (part (left glyphs) 0 opened.marks.count) (left classes) (came cuts) result }
+        cuts.now
+        → Measured (store_came_with «data» objects links counts) t (part (left glyphs) 0 opened.marks.count) (left classes) cuts.now result }
 {
     let marks = opened.marks;
     let bases = opened.bases;

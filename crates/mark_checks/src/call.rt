@@ -1,6 +1,5 @@
 // All that a call asks of a table before it needs its scratch: the checks 1 to 6, and the slots of check 7.
 ghost use Rattle.std.specs.Prelude.{List, ℕ};
-ghost use Rattle.folds.specs.Moments.{came};
 ghost use Rattle.store_rules.specs.Store.{lent};
 ghost use Rattle.store_rules.specs.Moments.{store_came_with};
 ghost use Rattle.mark_checks.specs.Opens.{Opens};
@@ -38,7 +37,7 @@ fn check_lent(
     lengths: Lengths,
 ) -> Checked
     requires { (b o : List ℕ) × Opens (lent b o links.now counts) table opened }
-    ensures { (b o : List ℕ) → Opens (lent b o (came links) counts) table opened → Calls (lent b o (came links) counts) table lengths result }
+    ensures { (b o : List ℕ) → Opens (lent b o links.now counts) table opened → Calls (lent b o links.now counts) table lengths result }
 {
     if is_short(lengths, counts[1], opened.glyphs, opened.classes) {
         return Checked::Settled(Answer::ShortScratch);

@@ -89,7 +89,7 @@ fn copy_marks(
 ) -> usize
     requires source { Source links.old counts array rows × (length places.now ≤ 16777216) }
     requires rows_room { RowsRoom links.old counts at (mark_copies (in_use links.old counts) array places.now parent) }
-    ensures { Copied (came links) at (mark_copies (in_use (came links) counts) array (came places) parent) (left links) result }
+    ensures { Copied (came links) at (mark_copies (in_use (came links) counts) array places.now parent) (left links) result }
 {
     let mut next = at;
     let mut k = 0;
@@ -186,7 +186,7 @@ fn copy_arrays(
     requires sources { Sources links.old counts arrays rows × (length places.now ≤ 16777216) }
     requires lo_le_hi { (lo ≤ hi) × (hi ≤ arrays.classes) × (parent + 1 < 4294967296) }
     requires rows_room { RowsRoom links.old counts at (array_copies (in_use links.old counts) arrays places.now lo hi parent) }
-    ensures { Copied (came links) at (array_copies (in_use (came links) counts) arrays (came places) lo hi parent) (left links) result }
+    ensures { Copied (came links) at (array_copies (in_use (came links) counts) arrays places.now lo hi parent) (left links) result }
 {
     let middle = copy_marks(
         links,
@@ -228,7 +228,7 @@ fn copy_table(
     requires sources { Sources links.old counts arrays rows × (length places.now ≤ 16777216) }
     requires lo_le_hi { (lo ≤ hi) × (hi ≤ arrays.classes) × (table + 3 < 4294967296) }
     requires rows_room { RowsRoom links.old counts at (table_copies (in_use links.old counts) arrays places.now lo hi table) }
-    ensures { Copied (came links) at (table_copies (in_use (came links) counts) arrays (came places) lo hi table) (left links) result }
+    ensures { Copied (came links) at (table_copies (in_use (came links) counts) arrays places.now lo hi table) (left links) result }
 {
     let own = [2u32, 8, 10];
     let heads = [2u32, 4, 8, 10];
@@ -264,7 +264,7 @@ fn copy_tables(
     requires places_len_bound { (length places.now ≤ 16777216) × (first + per_table * length cuts.now ≤ 4294967296) }
     requires part_end { PartEnd classes.now 0 (get_or cuts.now 0 0) start }
     requires rows_room { RowsRoom links.old counts at (tables_copies (in_use links.old counts) arrays places.now classes.now cuts.now first) }
-    ensures { Copied (came links) at (tables_copies (in_use (came links) counts) arrays (came places) (came classes) (came cuts) first) (left links) result }
+    ensures { Copied (came links) at (tables_copies (in_use (came links) counts) arrays places.now classes.now cuts.now first) (left links) result }
 {
     let mut held = [0u32; 4096];
     let mut from = start;
@@ -305,7 +305,7 @@ fn copy_new(
 ) -> usize
     requires { CopyReady links.old counts arrays places.now classes.now cuts.now }
     ensures { Copied (came links) (get_or counts 2 0)
-        (new_copies (in_use (came links) counts) arrays (came places) (came classes) (came cuts) (get_or counts 1 0)) (left links) result }
+        (new_copies (in_use (came links) counts) arrays places.now classes.now cuts.now (get_or counts 1 0)) (left links) result }
 {
     let first = counts[1] as usize;
     let count = counts[2] as usize;
@@ -345,8 +345,8 @@ pub fn copy_links(
     cuts: &[u16],
 ) -> usize
     requires { SplittingLent links.old counts table arrays places.now classes.now cuts.now }
-    ensures { (b o : List ℕ) → Splitting (lent b o (came links) counts) table arrays (came places) (came classes) (came cuts)
-        → LinksSplit (lent b o (came links) counts) table (came cuts) (left links) result }
+    ensures { (b o : List ℕ) → Splitting (lent b o (came links) counts) table arrays places.now classes.now cuts.now
+        → LinksSplit (lent b o (came links) counts) table cuts.now (left links) result }
 {
     let count = copy_new(links, counts, arrays, places, classes, cuts);
     let own = [2u32, 8, 10];

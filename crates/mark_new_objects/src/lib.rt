@@ -22,7 +22,7 @@ const PER_TABLE: usize = 4;
 // How many bytes the coverage of a table of these glyphs takes, and its arrays, of so many bases and classes.
 fn parts_length(glyphs: &[u16], bases: u16, classes: u16) -> usize
     requires { length glyphs.now < 65536 }
-    ensures { result ≡ parts_length (came glyphs) bases classes }
+    ensures { result ≡ parts_length glyphs.now bases classes }
 {
     let slots = (bases as usize) * (classes as usize);
     coverage_length(glyphs) + (2 + 4 * glyphs.len()) + (2 + 2 * slots)
@@ -37,7 +37,7 @@ pub fn new_length(
     bases: u16,
 ) -> usize
     requires { PlannedParts glyphs.now classes.now cuts.now class_count }
-    ensures { result ≡ length (join (objects_of (came glyphs) (came classes) bases class_count (came cuts))) }
+    ensures { result ≡ length (join (objects_of glyphs.now classes.now bases class_count cuts.now)) }
 {
     let kept = cuts[0];
     let mut at = part_end(classes, 0, kept);
@@ -69,7 +69,7 @@ fn write_parts(
 ) -> usize
     requires range_marks { RangeMarks glyphs.now classes.now lo hi }
     requires objects_room_lem { ObjectsRoom «data».old objects.old at row (parts_of glyphs.now classes.now bases lo hi) }
-    ensures { Written (came «data») (came objects) at row (parts_of (came glyphs) (came classes) bases lo hi) (left «data») (left objects) result }
+    ensures { Written (came «data») (came objects) at row (parts_of glyphs.now classes.now bases lo hi) (left «data») (left objects) result }
 {
     let end = write_coverage(glyphs, data, at);
     put_object(objects, row, at as u32, end as u32);
@@ -90,7 +90,7 @@ fn write_table_objects(
 ) -> usize
     requires range_marks { RangeMarks glyphs.now classes.now lo hi }
     requires objects_room_lem { ObjectsRoom «data».old objects.old at row (new_table lo hi ∷ parts_of glyphs.now classes.now bases lo hi) }
-    ensures { Written (came «data») (came objects) at row (new_table lo hi ∷ parts_of (came glyphs) (came classes) bases lo hi) (left «data»)
+    ensures { Written (came «data») (came objects) at row (new_table lo hi ∷ parts_of glyphs.now classes.now bases lo hi) (left «data»)
         (left objects) result }
 {
     let end = write_table(data, lo, hi, at);
@@ -116,7 +116,7 @@ fn write_tables(
     requires part_end { PartEnd classes.now 0 (get_or cuts.now 0 0) start }
     requires objects_room_lem { ObjectsRoom «data».old objects.old byte_count object_count (tables_of glyphs.now classes.now bases class_count cuts.now) }
     ensures { Written (came «data») (came objects) byte_count object_count
-        (tables_of (came glyphs) (came classes) bases class_count (came cuts)) (left «data») (left objects) result }
+        (tables_of glyphs.now classes.now bases class_count cuts.now) (left «data») (left objects) result }
 {
     let mut from = start;
     let mut at = byte_count;
@@ -159,7 +159,7 @@ pub fn write_objects(
     requires planned_parts { PlannedParts glyphs.now classes.now cuts.now class_count }
     requires objects_room_lem { ObjectsRoom «data».old objects.old byte_count object_count (objects_of glyphs.now classes.now bases class_count cuts.now) }
     ensures { Written (came «data») (came objects) byte_count object_count
-        (objects_of (came glyphs) (came classes) bases class_count (came cuts)) (left «data») (left objects) result }
+        (objects_of glyphs.now classes.now bases class_count cuts.now) (left «data») (left objects) result }
 {
     let kept = cuts[0];
     let first = part_end(classes, 0, kept);

@@ -39,7 +39,7 @@ fn put_mark(data: &mut [u8], at: usize, class: u16)
 fn write_mark_array(data: &mut [u8], classes: &[u16], lo: u16, hi: u16, at: usize) -> usize
     requires classes { Classes classes.now lo hi }
     requires classes_in_bounds { at + (2 + 4 * length classes.now) ≤ length «data».old }
-    ensures { Laid (came «data») at (mark_array_of lo (came classes)) (left «data») result }
+    ensures { Laid (came «data») at (mark_array_of lo classes.now) (left «data») result }
 {
     put_u16(data, at, classes.len() as u16);
     let first = at + 2;
@@ -75,7 +75,7 @@ pub fn write_arrays(
 ) -> usize
     requires classes { Classes classes.now lo hi }
     requires objects_room_lem { ObjectsRoom «data».old objects.old at row (arrays_of classes.now bases lo hi) }
-    ensures { Written (came «data») (came objects) at row (arrays_of (came classes) bases lo hi) (left «data») (left objects) result }
+    ensures { Written (came «data») (came objects) at row (arrays_of classes.now bases lo hi) (left «data») (left objects) result }
 {
     let middle = write_mark_array(data, classes, lo, hi, at);
     put_object(objects, row, at as u32, middle as u32);

@@ -16,7 +16,7 @@ use ot_wire::u16_at;
 // Writes the class of each mark of a mark array.
 fn classes_into(array: &[u8], classes: &mut [u16])
     requires { 2 + 4 * length classes.old ≤ length array.now }
-    ensures { left classes ≡ upto (mark_class (came array)) (length (came classes)) }
+    ensures { left classes ≡ upto (mark_class array.now) (length (came classes)) }
 {
     let mut i: usize = 0;
     while i < classes.len() {
@@ -32,7 +32,7 @@ pub fn order_marks(array: &[u8], numbers: &mut [u16], classes: &mut [u16], glyph
     requires numbers_in_bounds { 2 + 4 * length numbers.old ≤ length array.now }
     requires by_index { (i j : ℕ) → i < j → j < length numbers.old → get_or numbers.old i 0 < get_or numbers.old j 0 }
     requires in_bounds { 8192 ≤ length glyph_set.old }
-    ensures { ByClass (entries_by (came array) (came numbers)) (left numbers) (left classes) }
+    ensures { ByClass (entries_by array.now (came numbers)) (left numbers) (left classes) }
 {
     classes_into(array, classes);
     order_by_class(classes, numbers, glyph_set);
@@ -43,7 +43,7 @@ pub fn order_places(array: &[u8], places: &mut [u16], classes: &mut [u16], glyph
     requires classes_len { (length classes.old ≡ length places.old) × (length places.old < 65536) }
     requires places_in_bounds { 2 + 4 * length places.old ≤ length array.now }
     requires in_bounds { 8192 ≤ length glyph_set.old }
-    ensures { ByClass (places_by (came array) (length (came places))) (left places) (left classes) }
+    ensures { ByClass (places_by array.now (length (came places))) (left places) (left classes) }
 {
     number_u16(places);
     order_marks(array, places, classes, glyph_set);

@@ -16,7 +16,7 @@ use store_reader::{bytes_of, size_of};
 // What the cut rule asks of the table. The marks of its walks come after that of the walk for check 7.
 fn info_of(objects: &[u32], opened: MarkTable) -> TableInfo
     requires { Inside 16777216 objects.now opened.base_coverage.object }
-    ensures { result ≡ info_of (came objects) opened }
+    ensures { result ≡ info_of objects.now opened }
 {
     let cover = opened.base_coverage;
     let marks = opened.marks;

@@ -41,7 +41,7 @@ pub fn class_size(
 ) -> u64
     requires class_lt_classes { (class < info.classes) × (base_slot (info.bases * info.classes) ≤ orders) }
     requires rows_known { RowsKnown links.now counts info rows × Goes objects.now links.now counts epoch walk.old }
-    ensures { WalksClass (came objects) (came links) counts info class (came places) epoch (came walk) (left walk) result }
+    ensures { WalksClass objects.now links.now counts info class places.now epoch (came walk) (left walk) result }
 {
     let bases = column_size(
         objects,
@@ -86,7 +86,7 @@ pub fn class_size_at_cut(
 ) -> u64
     requires class_lt_classes { (class < info.classes) × (base_slot (info.bases * info.classes) ≤ orders) }
     requires rows_known { RowsKnown links.now counts info rows × Goes objects.now links.now counts epoch walk.old }
-    ensures { WalksAtCut (came objects) (came links) counts info class (came places) size edition epoch (came walk) (left walk) result }
+    ensures { WalksAtCut objects.now links.now counts info class places.now size edition epoch (came walk) (left walk) result }
 {
     if edition == 2 {
         return class_size(
@@ -110,7 +110,7 @@ fn slot_size(
 ) -> Slot
     requires position_bound { position + 1 ≤ orders }
     requires walkable { Walkable objects.now links.now counts array rows epoch walk.old }
-    ensures { WalksSlot (came objects) (came links) counts array position epoch (came walk) (left walk) result }
+    ensures { WalksSlot objects.now links.now counts array position epoch (came walk) (left walk) result }
 {
     let count = counts[2] as usize;
     let row = row_near(links, count, rows.first, rows.after, near, array, position);
@@ -136,7 +136,7 @@ fn column_size(
 ) -> u64
     requires class_lt_classes { (class < classes) × (base_slot (bases * classes) ≤ orders) }
     requires walkable { Walkable objects.now links.now counts array rows epoch walk.old }
-    ensures { WalksAt (came objects) (came links) counts array (column_slots bases classes class) epoch (came walk) (left walk) result }
+    ensures { WalksAt objects.now links.now counts array (column_slots bases classes class) epoch (came walk) (left walk) result }
 {
     let each = rows_each(rows, bases as usize, 0);
     let mut near = rows.first;
@@ -175,7 +175,7 @@ fn marks_size(
     walk: &mut [u32],
 ) -> u64
     requires { Walkable objects.now links.now counts array rows epoch walk.old }
-    ensures { WalksAt (came objects) (came links) counts array (map mark_slot (came places)) epoch (came walk) (left walk) result }
+    ensures { WalksAt objects.now links.now counts array (map mark_slot places.now) epoch (came walk) (left walk) result }
 {
     let mut size: u64 = 0;
     let mut i: usize = 0;

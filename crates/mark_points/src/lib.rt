@@ -39,7 +39,7 @@ pub fn compute_split_points(
     cuts: &mut [u16],
 ) -> usize
     requires { (b : List ℕ) × (t : ℕ) × PointsReady (lent b objects.now links.now counts) t info places.now classes.now walk.old cuts.old }
-    ensures { FindsPlaces settings (came objects) (came links) counts info (came places) (came classes) (came walk) (came cuts) (left cuts) result }
+    ensures { FindsPlaces settings objects.now links.now counts info places.now classes.now (came walk) (came cuts) (left cuts) result }
 {
     let count = counts[2] as usize;
     let marks = rows_of(links, count, info.mark_array);
@@ -85,7 +85,7 @@ fn weigh_class(
         × (t : ℕ)
         × (d : List ℕ)
         × Below settings (lent b objects.now links.now counts) t info places.now classes.now d class columns walk.old cuts.old) }
-    ensures { Weighs settings (came objects) (came links) counts info (came places) (came classes) class columns (came walk) (came cuts) result (left walk)
+    ensures { Weighs settings objects.now links.now counts info places.now classes.now class columns (came walk) (came cuts) result (left walk)
         (left cuts) }
 {
     let filling = columns.filling;

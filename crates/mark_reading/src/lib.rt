@@ -2,7 +2,7 @@
 #![tactic(auto)]
 
 ghost use Rattle.std.specs.Prelude.{◌≡◌, List, ℕ, ◌<◌};
-ghost use Rattle.folds.specs.Moments.{came, left};
+ghost use Rattle.folds.specs.Moments.{left};
 ghost use Rattle.ot_layouts.specs.Coverage.{coverage_of};
 ghost use Rattle.ot_coverage_reader.specs.Coverage.{place_found};
 ghost use Rattle.store_rules.specs.Store.{lent, bytes_of};
@@ -38,7 +38,7 @@ pub enum Attachment {
 // The glyph's place in a coverage, if it is one of the first `count`.
 fn place_below(data: &[u8], objects: &[u32], coverage: Part, glyph: u16, count: u16) -> Place
     requires { ReadPart coverage_of «data».now objects.now coverage }
-    ensures { (l c : List ℕ) → place_found result ≡ place_below (bytes_of (lent (came «data») (came objects) l c) coverage.object) glyph count }
+    ensures { (l c : List ℕ) → place_found result ≡ place_below (bytes_of (lent «data».now objects.now l c) coverage.object) glyph count }
 {
     let place = place_in(data, objects, coverage, glyph);
     let Place::At(i) = place else {

@@ -36,7 +36,7 @@ pub fn split_at(
     new_tables: &mut [u32],
 ) -> bool
     requires { Cuttable (store_now «data» objects links counts) table opened glyphs.old classes.old glyph_set.old cuts.now }
-    ensures { CutIfRoom (store_came «data» objects links counts) table (came cuts) (came new_tables) result (store_left «data» objects links counts)
+    ensures { CutIfRoom (store_came «data» objects links counts) table cuts.now (came new_tables) result (store_left «data» objects links counts)
         (left new_tables) }
 {
     let needs = measure_needs(
@@ -89,8 +89,8 @@ fn split_planned(
     ensures { (w : Scratch)
         → outcome result (left new_count) (store_left «data» objects links counts) (left new_tables) (cleared w)
         ≡ split_unless
-        (last_cases (store_came «data» objects links counts) table (part (came cuts) 0 plan.cuts) (came new_tables))
-        (store_came «data» objects links counts) table (part (came cuts) 0 plan.cuts) w (came new_tables) }
+        (last_cases (store_came «data» objects links counts) table (part cuts.now 0 plan.cuts) (came new_tables))
+        (store_came «data» objects links counts) table (part cuts.now 0 plan.cuts) w (came new_tables) }
 {
     *new_count = 0;
     let count = plan.cuts;

@@ -15,7 +15,7 @@ use ot_wire::u16_at;
 pub fn read_ranges(part: &[u8]) -> Reading
     requires in_bounds { 4 ≤ length part.now }
     requires part_value { u16_at part.now 0 ≡ 2 }
-    ensures { result ≡ class_def_of (came part) }
+    ensures { result ≡ class_def_of part.now }
 {
     let count = u16_at(part, 2) as usize;
     if ranges_fit(part, count) {
@@ -30,7 +30,7 @@ pub fn read_ranges(part: &[u8]) -> Reading
 
 pub fn class_in_ranges(part: &[u8], count: usize, glyph: u16) -> u16
     requires { ranges_fit part.now count ≡ true }
-    ensures { result ≡ range_class (came part) count glyph }
+    ensures { result ≡ range_class part.now count glyph }
 {
     let place = range_of(part, count, glyph);
     match place {
@@ -42,7 +42,7 @@ pub fn class_in_ranges(part: &[u8], count: usize, glyph: u16) -> u16
 // Whether there is a range `k`, and it ends below the glyph.
 pub fn ends_below(part: &[u8], count: usize, k: usize, glyph: u16) -> bool
     requires { length part.now ≡ 4 + 6 * count }
-    ensures { result ≡ (ltb k count && ltb (end_at (came part) k) glyph) }
+    ensures { result ≡ (ltb k count && ltb (end_at part.now k) glyph) }
 {
     if k < count {
         u16_at(part, 6 + 6 * k) < glyph
@@ -54,7 +54,7 @@ pub fn ends_below(part: &[u8], count: usize, k: usize, glyph: u16) -> bool
 // The class beside range `k` where there is one and it starts no higher than the glyph, else 0.
 pub fn class_beside(part: &[u8], count: usize, k: usize, glyph: u16) -> u16
     requires { length part.now ≡ 4 + 6 * count }
-    ensures { result ≡ cond (ltb k count && leb (start_at (came part) k) glyph) (beside_at (came part) k) 0 }
+    ensures { result ≡ cond (ltb k count && leb (start_at part.now k) glyph) (beside_at part.now k) 0 }
 {
     if count <= k {
         return 0;
@@ -70,7 +70,7 @@ pub fn range_classes(part: &[u8], count: usize, glyphs: &[u16], out: &mut [u16])
     requires count_value { ranges_fit part.now count ≡ true }
     requires ascending { Ascending glyphs.now }
     requires glyphs_in_bounds { length glyphs.now ≤ length out.old }
-    ensures { left out ≡ put (came out) 0 (map (range_class (came part) count) (came glyphs)) }
+    ensures { left out ≡ put (came out) 0 (map (range_class part.now count) glyphs.now) }
 {
     let mut k: usize = 0;
     let mut i: usize = 0;

@@ -18,7 +18,7 @@ use list::{class_in_list, list_classes, read_list};
 
 // What a class definition is read into; everything malformed is unreadable.
 pub fn read_class_def(part: &[u8]) -> Reading
-    ensures { result ≡ class_def_of (came part) }
+    ensures { result ≡ class_def_of part.now }
 {
     if part.len() < 4 {
         return Reading::Unreadable;
@@ -36,7 +36,7 @@ pub fn read_class_def(part: &[u8]) -> Reading
 // The class of a glyph, 0 where it is not named.
 pub fn class_of(part: &[u8], header: Header, glyph: u16) -> u16
     requires { class_def_of part.now ≡ Reading.Readable header }
-    ensures { result ≡ class_of (came part) glyph }
+    ensures { result ≡ class_of part.now glyph }
 {
     let kind = header.kind;
     let count = header.count;
@@ -51,7 +51,7 @@ pub fn classes_into(part: &[u8], header: Header, glyphs: &[u16], out: &mut [u16]
     requires part_value { class_def_of part.now ≡ Reading.Readable header }
     requires ascending { Ascending glyphs.now }
     requires glyphs_in_bounds { length glyphs.now ≤ length out.old }
-    ensures { left out ≡ put (came out) 0 (map (class_of (came part)) (came glyphs)) }
+    ensures { left out ≡ put (came out) 0 (map (class_of part.now) glyphs.now) }
 {
     let kind = header.kind;
     let count = header.count;

@@ -11,7 +11,7 @@ use ot_wire::u16_at;
 
 pub fn read_list(part: &[u8]) -> Reading
     requires { u16_at part.now 0 ≡ 1 }
-    ensures { result ≡ class_def_of (came part) }
+    ensures { result ≡ class_def_of part.now }
 {
     if part.len() < 6 {
         return Reading::Unreadable;
@@ -32,7 +32,7 @@ pub fn read_list(part: &[u8]) -> Reading
 
 pub fn class_in_list(part: &[u8], count: usize, glyph: u16) -> u16
     requires { length part.now ≡ 6 + 2 * count }
-    ensures { result ≡ list_class (came part) count glyph }
+    ensures { result ≡ list_class part.now count glyph }
 {
     let start = u16_at(part, 2);
     if glyph < start {
@@ -50,7 +50,7 @@ pub fn class_in_list(part: &[u8], count: usize, glyph: u16) -> u16
 pub fn list_classes(part: &[u8], count: usize, glyphs: &[u16], out: &mut [u16])
     requires part_len { length part.now ≡ 6 + 2 * count }
     requires glyphs_in_bounds { length glyphs.now ≤ length out.old }
-    ensures { left out ≡ put (came out) 0 (map (list_class (came part) count) (came glyphs)) }
+    ensures { left out ≡ put (came out) 0 (map (list_class part.now count) glyphs.now) }
 {
     let mut i: usize = 0;
     while i < glyphs.len() {

@@ -16,8 +16,8 @@ pub fn put_runs(glyphs: &[u16], classes: &[u16], first: u16, out: &mut [u8], at:
     requires classes_len { length classes.now ≡ length glyphs.now }
     requires ascends { Ascends 0 (plain glyphs.now) }
     requires first_in_bounds { at + 6 * length (runs (named (reduced_entries glyphs.now classes.now first))) ≤ length out.old }
-    ensures out_value { left out ≡ put (came out) at (class_ranges (runs (named (reduced_entries (came glyphs) (came classes) first)))) }
-    ensures value { result ≡ at + 6 * length (runs (named (reduced_entries (came glyphs) (came classes) first))) }
+    ensures out_value { left out ≡ put (came out) at (class_ranges (runs (named (reduced_entries glyphs.now classes.now first)))) }
+    ensures value { result ≡ at + 6 * length (runs (named (reduced_entries glyphs.now classes.now first))) }
 {
     let mut end = at;
     let mut k: usize = 0;
@@ -50,7 +50,7 @@ pub fn write_ranges(
     requires count_bound { count < 65536 }
     requires count_in_bounds { at + (4 + 6 * count) ≤ length out.old }
     ensures out_value { left out ≡ put (came out) at
-        (be16 2 ++ be16 count ++ class_ranges (runs (named (reduced_entries (came glyphs) (came classes) first)))) }
+        (be16 2 ++ be16 count ++ class_ranges (runs (named (reduced_entries glyphs.now classes.now first)))) }
     ensures value { result ≡ at + (4 + 6 * count) }
 {
     put_u16(out, at, 2);

@@ -21,7 +21,7 @@ use named::{outline_of, ranges_win};
 pub fn class_def_length(glyphs: &[u16], classes: &[u16], first: u16) -> usize
     requires classes_len { length classes.now ≡ length glyphs.now }
     requires ascending { Ascending glyphs.now }
-    ensures { result ≡ length (class_def_bytes (reduced_entries (came glyphs) (came classes) first)) }
+    ensures { result ≡ length (class_def_bytes (reduced_entries glyphs.now classes.now first)) }
 {
     let outline = outline_of(glyphs, classes, first);
     let runs = outline.runs;
@@ -45,8 +45,8 @@ pub fn write_class_def(
     requires ascending { Ascending glyphs.now }
     requires first_len_bound { length (runs (named (reduced_entries glyphs.now classes.now first))) < 65536 }
     requires first_in_bounds { at + length (class_def_bytes (reduced_entries glyphs.now classes.now first)) ≤ length out.old }
-    ensures out_value { left out ≡ put (came out) at (class_def_bytes (reduced_entries (came glyphs) (came classes) first)) }
-    ensures value { result ≡ at + length (class_def_bytes (reduced_entries (came glyphs) (came classes) first)) }
+    ensures out_value { left out ≡ put (came out) at (class_def_bytes (reduced_entries glyphs.now classes.now first)) }
+    ensures value { result ≡ at + length (class_def_bytes (reduced_entries glyphs.now classes.now first)) }
 {
     let outline = outline_of(glyphs, classes, first);
     let runs = outline.runs;

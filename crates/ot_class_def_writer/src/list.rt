@@ -20,7 +20,7 @@ pub fn reduced(class: u16, first: u16) -> u16
 
 // Whether entry `k` is that of the glyph.
 pub fn stands(glyphs: &[u16], k: usize, glyph: usize) -> bool
-    ensures { result ≡ (ltb k (length (came glyphs)) && eqb (get_or (came glyphs) k 0) glyph) }
+    ensures { result ≡ (ltb k (length glyphs.now) && eqb (get_or glyphs.now k 0) glyph) }
 {
     if k < glyphs.len() {
         glyphs[k] as usize == glyph
@@ -42,7 +42,7 @@ pub fn put_classes(
     requires ascends { Ascends 0 (plain glyphs.now) }
     requires outlines { Outlines glyphs.now classes.now first outline }
     requires span_in_bounds { at + 2 * outline.span ≤ length out.old }
-    ensures { left out ≡ put (came out) at (class_row (named (reduced_entries (came glyphs) (came classes) first)) outline.start outline.span) }
+    ensures { left out ≡ put (came out) at (class_row (named (reduced_entries glyphs.now classes.now first)) outline.start outline.span) }
 {
     let start = outline.start;
     let span = outline.span;
@@ -76,7 +76,7 @@ pub fn write_list(
     requires span_in_bounds { at + (6 + 2 * outline.span) ≤ length out.old }
     ensures out_value { left out
         ≡ put (came out) at
-        (be16 1 ++ be16 outline.start ++ be16 outline.span ++ class_row (named (reduced_entries (came glyphs) (came classes) first))
+        (be16 1 ++ be16 outline.start ++ be16 outline.span ++ class_row (named (reduced_entries glyphs.now classes.now first))
         outline.start outline.span) }
     ensures value { result ≡ at + (6 + 2 * outline.span) }
 {

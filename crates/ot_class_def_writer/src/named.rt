@@ -2,7 +2,6 @@
 ghost use Rattle.std.specs.Prelude.{◌≡◌, ◌≤◌, ◌<◌, length};
 ghost use Rattle.ot_layouts.specs.Coverage.{runs, plain, Ascends};
 ghost use Rattle.ot_layouts.specs.ClassDef.{named};
-ghost use Rattle.folds.specs.Moments.{came};
 ghost use Rattle.ot_class_def_writer.specs.Entries.{reduced_entries, joins_at, RunTo, FirstNamed, LastNamed, Outlines};
 ghost use Rattle.ot_class_def_writer.specs.Written.{ranges_win};
 
@@ -19,7 +18,7 @@ pub struct Outline {
 pub fn joined(glyphs: &[u16], classes: &[u16], k: usize) -> bool
     requires classes_len { length classes.now ≡ length glyphs.now }
     requires k_in_bounds { k < length glyphs.now }
-    ensures { result ≡ joins_at (came glyphs) (came classes) k }
+    ensures { result ≡ joins_at glyphs.now classes.now k }
 {
     let next = k + 1;
     if next < glyphs.len() {
@@ -39,7 +38,7 @@ pub fn joined(glyphs: &[u16], classes: &[u16], k: usize) -> bool
 pub fn run_last(glyphs: &[u16], classes: &[u16], k: usize) -> usize
     requires classes_len { length classes.now ≡ length glyphs.now }
     requires k_in_bounds { k < length glyphs.now }
-    ensures { RunTo (came glyphs) (came classes) k result }
+    ensures { RunTo glyphs.now classes.now k result }
 {
     let mut last = k;
     while joined(glyphs, classes, last) {
@@ -52,8 +51,8 @@ pub fn run_last(glyphs: &[u16], classes: &[u16], k: usize) -> usize
 pub fn count_runs(glyphs: &[u16], classes: &[u16], first: u16) -> usize
     requires classes_len { length classes.now ≡ length glyphs.now }
     requires ascends { Ascends 0 (plain glyphs.now) }
-    ensures value { result ≡ length (runs (named (reduced_entries (came glyphs) (came classes) first))) }
-    ensures upper_bound { result ≤ length (came glyphs) }
+    ensures value { result ≡ length (runs (named (reduced_entries glyphs.now classes.now first))) }
+    ensures upper_bound { result ≤ length glyphs.now }
 {
     let mut count: usize = 0;
     let mut k: usize = 0;
@@ -70,7 +69,7 @@ pub fn count_runs(glyphs: &[u16], classes: &[u16], first: u16) -> usize
 
 // The first entry that is named, or the number of entries.
 pub fn first_named(classes: &[u16], first: u16) -> usize
-    ensures { FirstNamed (came classes) first result }
+    ensures { FirstNamed classes.now first result }
 {
     let mut from: usize = 0;
     while from < classes.len() {
@@ -84,7 +83,7 @@ pub fn first_named(classes: &[u16], first: u16) -> usize
 
 // One past the last entry that is named, or 0.
 pub fn last_named(classes: &[u16], first: u16) -> usize
-    ensures { LastNamed (came classes) first result }
+    ensures { LastNamed classes.now first result }
 {
     let mut end = classes.len();
     while 0 < end {
@@ -100,7 +99,7 @@ pub fn last_named(classes: &[u16], first: u16) -> usize
 pub fn outline_of(glyphs: &[u16], classes: &[u16], first: u16) -> Outline
     requires classes_len { length classes.now ≡ length glyphs.now }
     requires ascends { Ascends 0 (plain glyphs.now) }
-    ensures { Outlines (came glyphs) (came classes) first result }
+    ensures { Outlines glyphs.now classes.now first result }
 {
     let runs = count_runs(glyphs, classes, first);
     let from = first_named(classes, first);

@@ -13,7 +13,7 @@ use ot_wire::u16_at;
 // Whether each range is numbered by the glyphs before it.
 pub fn indices_fit(part: &[u8], count: usize) -> bool
     requires { ranges_fit part.now count ≡ true }
-    ensures { result ≡ indexed (came part) count }
+    ensures { result ≡ indexed part.now count }
 {
     let mut total: usize = 0;
     let mut k: usize = 0;
@@ -33,7 +33,7 @@ pub fn indices_fit(part: &[u8], count: usize) -> bool
 // How many glyphs there are: those before the last range, and its own.
 pub fn count_in_ranges(part: &[u8], count: usize) -> usize
     requires { AsRanges part.now count }
-    ensures { (result ≡ length (cover_glyphs (came part))) × (result ≤ 65536) }
+    ensures { (result ≡ length (cover_glyphs part.now)) × (result ≤ 65536) }
 {
     if count == 0 {
         return 0;
@@ -48,7 +48,7 @@ pub fn count_in_ranges(part: &[u8], count: usize) -> usize
 // The glyph's place: that of the range's start, and on from there.
 pub fn place_in_ranges(part: &[u8], count: usize, glyph: u16) -> Place
     requires { AsRanges part.now count }
-    ensures { place_found result ≡ cover_place (came part) glyph }
+    ensures { place_found result ≡ cover_place part.now glyph }
 {
     let found = range_of(part, count, glyph);
     match found {
@@ -78,7 +78,7 @@ fn run_into(out: &mut [u16], at: usize, from: usize, count: usize)
 pub fn ranges_into(part: &[u8], count: usize, out: &mut [u16])
     requires as_ranges { AsRanges part.now count }
     requires part_in_bounds { length (cover_glyphs part.now) ≤ length out.old }
-    ensures { left out ≡ put (came out) 0 (cover_glyphs (came part)) }
+    ensures { left out ≡ put (came out) 0 (cover_glyphs part.now) }
 {
     let mut at: usize = 0;
     let mut k: usize = 0;

@@ -25,7 +25,7 @@ pub enum Place {
 
 // What the bytes are: a list or ranges with their count, or no Coverage.
 pub fn read_coverage(part: &[u8]) -> Reading
-    ensures { result ≡ coverage_of (came part) }
+    ensures { result ≡ coverage_of part.now }
 {
     if part.len() < 4 {
         return Reading::Unreadable;
@@ -62,7 +62,7 @@ pub fn read_coverage(part: &[u8]) -> Reading
 // How many glyphs it covers.
 pub fn glyph_count(part: &[u8], header: Header) -> usize
     requires { coverage_of part.now ≡ Reading.Readable header }
-    ensures { (result ≡ length (cover_glyphs (came part))) × (result ≤ 65536) }
+    ensures { (result ≡ length (cover_glyphs part.now)) × (result ≤ 65536) }
 {
     let kind = header.kind;
     let count = header.count;
@@ -75,7 +75,7 @@ pub fn glyph_count(part: &[u8], header: Header) -> usize
 // The glyph's place among the covered ones.
 pub fn place_of(part: &[u8], header: Header, glyph: u16) -> Place
     requires { coverage_of part.now ≡ Reading.Readable header }
-    ensures { place_found result ≡ cover_place (came part) glyph }
+    ensures { place_found result ≡ cover_place part.now glyph }
 {
     let kind = header.kind;
     let count = header.count;
@@ -89,7 +89,7 @@ pub fn place_of(part: &[u8], header: Header, glyph: u16) -> Place
 pub fn glyphs_into(part: &[u8], header: Header, out: &mut [u16])
     requires part_value { coverage_of part.now ≡ Reading.Readable header }
     requires part_in_bounds { length (cover_glyphs part.now) ≤ length out.old }
-    ensures { left out ≡ put (came out) 0 (cover_glyphs (came part)) }
+    ensures { left out ≡ put (came out) 0 (cover_glyphs part.now) }
 {
     let kind = header.kind;
     let count = header.count;

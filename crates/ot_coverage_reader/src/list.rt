@@ -11,7 +11,7 @@ use ot_wire::u16_at;
 // Whether nothing stands behind `count` glyphs, and each is above the one before it.
 pub fn list_fits(part: &[u8], count: usize) -> bool
     requires { count < 65536 }
-    ensures { result ≡ list_fits (came part) count }
+    ensures { result ≡ list_fits part.now count }
 {
     if part.len() != 4 + 2 * count {
         return false;
@@ -32,7 +32,7 @@ pub fn list_fits(part: &[u8], count: usize) -> bool
 // The glyph's place, by halving: the glyphs before `lo` are below it, and those from `hi` on above it.
 pub fn place_in_list(part: &[u8], count: usize, glyph: u16) -> Place
     requires { AsList part.now count }
-    ensures { place_found result ≡ cover_place (came part) glyph }
+    ensures { place_found result ≡ cover_place part.now glyph }
 {
     let mut lo: usize = 0;
     let mut hi: usize = count;
@@ -56,7 +56,7 @@ pub fn place_in_list(part: &[u8], count: usize, glyph: u16) -> Place
 pub fn list_into(part: &[u8], count: usize, out: &mut [u16])
     requires as_list { AsList part.now count }
     requires count_in_bounds { count ≤ length out.old }
-    ensures { left out ≡ put (came out) 0 (cover_glyphs (came part)) }
+    ensures { left out ≡ put (came out) 0 (cover_glyphs part.now) }
 {
     let mut k: usize = 0;
     while k < count {

@@ -13,7 +13,7 @@ use write::{run_count, write_list, write_ranges};
 
 // How many bytes the Coverage of these glyphs takes.
 pub fn coverage_length(glyphs: &[u16]) -> usize
-    ensures { result ≡ length (coverage_bytes (came glyphs)) }
+    ensures { result ≡ length (coverage_bytes glyphs.now) }
 {
     let runs = run_count(glyphs);
     if 3 * runs < glyphs.len() {
@@ -27,7 +27,7 @@ pub fn coverage_length(glyphs: &[u16]) -> usize
 pub fn write_coverage(glyphs: &[u16], out: &mut [u8], at: usize) -> usize
     requires ascending { Ascending glyphs.now }
     requires glyphs_in_bounds { at + length (coverage_bytes glyphs.now) ≤ length out.old }
-    ensures { (left out ≡ put (came out) at (coverage_bytes (came glyphs))) × (result ≡ at + length (coverage_bytes (came glyphs))) }
+    ensures { (left out ≡ put (came out) at (coverage_bytes glyphs.now)) × (result ≡ at + length (coverage_bytes glyphs.now)) }
 {
     let n = glyphs.len();
     let count = run_count(glyphs);

@@ -19,7 +19,7 @@ fn wide(x: u16) -> usize
 // Whether there is a glyph after the one at `k`, and it is one more.
 fn joins_next(glyphs: &[u16], k: usize) -> bool
     requires { k < length glyphs.now }
-    ensures { result ≡ joins_next (came glyphs) k }
+    ensures { result ≡ joins_next glyphs.now k }
 {
     let next = k + 1;
     if next < glyphs.len() {
@@ -31,7 +31,7 @@ fn joins_next(glyphs: &[u16], k: usize) -> bool
 
 // How many runs the glyphs make: one ends at each glyph that the next one does not join.
 pub fn run_count(glyphs: &[u16]) -> usize
-    ensures { (result ≡ length (runs (plain (came glyphs)))) × (result ≤ length (came glyphs)) }
+    ensures { (result ≡ length (runs (plain glyphs.now))) × (result ≤ length glyphs.now) }
 {
     let mut count: usize = 0;
     let mut k: usize = 0;
@@ -59,7 +59,7 @@ fn put_head(out: &mut [u8], at: usize, format: u16, count: u16)
 pub fn write_list(glyphs: &[u16], out: &mut [u8], at: usize)
     requires glyphs_len_bound { length glyphs.now < 65536 }
     requires glyphs_in_bounds { at + (4 + 2 * length glyphs.now) ≤ length out.old }
-    ensures { left out ≡ put (came out) at (be16 1 ++ be16 (length (came glyphs)) ++ words (came glyphs)) }
+    ensures { left out ≡ put (came out) at (be16 1 ++ be16 (length glyphs.now) ++ words glyphs.now) }
 {
     put_head(out, at, 1, glyphs.len() as u16);
     let first = at + 4;
@@ -76,7 +76,7 @@ pub fn write_ranges(glyphs: &[u16], count: usize, out: &mut [u8], at: usize)
     requires count_value { count ≡ length (runs (plain glyphs.now)) }
     requires count_bound { count < 65536 }
     requires count_in_bounds { at + (4 + 6 * count) ≤ length out.old }
-    ensures { left out ≡ put (came out) at (be16 2 ++ be16 count ++ cover_ranges 0 (runs (plain (came glyphs)))) }
+    ensures { left out ≡ put (came out) at (be16 2 ++ be16 count ++ cover_ranges 0 (runs (plain glyphs.now))) }
 {
     put_head(out, at, 2, count as u16);
     let mut end = at + 4;

@@ -2,7 +2,6 @@
 #![tactic(auto)]
 
 ghost use Rattle.std.specs.Prelude.{◌≡◌, ◌≤◌, length, eqb};
-ghost use Rattle.folds.specs.Moments.{came};
 ghost use Rattle.ot_layouts.specs.Lookup.{is_one_of, lookup_count, list_exact, lookup_type, pair_type, subtable_count, lookup_header, filters, lookup_exact};
 
 use ot_wire::u16_at;
@@ -29,7 +28,7 @@ pub fn is_one_of(start: u32, count: u16, position: u32) -> bool
 
 // Whether a lookup list has exactly its length.
 pub fn list_exact(list: &[u8]) -> bool
-    ensures { result ≡ list_exact (came list) }
+    ensures { result ≡ list_exact list.now }
 {
     if list.len() < 2 {
         return false;
@@ -41,14 +40,14 @@ pub fn list_exact(list: &[u8]) -> bool
 // How many lookups a list has, empty slots counted.
 pub fn lookup_count(list: &[u8]) -> u16
     requires { 2 ≤ length list.now }
-    ensures { result ≡ lookup_count (came list) }
+    ensures { result ≡ lookup_count list.now }
 {
     u16_at(list, 0)
 }
 
 // Whether a lookup has exactly its length.
 pub fn lookup_exact(lookup: &[u8]) -> bool
-    ensures { result ≡ lookup_exact (came lookup) }
+    ensures { result ≡ lookup_exact lookup.now }
 {
     if lookup.len() < 6 {
         return false;
@@ -61,7 +60,7 @@ pub fn lookup_exact(lookup: &[u8]) -> bool
 // How many subtables a lookup has, empty slots counted.
 pub fn subtable_count(lookup: &[u8]) -> u16
     requires { lookup_header ≤ length lookup.now }
-    ensures { result ≡ subtable_count (came lookup) }
+    ensures { result ≡ subtable_count lookup.now }
 {
     u16_at(lookup, 4)
 }
@@ -69,7 +68,7 @@ pub fn subtable_count(lookup: &[u8]) -> u16
 // 1 where a mark filtering set stands behind the offsets of a lookup, else 0.
 fn filters(lookup: &[u8]) -> u16
     requires { lookup_header ≤ length lookup.now }
-    ensures { result ≡ filters (came lookup) }
+    ensures { result ≡ filters lookup.now }
 {
     u16_at(lookup, 2) / 0x10 % 2
 }
@@ -77,7 +76,7 @@ fn filters(lookup: &[u8]) -> u16
 // Whether a lookup is of pair adjustment.
 pub fn is_of_pairs(lookup: &[u8]) -> bool
     requires { lookup_header ≤ length lookup.now }
-    ensures { result ≡ eqb (lookup_type (came lookup)) pair_type }
+    ensures { result ≡ eqb (lookup_type lookup.now) pair_type }
 {
     u16_at(lookup, 0) == 2
 }

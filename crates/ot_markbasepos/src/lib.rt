@@ -3,7 +3,6 @@
 
 ghost use Rattle.std.specs.Prelude.{◌≡◌, ◌+◌, ◌*◌, ◌≤◌, length, ltb};
 ghost use Rattle.folds.specs.Folds.{all};
-ghost use Rattle.folds.specs.Moments.{came};
 ghost use Rattle.ot_layouts.specs.MarkBasePos.{mark_class, marks_readable, bases_readable, is_table_slot, is_mark_slot, is_base_slot};
 ghost use Rattle.ot_markbasepos.specs.Kinds.{readable_as, slot_of};
 
@@ -26,7 +25,7 @@ pub enum Holder {
 
 // Whether an array of a table of so many classes can be read.
 pub fn array_readable(array: &[u8], kind: ArrayKind, classes: u16) -> bool
-    ensures { result ≡ readable_as kind classes (came array) }
+    ensures { result ≡ readable_as kind classes array.now }
 {
     match kind {
         ArrayKind::Marks => marks_readable(array, classes),
@@ -36,7 +35,7 @@ pub fn array_readable(array: &[u8], kind: ArrayKind, classes: u16) -> bool
 
 // Whether a mark array has exactly its length, and each of its marks a class below `classes`.
 fn marks_readable(array: &[u8], classes: u16) -> bool
-    ensures { result ≡ marks_readable classes (came array) }
+    ensures { result ≡ marks_readable classes array.now }
 {
     if array.len() < 2 {
         return false;
@@ -51,7 +50,7 @@ fn marks_readable(array: &[u8], classes: u16) -> bool
 // Whether each of so many marks has a class below `classes`.
 fn classes_below(array: &[u8], marks: usize, classes: u16) -> bool
     requires { 2 + 4 * marks ≤ length array.now }
-    ensures { result ≡ all (λ i. ltb (mark_class (came array) i) classes) marks }
+    ensures { result ≡ all (λ i. ltb (mark_class array.now i) classes) marks }
 {
     let mut i: usize = 0;
     while i < marks {
@@ -65,7 +64,7 @@ fn classes_below(array: &[u8], marks: usize, classes: u16) -> bool
 
 // Whether a base array has exactly its length.
 fn bases_readable(array: &[u8], classes: u16) -> bool
-    ensures { result ≡ bases_readable classes (came array) }
+    ensures { result ≡ bases_readable classes array.now }
 {
     if array.len() < 2 {
         return false;

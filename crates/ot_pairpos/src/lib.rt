@@ -6,7 +6,6 @@ ghost use Rattle.folds.specs.Lists.{among};
 ghost use Rattle.ot_layouts.specs.Numbers.{u16_at};
 ghost use Rattle.ot_layouts.specs.Values.{field_count};
 ghost use Rattle.ot_layouts.specs.PairPos.{own_in, shared_in, format_of, record_size, shape_of, shape1, shape2, is_slot};
-ghost use Rattle.folds.specs.Moments.{came};
 ghost use Rattle.ot_pairpos.specs.Layout.{layout_of, opened_as, opened_of, slots_of};
 
 use ot_values::{field_count, is_device};
@@ -39,7 +38,7 @@ pub enum Opened {
 
 // Opens a table.
 pub fn open(table: &[u8]) -> Opened
-    ensures { opened_as result ≡ opened_of (came table) }
+    ensures { opened_as result ≡ opened_of table.now }
 {
     if table.len() < 2 {
         return Opened::Bad;
@@ -56,7 +55,7 @@ pub fn open(table: &[u8]) -> Opened
 
 fn open_format1(table: &[u8]) -> Opened
     requires { (2 ≤ length table.now) × (format_of table.now ≡ 1) }
-    ensures { opened_as result ≡ opened_of (came table) }
+    ensures { opened_as result ≡ opened_of table.now }
 {
     if table.len() < 10 {
         return Opened::Bad;
@@ -89,7 +88,7 @@ pub fn record_size(value1: u16, value2: u16) -> usize
 
 fn open_format2(table: &[u8]) -> Opened
     requires { (2 ≤ length table.now) × (format_of table.now ≡ 2) }
-    ensures { opened_as result ≡ opened_of (came table) }
+    ensures { opened_as result ≡ opened_of table.now }
 {
     if table.len() < 16 {
         return Opened::Bad;

@@ -19,7 +19,7 @@ pub enum Found {
 // Whether `count` ranges fill the table, each with its start above the end before it and no higher than its own end.
 pub fn ranges_fit(part: &[u8], count: usize) -> bool
     requires { count < 65536 }
-    ensures { result ≡ ranges_fit (came part) count }
+    ensures { result ≡ ranges_fit part.now count }
 {
     if part.len() != 4 + 6 * count {
         return false;
@@ -44,7 +44,7 @@ pub fn ranges_fit(part: &[u8], count: usize) -> bool
 // The range that has the glyph, by halving: the ranges before `lo` end below it and those from `hi` on start above it.
 pub fn range_of(part: &[u8], count: usize, glyph: u16) -> Found
     requires { ranges_fit part.now count ≡ true }
-    ensures { range_found result ≡ range_of (came part) count glyph }
+    ensures { range_found result ≡ range_of part.now count glyph }
 {
     let mut lo: usize = 0;
     let mut hi: usize = count;

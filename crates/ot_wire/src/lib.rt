@@ -9,7 +9,7 @@ ghost use Rattle.folds.specs.Moments.{came, left};
 // The sixteen bits at `i` and `i + 1`.
 pub fn u16_at(s: &[u8], i: usize) -> u16
     requires { i + 1 < length s.now }
-    ensures { result ≡ u16_at (came s) i }
+    ensures { result ≡ u16_at s.now i }
 {
     256 * (s[i] as u16) + (s[i + 1] as u16)
 }

@@ -20,7 +20,7 @@ pub fn arrange(
     cuts: &[u16],
 )
     requires { (l c : List ℕ) × (t : ℕ) × Arranging (lent «data».now objects.now l c) t opened glyphs.old classes.old cuts.now }
-    ensures { Arranges (came «data») (came objects) opened (came glyphs) (came classes) (came cuts) (left glyphs) (left classes) }
+    ensures { Arranges «data».now objects.now opened (came glyphs) (came classes) cuts.now (left glyphs) (left classes) }
 {
     let layout = opened.layout;
     if layout.format == 1 {

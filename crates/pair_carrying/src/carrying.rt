@@ -46,8 +46,8 @@ fn write_bytes(
 ) -> usize
     requires { (l : List ℕ) × Writing (lent «data».old objects.old l counts) table layout glyphs.now classes.now cuts.now }
     ensures { (l : List ℕ)
-        → Writing (lent (came «data») (came objects) l counts) table layout (came glyphs) (came classes) (came cuts)
-        → Wrote (lent (came «data») (came objects) l counts) table (came cuts) (left «data») (left objects) result }
+        → Writing (lent (came «data») (came objects) l counts) table layout glyphs.now classes.now cuts.now
+        → Wrote (lent (came «data») (came objects) l counts) table cuts.now (left «data») (left objects) result }
 {
     let head = objects[2 * (table as usize)] as usize;
     let end = write_objects(
@@ -80,7 +80,7 @@ pub fn carry_out(
     new_tables: &mut [u32],
 )
     requires { Carrying (store_now «data» objects links counts) table opened needs glyphs.now classes.now cuts.now new_tables.old }
-    ensures { CutAt (store_came «data» objects links counts) table (came cuts) (came new_tables) (store_left «data» objects links counts)
+    ensures { CutAt (store_came «data» objects links counts) table cuts.now (came new_tables) (store_left «data» objects links counts)
         (left new_tables) }
 {
     let layout = opened.layout;

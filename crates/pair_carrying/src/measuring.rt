@@ -37,7 +37,7 @@ pub fn measure_needs(
     cuts: &[u16],
 ) -> Needs
     requires { (l c : List ℕ) × (t : ℕ) × Arranging (lent «data».now objects.now l c) t opened glyphs.old classes.old cuts.now }
-    ensures { MeasuresNeeds (came «data») (came objects) opened (came glyphs) (came classes) (came cuts) (left glyphs) (left classes) result }
+    ensures { MeasuresNeeds «data».now objects.now opened (came glyphs) (came classes) cuts.now (left glyphs) (left classes) result }
 {
     let layout = opened.layout;
     arrange(data, objects, opened, glyphs, classes, cuts);

@@ -1,6 +1,5 @@
 // All that a call asks of a table of a sound store before it needs its scratch: the checks 2 to 6, and the slots of check 7.
 ghost use Rattle.std.specs.Prelude.{◌≡◌, true, List, ℕ};
-ghost use Rattle.folds.specs.Moments.{came};
 ghost use Rattle.store_rules.specs.Store.{lent, sound};
 ghost use Rattle.store_rules.specs.Moments.{store_came_with, store_now_with};
 ghost use Rattle.pair_checks.specs.Checked.{checked_as, checked_of};
@@ -40,10 +39,10 @@ fn check_lent(
 ) -> Checked
     requires { (b o : List ℕ) × (checked_of (lent b o links.now counts) table ≡ checked_as (Checked.Open opened)) }
     ensures { (b o : List ℕ)
-        → checked_of (lent b o (came links) counts) table
+        → checked_of (lent b o links.now counts) table
         ≡ checked_as (Checked.Open opened)
         → checked_as result
-        ≡ lent_by (lent b o (came links) counts) table lengths opened }
+        ≡ lent_by (lent b o links.now counts) table lengths opened }
 {
     let layout = opened.layout;
     if is_short(lengths, counts[1], opened.glyphs, layout.count) {

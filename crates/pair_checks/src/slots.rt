@@ -6,7 +6,6 @@ ghost use Rattle.ot_layouts.specs.PairPos.{shape_of, is_slot};
 ghost use Rattle.ot_pairpos.specs.Layout.{layout_of};
 ghost use Rattle.store_rules.specs.Store.{lent, per_link, row_position, bytes_of, sound};
 ghost use Rattle.pair_rules.specs.Table.{all_at_slots};
-ghost use Rattle.folds.specs.Moments.{came};
 
 use ot_pairpos::{Layout, is_slot};
 use store_reader::{LinkRows, PER_LINK, POSITION, rows_of};
@@ -15,11 +14,11 @@ use store_reader::{LinkRows, PER_LINK, POSITION, rows_of};
 pub fn links_at_slots(links: &[u32], counts: [u32; 3], table: u32, layout: Layout) -> bool
     requires { (InOrder links.now (get_or counts 2 0)) × (table < 65536) }
     ensures { (b o : List ℕ)
-        → sound (lent b o (came links) counts) ≡ true
+        → sound (lent b o links.now counts) ≡ true
         → layout
-        ≡ layout_of (bytes_of (lent b o (came links) counts) table)
+        ≡ layout_of (bytes_of (lent b o links.now counts) table)
         → result
-        ≡ all_at_slots (lent b o (came links) counts) table }
+        ≡ all_at_slots (lent b o links.now counts) table }
 {
     let count = counts[2] as usize;
     let rows = rows_of(links, count, table);
@@ -29,7 +28,7 @@ pub fn links_at_slots(links: &[u32], counts: [u32; 3], table: u32, layout: Layou
 // Whether these rows stand at slots.
 fn rows_at_slots(links: &[u32], rows: LinkRows, layout: Layout) -> bool
     requires { (rows.first ≤ rows.after) × (per_link * rows.after ≤ length links.now) }
-    ensures { (b : List ℕ) → layout ≡ layout_of b → result ≡ all (λ i. is_slot (shape_of b) (get_or (came links) (per_link * (rows.first + i) + row_position) 0))
+    ensures { (b : List ℕ) → layout ≡ layout_of b → result ≡ all (λ i. is_slot (shape_of b) (get_or links.now (per_link * (rows.first + i) + row_position) 0))
         (rows.after - rows.first) }
 {
     let first = rows.first;

@@ -35,7 +35,7 @@ pub fn measure(
         × (i : ℕ)
         × (end ≡ item_at sh (i + 1))
         × At (lent b objects.now links.now counts) table sh a i row epoch walk.old }
-    ensures { MeasuresItem (came objects) (came links) counts table row end epoch (came walk) result (left walk) }
+    ensures { MeasuresItem objects.now links.now counts table row end epoch (came walk) result (left walk) }
 {
     let count = counts[2] as usize;
     let next = next_row(links, count, row, table, end);
@@ -61,7 +61,7 @@ pub fn measure_at_cut(
         × (sh : Shape)
         × (i : ℕ)
         × AtCut (lent b objects.now links.now counts) t sh i row measured.next epoch walk.old }
-    ensures { MeasuresAtCut (came objects) (came links) counts row measured edition epoch (came walk) result (left walk) }
+    ensures { MeasuresAtCut objects.now links.now counts row measured edition epoch (came walk) result (left walk) }
 {
     if edition == 2 {
         let next = measured.next;

@@ -40,7 +40,7 @@ fn part_between(
     class2: u32,
 ) -> usize
     requires { Between (lent [] [] links.old counts) table layout cuts.now first after class2 }
-    ensures { (b o : List ℕ) → LinksSplit (lent b o (came links) counts) table (shape_with layout) (came cuts) (left links) result }
+    ensures { (b o : List ℕ) → LinksSplit (lent b o (came links) counts) table (shape_with layout) cuts.now (left links) result }
 {
     let objects = counts[1] as usize;
     let count = counts[2] as usize;
@@ -66,7 +66,7 @@ pub fn part_links(
     class2: u32,
 ) -> usize
     requires { Parting (lent [] [] links.old counts) table layout cuts.now class2 }
-    ensures { (b o : List ℕ) → LinksSplit (lent b o (came links) counts) table (shape_with layout) (came cuts) (left links) result }
+    ensures { (b o : List ℕ) → LinksSplit (lent b o (came links) counts) table (shape_with layout) cuts.now (left links) result }
 {
     let count = counts[2] as usize;
     let start = layout.header + layout.item * (cuts[0] as usize);

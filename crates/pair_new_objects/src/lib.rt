@@ -22,7 +22,7 @@ use store_object_rows::put_object;
 fn parts_length(glyphs: &[u16], classes: &[u16], format: u16, first: u16) -> usize
     requires classes_len { length classes.now ≡ length glyphs.now }
     requires beside { Beside format first (paired glyphs.now classes.now) }
-    ensures { result ≡ length (join (parts_of format (paired (came glyphs) (came classes)) first)) }
+    ensures { result ≡ length (join (parts_of format (paired glyphs.now classes.now) first)) }
 {
     let coverage = coverage_length(glyphs);
     if format == 1 {
@@ -34,7 +34,7 @@ fn parts_length(glyphs: &[u16], classes: &[u16], format: u16, first: u16) -> usi
 // How many bytes all new objects take.
 pub fn new_length(glyphs: &[u16], classes: &[u16], cuts: &[u16], layout: Layout) -> usize
     requires { PlannedParts glyphs.now classes.now cuts.now layout }
-    ensures { Length layout (paired (came glyphs) (came classes)) (came cuts) result }
+    ensures { Length layout (paired glyphs.now classes.now) cuts.now result }
 {
     let mut at = part_end(classes, 0, cuts[0]);
     let mut total = parts_length(&glyphs[0..at], &classes[0..at], layout.format, 0);
@@ -65,7 +65,7 @@ fn write_parts(
     requires classes_len { length classes.now ≡ length glyphs.now }
     requires beside { Beside format first (paired glyphs.now classes.now) }
     requires objects_room_lem { ObjectsRoom «data».old objects.old at row (parts_of format (paired glyphs.now classes.now) first) }
-    ensures { Written (came «data») (came objects) at row (parts_of format (paired (came glyphs) (came classes)) first) (left «data»)
+    ensures { Written (came «data») (came objects) at row (parts_of format (paired glyphs.now classes.now) first) (left «data»)
         (left objects) result }
 {
     let middle = write_coverage(glyphs, data, at);
@@ -111,7 +111,7 @@ fn write_table_objects(
     requires objects_room_lem { ObjectsRoom «data».old objects.old at row
         (table_of «data».old head layout lo hi ∷ parts_of layout.format (paired glyphs.now classes.now) lo) }
     ensures { Written (came «data») (came objects) at row
-        (table_of (came «data») head layout lo hi ∷ parts_of layout.format (paired (came glyphs) (came classes)) lo) (left «data»)
+        (table_of (came «data») head layout lo hi ∷ parts_of layout.format (paired glyphs.now classes.now) lo) (left «data»)
         (left objects) result }
 {
     let end = write_table(data, head, layout, lo, hi, at);
@@ -148,7 +148,7 @@ fn write_tables(
     requires objects_room_lem { ObjectsRoom «data».old objects.old byte_count object_count
         (tables_of «data».old head layout (paired glyphs.now classes.now) cuts.now) }
     ensures { Written (came «data») (came objects) byte_count object_count
-        (tables_of (came «data») head layout (paired (came glyphs) (came classes)) (came cuts)) (left «data») (left objects) result }
+        (tables_of (came «data») head layout (paired glyphs.now classes.now) cuts.now) (left «data») (left objects) result }
 {
     let mut from = start;
     let mut at = byte_count;
@@ -194,7 +194,7 @@ pub fn write_objects(
     requires objects_room_lem { ObjectsRoom «data».old objects.old byte_count object_count
         (objects_of «data».old head layout (paired glyphs.now classes.now) cuts.now) }
     ensures { Written (came «data») (came objects) byte_count object_count
-        (objects_of (came «data») head layout (paired (came glyphs) (came classes)) (came cuts)) (left «data») (left objects) result }
+        (objects_of (came «data») head layout (paired glyphs.now classes.now) cuts.now) (left «data») (left objects) result }
 {
     let first = part_end(classes, 0, cuts[0]);
     let row = object_count + (layout.own + 1) * cuts.len();

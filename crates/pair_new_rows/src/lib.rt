@@ -76,7 +76,7 @@ fn spread(
     requires q_le_m { (q ≤ m) × (per_link * grown m (plan cuts.now layout first class2) ≤ length links.old) }
     requires positions_rise { PositionsRise links.old q m }
     requires by_index { (k : ℕ) → q ≤ k → k < m → edge (plan cuts.now layout first class2) 0 ≤ position_in links.old k }
-    ensures { Spread (came links) (left links) q m (plan (came cuts) layout first class2) }
+    ensures { Spread (came links) (left links) q m (plan cuts.now layout first class2) }
 {
     let mut j = cuts.len();
     let mut left = m - q;
@@ -108,7 +108,7 @@ pub fn part_rows(
     requires a_le_b { (a ≤ b) × (b ≤ m) × (per_link * grown m (plan cuts.now layout first class2) ≤ length links.old) }
     requires positions_rise { PositionsRise links.old a b }
     requires by_index { (k : ℕ) → a ≤ k → k < b → edge (plan cuts.now layout first class2) 0 ≤ position_in links.old k }
-    ensures { PartedRows (came links) (left links) a b m (plan (came cuts) layout first class2) }
+    ensures { PartedRows (came links) (left links) a b m (plan cuts.now layout first class2) }
 {
     rotate_rows(links, a, b, m);
     spread(links, a + (m - b), m, cuts, layout, first, class2);

@@ -22,7 +22,7 @@ use store_reader::{bytes_of, size_of};
 // header's links.
 fn info_of(objects: &[u32], table: u32, opened: PairTable, beside: u32) -> TableInfo
     requires { HasLength objects.now beside }
-    ensures { result ≡ info_of (came objects) table opened beside }
+    ensures { result ≡ info_of objects.now table opened beside }
 {
     let layout = opened.layout;
     TableInfo {
@@ -47,8 +47,8 @@ fn cut_sets(
     cuts: &mut [u16],
 ) -> usize
     requires { (b : List ℕ) × Looked1 (lent b objects.now links.now counts) table opened walk.old cuts.old }
-    ensures cuts_sets { CutsSets settings (came objects) (came links) counts table opened (came walk) (came cuts) (left cuts) result }
-    ensures sets_tell { SetsTell (came objects) (came links) counts table opened (came walk) (came cuts) (left walk) }
+    ensures cuts_sets { CutsSets settings objects.now links.now counts table opened (came walk) (came cuts) (left cuts) result }
+    ensures sets_tell { SetsTell objects.now links.now counts table opened (came walk) (came cuts) (left walk) }
 {
     let coverage = opened.coverage;
     let info = info_of(objects, table, opened, coverage.object);
@@ -66,7 +66,7 @@ fn gather(
 )
     requires by_index { (l c : List ℕ) × (t : ℕ) × Gathering (lent «data».now objects.now l c) t opened glyphs.old classes.old }
     requires in_bounds { 8192 ≤ length glyph_set.old }
-    ensures { Gathers (came «data») (came objects) opened (came glyphs) (came classes) (left glyphs) (left classes) }
+    ensures { Gathers «data».now objects.now opened (came glyphs) (came classes) (left glyphs) (left classes) }
 {
     let coverage = opened.coverage;
     let class1 = opened.class1;
@@ -101,9 +101,9 @@ fn cut_rows(
     requires { (b : List ℕ)
         × Looked2 (lent b objects.now links.now counts) table opened glyphs.now classes.now walk.old glyph_set.old
         cuts.old }
-    ensures cuts_rows { CutsRows settings (came objects) (came links) counts table opened (came glyphs) (came classes) (came walk) (came glyph_set)
+    ensures cuts_rows { CutsRows settings objects.now links.now counts table opened glyphs.now classes.now (came walk) (came glyph_set)
         (came cuts) (left cuts) result }
-    ensures rows_tell { RowsTell (came objects) (came links) counts table opened (came glyphs) (came classes) (came walk) (came glyph_set)
+    ensures rows_tell { RowsTell objects.now links.now counts table opened glyphs.now classes.now (came walk) (came glyph_set)
         (came cuts) (left walk) }
 {
     let class2 = opened.class2;

@@ -171,7 +171,7 @@ pub fn decide(
 // Hands out what was decided: the answer, and where it is 0 the places and their count.
 fn hand_out(decision: Decision, cuts: &[u16], places: &mut [u16], place_count: &mut u32) -> u32
     requires { HandingOut decision cuts.now }
-    ensures { handed result (left place_count) (left places) ≡ handed_by (decided_as decision) (planned_cuts decision (came cuts)) (came places) }
+    ensures { handed result (left place_count) (left places) ≡ handed_by (decided_as decision) (planned_cuts decision cuts.now) (came places) }
 {
     match decision {
         Decision::Settled(answer) => {

@@ -37,7 +37,7 @@ impl Classes {
     pub fn add(self, class: u16, glyphs: &[u16], classes: &[u16], set: &mut [u8]) -> Self
         requires { (es : List Entry) × (a : ℕ) × (a ≤ class) × OrderedByClass es glyphs.now classes.now × Holds es glyphs.now a class self
             set.old }
-        ensures { AddsClass (came glyphs) (came classes) class self (came set) result (left set) }
+        ensures { AddsClass glyphs.now classes.now class self (came set) result (left set) }
     {
         let from = self.to;
         let to = class_end(classes, from, class);
@@ -59,7 +59,7 @@ impl Classes {
             × OrderedByClass es glyphs.now cs
             × Holds es glyphs.now a (class + 1) self set.old
             × (self.from ≡ start_of es class) }
-        ensures { RestartsClasses (came glyphs) class self (came set) result (left set) }
+        ensures { RestartsClasses glyphs.now class self (came set) result (left set) }
     {
         let first = self.first;
         let from = self.from;

@@ -36,8 +36,8 @@ pub fn compute_format2_split_points(
 ) -> usize
     requires { (b : List ℕ) × Ready2 (lent b objects.now links.now counts) info glyphs.now classes.now walk.old set.old
         cuts.old }
-    ensures places2 { Places2 settings (came objects) (came links) counts info (came glyphs) (came classes) (came walk) (came set) (came cuts) (left cuts) result }
-    ensures tells2 { Tells2 (came objects) (came links) counts info (came glyphs) (came classes) (came walk) (came set) (came cuts) (left walk) }
+    ensures places2 { Places2 settings objects.now links.now counts info glyphs.now classes.now (came walk) (came set) (came cuts) (left cuts) result }
+    ensures tells2 { Tells2 objects.now links.now counts info glyphs.now classes.now (came walk) (came set) (came cuts) (left walk) }
 {
     let count = counts[2] as usize;
     let mut rows = Rows {
@@ -75,7 +75,7 @@ fn weigh_row(
         ((b : List ℕ)
         × (d : List ℕ)
         × Below2 settings (lent b objects.now links.now counts) info glyphs.now classes.now d i rows walk.old set.old cuts.old) }
-    ensures { Weighs2 settings (came objects) (came links) counts info (came glyphs) (came classes) i rows (came walk) (came set) (came cuts) result
+    ensures { Weighs2 settings objects.now links.now counts info glyphs.now classes.now i rows (came walk) (came set) (came cuts) result
         (left walk) (left set) (left cuts) }
 {
     let filling = rows.filling;

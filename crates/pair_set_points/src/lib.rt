@@ -34,8 +34,8 @@ pub fn compute_format1_split_points(
     cuts: &mut [u16],
 ) -> usize
     requires { (b : List ℕ) × Ready1 (lent b objects.now links.now counts) info walk.old cuts.old }
-    ensures places1 { Places1 settings (came objects) (came links) counts info (came walk) (came cuts) (left cuts) result }
-    ensures tells1 { Tells1 (came objects) (came links) counts info (came walk) (came cuts) (left walk) }
+    ensures places1 { Places1 settings objects.now links.now counts info (came walk) (came cuts) (left cuts) result }
+    ensures tells1 { Tells1 objects.now links.now counts info (came walk) (came cuts) (left walk) }
 {
     let count = counts[2] as usize;
     let mut sets = Sets {
@@ -65,7 +65,7 @@ fn weigh_set(
 ) -> Sets
     requires { (i < info.count)
         × ((b : List ℕ) × (d : List ℕ) × Below1 settings (lent b objects.now links.now counts) info d i sets walk.old cuts.old) }
-    ensures { Weighs1 settings (came objects) (came links) counts info i sets (came walk) (came cuts) result (left walk) (left cuts) }
+    ensures { Weighs1 settings objects.now links.now counts info i sets (came walk) (came cuts) result (left walk) (left cuts) }
 {
     let filling = sets.filling;
     let row = sets.row;

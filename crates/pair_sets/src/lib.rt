@@ -6,7 +6,7 @@ pub mod marked;
 
 ghost use Rattle.std.specs.Prelude.{◌≡◌, true, ◌+◌, ◌-◌, ◌*◌, ◌≤◌, ◌<◌, length};
 ghost use Rattle.ot_layouts.specs.PairPos.{set_sorted, first_record};
-ghost use Rattle.folds.specs.Moments.{came};
+ghost use Rattle.folds.specs.Moments.{left};
 ghost use Rattle.pair_sets.specs.Sets.{record_found};
 ghost use Rattle.pair_sets.specs.Rising.{second_at, rises, RisesFrom};
 
@@ -23,7 +23,7 @@ pub enum Found {
 // The second glyph of record `k`. A record has `size` bytes behind it.
 fn glyph_of(set: &[u8], size: usize, k: usize) -> u16
     requires { 2 + (2 + size) * k + (2 + size) ≤ length set.now }
-    ensures { result ≡ second_at (came set) size k }
+    ensures { result ≡ second_at set.now size k }
 {
     u16_at(set, 2 + (2 + size) * k)
 }
@@ -31,7 +31,7 @@ fn glyph_of(set: &[u8], size: usize, k: usize) -> u16
 // Whether the glyphs of five records rise, of which the first stands at `at` and each `step` bytes behind the one before.
 fn five_rise(set: &[u8], step: usize, at: usize) -> bool
     requires { at + 4 * step + 2 ≤ length set.now }
-    ensures { RisesFrom (came set) step at 4 result }
+    ensures { RisesFrom set.now step at 4 result }
 {
     let first = u16_at(set, at);
     let second = u16_at(set, at + step);
@@ -52,7 +52,7 @@ fn five_rise(set: &[u8], step: usize, at: usize) -> bool
 // Whether those of seventeen do: four fives, of which each begins with the last of the one before.
 fn seventeen_rise(set: &[u8], step: usize, at: usize) -> bool
     requires { at + 16 * step + 2 ≤ length set.now }
-    ensures { RisesFrom (came set) step at 16 result }
+    ensures { RisesFrom set.now step at 16 result }
 {
     if !five_rise(set, step, at) {
         return false;
@@ -70,7 +70,7 @@ fn seventeen_rise(set: &[u8], step: usize, at: usize) -> bool
 // is hard to foresee for a processor, and costs more than looking twice.
 fn many_rise(set: &[u8], size: usize, count: usize) -> bool
     requires { (size ≤ 32) × (length set.now ≡ 2 + (2 + size) * count) × (17 ≤ count) × (count < 65536) }
-    ensures { result ≡ rises (came set) size 0 (count - 1) }
+    ensures { result ≡ rises set.now size 0 (count - 1) }
 {
     let step = 2 + size;
     let last = set.len() - 17 * step;
@@ -89,7 +89,7 @@ fn many_rise(set: &[u8], size: usize, count: usize) -> bool
 // Whether the glyphs of a set rise, one by one.
 fn few_rise(set: &[u8], size: usize, count: usize) -> bool
     requires { (length set.now ≡ 2 + (2 + size) * count) × (count < 65536) }
-    ensures { result ≡ rises (came set) size 0 (count - 1) }
+    ensures { result ≡ rises set.now size 0 (count - 1) }
 {
     if count == 0 {
         return true;
@@ -110,7 +110,7 @@ fn few_rise(set: &[u8], size: usize, count: usize) -> bool
 // Whether nothing stands behind the records of a set, and each one's glyph is above the one before it.
 pub fn is_sorted(set: &[u8], size: usize) -> bool
     requires { size ≤ 32 }
-    ensures { result ≡ set_sorted (came set) size }
+    ensures { result ≡ set_sorted set.now size }
 {
     if set.len() < 2 {
         return false;
@@ -128,7 +128,7 @@ pub fn is_sorted(set: &[u8], size: usize) -> bool
 // The record of a sorted set with the second glyph, by halving: the glyphs before `lo` are below it, and those from `hi` on above it.
 pub fn record_in_set(set: &[u8], size: usize, glyph: u16) -> Found
     requires { (size ≤ 32) × (set_sorted set.now size ≡ true) }
-    ensures { record_found result ≡ first_record (came set) size glyph }
+    ensures { record_found result ≡ first_record set.now size glyph }
 {
     let mut lo: usize = 0;
     let mut hi = u16_at(set, 0) as usize;

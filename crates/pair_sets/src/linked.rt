@@ -1,7 +1,6 @@
 // Check 11: whether every pair set that a table leads to is sorted.
 ghost use Rattle.std.specs.Prelude.{◌≡◌, true, List, ℕ, ◌+◌, ◌-◌, ◌*◌, ◌≤◌, ◌<◌, length};
 ghost use Rattle.folds.specs.Folds.{all};
-ghost use Rattle.folds.specs.Moments.{came};
 ghost use Rattle.ot_pairpos.specs.Layout.{layout_of};
 ghost use Rattle.store_rules.specs.Store.{lent, per_link, bytes_of};
 ghost use Rattle.store_rules.specs.Moments.{store_came_with, store_now_with};
@@ -27,7 +26,7 @@ pub fn is_set_slot(position: u32) -> bool
 // Whether row `other` is one of those from `first` on, before `row`, and leads to the pair set `set` too.
 fn leads_there(links: &[u32], first: usize, row: usize, other: usize, set: u32) -> bool
     requires { per_link * row ≤ length links.now }
-    ensures { result ≡ true → LeadsThere (came links) first row other set }
+    ensures { result ≡ true → LeadsThere links.now first row other set }
 {
     if other < first {
         return false;
@@ -63,7 +62,7 @@ fn row_sorted(
     requires row_inside { RowInside (length «data».now) objects.now links.now row }
     requires by_index { (c : List ℕ) (k : ℕ) → first ≤ k → k < row → leads_sorted (lent «data».now objects.now links.now c) size k ≡ true }
     requires size_bound { (size ≤ 32) × (0 < length seen.old) }
-    ensures { (c : List ℕ) → result ≡ leads_sorted (lent (came «data») (came objects) (came links) c) size row }
+    ensures { (c : List ℕ) → result ≡ leads_sorted (lent «data».now objects.now links.now c) size row }
 {
     if !is_set_slot(links[PER_LINK * row + POSITION]) {
         return true;
@@ -90,7 +89,7 @@ fn rows_sorted(
     requires first_le_after { (rows.first ≤ rows.after) × (size ≤ 32) × (0 < length seen.old) }
     ensures { (c : List ℕ)
         → result
-        ≡ all (λ i. leads_sorted (lent (came «data») (came objects) (came links) c) size (rows.first + i)) (rows.after - rows.first) }
+        ≡ all (λ i. leads_sorted (lent «data».now objects.now links.now c) size (rows.first + i)) (rows.after - rows.first) }
 {
     let first = rows.first;
     let count = rows.after - first;

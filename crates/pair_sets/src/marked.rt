@@ -16,7 +16,7 @@ use store_reader::{CHILD, LinkRows, PER_LINK, POSITION, bytes_of};
 // Gives the pair set that row `k` leads to a mark, if it leads to one.
 fn mark_set(links: &[u32], k: usize, marks: &mut [u32])
     requires { RowLeads links.now (length marks.old) k }
-    ensures { (first : ℕ) → first ≤ k → MarksSets (came links) first k (came marks) → MarksSets (came links) first (k + 1) (left marks) }
+    ensures { (first : ℕ) → first ≤ k → MarksSets links.now first k (came marks) → MarksSets links.now first (k + 1) (left marks) }
 {
     if !is_set_slot(links[PER_LINK * k + POSITION]) {
         return;
@@ -29,7 +29,7 @@ fn mark_set(links: &[u32], k: usize, marks: &mut [u32])
 fn mark_sets(links: &[u32], rows: LinkRows, marks: &mut [u32])
     requires by_index { ((k : ℕ) → k < rows.after → RowLeads links.now (length marks.old) k) × (rows.first ≤ rows.after) }
     requires marks_value { marks.old ≡ replicate (length marks.old) 0 }
-    ensures { MarksSets (came links) rows.first rows.after (left marks) }
+    ensures { MarksSets links.now rows.first rows.after (left marks) }
 {
     let mut k = rows.first;
     while k < rows.after {
@@ -41,7 +41,7 @@ fn mark_sets(links: &[u32], rows: LinkRows, marks: &mut [u32])
 // Whether object `i`, if it has a mark, is a sorted pair set.
 fn mark_sorted(data: &[u8], objects: &[u32], marks: &[u32], size: usize, i: usize) -> bool
     requires { (i < length marks.now) × Inside (length «data».now) objects.now i × (size ≤ 32) }
-    ensures { (l c : List ℕ) → result ≡ mark_sorted (lent (came «data») (came objects) l c) (came marks) size i }
+    ensures { (l c : List ℕ) → result ≡ mark_sorted (lent «data».now objects.now l c) marks.now size i }
 {
     if marks[i] == 0 {
         return true;
@@ -52,7 +52,7 @@ fn mark_sorted(data: &[u8], objects: &[u32], marks: &[u32], size: usize, i: usiz
 // Whether each object that has a mark is a sorted pair set.
 fn marked_sorted(data: &[u8], objects: &[u32], marks: &[u32], size: usize) -> bool
     requires { ((i : ℕ) → i < length marks.now → Inside (length «data».now) objects.now i) × (size ≤ 32) }
-    ensures { (l c : List ℕ) → result ≡ all (mark_sorted (lent (came «data») (came objects) l c) (came marks) size) (length (came marks)) }
+    ensures { (l c : List ℕ) → result ≡ all (mark_sorted (lent «data».now objects.now l c) marks.now size) (length marks.now) }
 {
     let mut i: usize = 0;
     while i < marks.len() {
@@ -77,7 +77,7 @@ pub fn sorted_in_order(
     requires by_index_2 { ((i : ℕ) → i < length marks.old → Inside (length «data».now) objects.now i) × (size ≤ 32) }
     ensures { (c : List ℕ)
         → result
-        ≡ all (λ i. leads_sorted (lent (came «data») (came objects) (came links) c) size (rows.first + i)) (rows.after - rows.first) }
+        ≡ all (λ i. leads_sorted (lent «data».now objects.now links.now c) size (rows.first + i)) (rows.after - rows.first) }
 {
     clear_u32(marks);
     mark_sets(links, rows, marks);

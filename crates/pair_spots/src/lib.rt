@@ -10,7 +10,6 @@ ghost use Rattle.store_rules.specs.Store.{lent, sound, bytes_of};
 ghost use Rattle.pair_rules.specs.Table.{sets_sorted};
 ghost use Rattle.pair_rules.specs.Pairs.{spot_of};
 ghost use Rattle.pair_checks.specs.Checked.{checked_as, checked_of};
-ghost use Rattle.folds.specs.Moments.{came};
 ghost use Rattle.store_rules.specs.Moments.{store_came_with, store_now_with};
 ghost use Rattle.pair_spots.specs.Spots.{spot_found, SlotSorted, in_set, by_set, by_classes};
 
@@ -32,7 +31,7 @@ pub enum Spot {
 fn spot_in_set(data: &[u8], objects: &[u32], object: u32, size: usize, second: u16) -> Spot
     requires inside { Inside (length «data».now) objects.now object }
     requires size_bound { (size ≤ 32) × ((l c : List ℕ) → set_sorted (bytes_of (lent «data».now objects.now l c) object) size ≡ true) }
-    ensures { (l c : List ℕ) → spot_found result ≡ in_set (lent (came «data») (came objects) l c) size second object }
+    ensures { (l c : List ℕ) → spot_found result ≡ in_set (lent «data».now objects.now l c) size second object }
 {
     let set = bytes_of(data, objects, object as usize);
     let found = record_in_set(set, size, second);
@@ -92,7 +91,7 @@ fn spot_by_classes(
     requires unit_bound { opened.layout.unit ≤ 32 }
     requires read_part { ReadPart class_def_of «data».now objects.now opened.class1 }
     requires read_part_2 { ReadPart class_def_of «data».now objects.now opened.class2 }
-    ensures { (l c : List ℕ) → spot_found result ≡ by_classes (lent (came «data») (came objects) l c) table opened first second }
+    ensures { (l c : List ℕ) → spot_found result ≡ by_classes (lent «data».now objects.now l c) table opened first second }
 {
     let layout = opened.layout;
     let class1 = opened.class1;

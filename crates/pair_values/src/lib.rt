@@ -8,7 +8,6 @@ ghost use Rattle.ot_layouts.specs.Numbers.{signed16};
 ghost use Rattle.ot_layouts.specs.Values.{field_count};
 ghost use Rattle.store_rules.specs.Store.{per_link, row_child, lent, child_at};
 ghost use Rattle.pair_rules.specs.Pairs.{device_number, number_of};
-ghost use Rattle.folds.specs.Moments.{came};
 ghost use Rattle.store_rules.specs.Moments.{store_came_with, store_now_with};
 ghost use Rattle.pair_values.specs.Values.{as_pair, ValueRecord, value_pair};
 
@@ -40,7 +39,7 @@ fn signed(v: u16) -> i32
 fn device_number(links: &[u32], counts: [u32; 3], object: u32, position: u32) -> i32
     requires in_order_lem { InOrder links.now (get_or counts 2 0) }
     requires by_index { (k : ℕ) → k < get_or counts 2 0 → get_or links.now (per_link * k + row_child) 0 < 65536 }
-    ensures { (b o : List ℕ) → result ≡ device_number (child_at (lent b o (came links) counts) object position) }
+    ensures { (b o : List ℕ) → result ≡ device_number (child_at (lent b o links.now counts) object position) }
 {
     let child = child_at(links, counts, object, position);
     match child {

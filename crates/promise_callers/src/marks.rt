@@ -4,7 +4,7 @@ ghost use Rattle.call_rules.specs.Outcomes.{outcome};
 ghost use Rattle.mark_reading.specs.Reading.{mark_outcome};
 ghost use Rattle.promise_marks.specs.Calls.{SplitKeeps, PlanKeeps, MarkKeeps};
 ghost use Rattle.folds.specs.Moments.{came, left};
-ghost use Rattle.store_rules.specs.Moments.{store_came, store_left};
+ghost use Rattle.store_rules.specs.Moments.{store_came, store_left, store_read};
 ghost use Rattle.call_rules.specs.Moments.{scratch_came, scratch_left};
 
 // A split: a refusal, and no cut, change nothing, the scratch is zero, and after a cut nothing is lost.
@@ -49,8 +49,8 @@ pub fn plan(
     places: &mut [u16],
     place_count: &mut u32,
 ) -> u32
-    ensures { PlanKeeps (settings_of edition) (store_came «data» objects links counts) table (scratch_came walk glyph_set glyphs classes cuts) (came places)
-        (outcome result (left place_count) (store_came «data» objects links counts) (left places)
+    ensures { PlanKeeps (settings_of edition) (store_read «data» objects links counts) table (scratch_came walk glyph_set glyphs classes cuts) (came places)
+        (outcome result (left place_count) (store_read «data» objects links counts) (left places)
         (scratch_left walk glyph_set glyphs classes cuts)) }
 {
     splitter::cut_plan_markbasepos(
@@ -82,7 +82,7 @@ pub fn attachment(
     anchors: &mut [u32; 2],
     found: &mut u32,
 ) -> u32
-    ensures { MarkKeeps (store_came «data» objects links counts) table mark base (mark_outcome result (left found) (left anchors)) }
+    ensures { MarkKeeps (store_read «data» objects links counts) table mark base (mark_outcome result (left found) (left anchors)) }
 {
     splitter::read_mark(
         data, objects, links, counts, table, mark, base, anchors, found,

@@ -11,7 +11,7 @@ ghost use Rattle.mark_reading.specs.Reading.{mark_outcome};
 ghost use Rattle.lookup_rules.specs.Calls.{lookup_call};
 ghost use Rattle.compact_rules.specs.Calls.{compact_outcome, compaction_call};
 ghost use Rattle.folds.specs.Moments.{came, left};
-ghost use Rattle.store_rules.specs.Moments.{store_came, store_left};
+ghost use Rattle.store_rules.specs.Moments.{store_came, store_left, store_read};
 ghost use Rattle.call_rules.specs.Moments.{scratch_came, scratch_left};
 
 use call_rules::Settings;
@@ -72,9 +72,9 @@ pub extern "C" fn cut_plan(
     places: &mut [u16],
     place_count: &mut u32,
 ) -> u32
-    ensures { outcome result (left place_count) (store_came «data» objects links counts) (left places)
+    ensures { outcome result (left place_count) (store_read «data» objects links counts) (left places)
         (scratch_left walk glyph_set glyphs classes cuts)
-        ≡ plan_call (settings_of edition) (store_came «data» objects links counts) table (scratch_came walk glyph_set glyphs classes cuts)
+        ≡ plan_call (settings_of edition) (store_read «data» objects links counts) table (scratch_came walk glyph_set glyphs classes cuts)
         (came places) }
 {
     pair_plan::cut_plan(
@@ -107,7 +107,7 @@ pub extern "C" fn read_pair(
     values: &mut [i32; 16],
     found: &mut u32,
 ) -> u32
-    ensures { pair_outcome result (left found) (left values) ≡ pair_call (store_came «data» objects links counts) table first second }
+    ensures { pair_outcome result (left found) (left values) ≡ pair_call (store_read «data» objects links counts) table first second }
 {
     pair_reading::read_pair(
         data, objects, links, *counts, table, first, second, values, found,
@@ -170,9 +170,9 @@ pub extern "C" fn cut_plan_markbasepos(
     places: &mut [u16],
     place_count: &mut u32,
 ) -> u32
-    ensures { outcome result (left place_count) (store_came «data» objects links counts) (left places)
+    ensures { outcome result (left place_count) (store_read «data» objects links counts) (left places)
         (scratch_left walk glyph_set glyphs classes cuts)
-        ≡ mark_plan_call (settings_of edition) (store_came «data» objects links counts) table (scratch_came walk glyph_set glyphs classes cuts)
+        ≡ mark_plan_call (settings_of edition) (store_read «data» objects links counts) table (scratch_came walk glyph_set glyphs classes cuts)
         (came places) }
 {
     mark_plan::cut_plan_markbasepos(
@@ -206,7 +206,7 @@ pub extern "C" fn read_mark(
     anchors: &mut [u32; 2],
     found: &mut u32,
 ) -> u32
-    ensures { mark_outcome result (left found) (left anchors) ≡ mark_call (store_came «data» objects links counts) table mark base }
+    ensures { mark_outcome result (left found) (left anchors) ≡ mark_call (store_read «data» objects links counts) table mark base }
 {
     mark_reading::read_mark(
         data, objects, links, *counts, table, mark, base, anchors, found,

@@ -24,7 +24,7 @@ struct Row {
 // Row k.
 fn row_at(links: &[u32], k: usize) -> Row
     requires { per_link * (k + 1) ≤ length links.now }
-    ensures { link_of result ≡ link_in (came links) k }
+    ensures { link_of result ≡ link_in links.now k }
 {
     let at = PER_LINK * k;
     Row {
@@ -149,7 +149,7 @@ pub fn rotate_rows(links: &mut [u32], a: usize, b: usize, m: usize)
 // Where a table's link at `position` leads: its own parts, those at the positions `own`, are the objects from `first` on; any other leads to `child`.
 fn own_child(own: &[u32], position: u32, child: u32, first: u32) -> u32
     requires { first + length own.now ≤ 4294967296 }
-    ensures { result ≡ own_child (came own) first position child }
+    ensures { result ≡ own_child own.now first position child }
 {
     let mut i = 0;
     while i < own.len() {
@@ -166,7 +166,7 @@ fn own_child(own: &[u32], position: u32, child: u32, first: u32) -> u32
 pub fn put_header(links: &mut [u32], k: usize, own: &[u32], heads: &[u32], table: u32, shared: u32)
     requires heads_in_bounds { per_link * (k + length heads.now) ≤ length links.old }
     requires own_nonzero { (0 < length own.now) × (table + length own.now < 4294967296) }
-    ensures { left links ≡ put (came links) (per_link * k) (row_numbers (header_links (came own) (came heads) table (λ q. shared))) }
+    ensures { left links ≡ put (came links) (per_link * k) (row_numbers (header_links own.now heads.now table (λ q. shared))) }
 {
     let mut i = 0;
     while i < heads.len() {
@@ -180,7 +180,7 @@ pub fn put_header(links: &mut [u32], k: usize, own: &[u32], heads: &[u32], table
 // Row k, where it is an offset of the kept table, leads to the kept table's own new objects, of which `first` is the first.
 fn keep_row(links: &mut [u32], k: usize, own: &[u32], table: u32, first: u32)
     requires { (per_link * (k + 1) ≤ length links.old) × (first + length own.now ≤ 4294967296) }
-    ensures { left links ≡ put (came links) (per_link * k) (kept_row (came links) (came own) table first k) }
+    ensures { left links ≡ put (came links) (per_link * k) (kept_row (came links) own.now table first k) }
 {
     let at = PER_LINK * k;
     if links[at + PARENT] != table {
@@ -195,7 +195,7 @@ fn keep_row(links: &mut [u32], k: usize, own: &[u32], table: u32, first: u32)
 // The same of the first `count` rows.
 pub fn keep_rows(links: &mut [u32], count: usize, own: &[u32], table: u32, first: u32)
     requires { (per_link * count ≤ length links.old) × (first + length own.now ≤ 4294967296) }
-    ensures { left links ≡ put (came links) 0 (segment (kept_row (came links) (came own) table first) 0 count) }
+    ensures { left links ≡ put (came links) 0 (segment (kept_row (came links) own.now table first) 0 count) }
 {
     let mut k = 0;
     while k < count {

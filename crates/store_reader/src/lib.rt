@@ -4,7 +4,6 @@
 ghost use Rattle.std.specs.Prelude.{ℕ, ◌+◌, ◌-◌, ◌*◌, ◌≤◌, ◌<◌, min, ◌≡◌, List, length, get_or, leb};
 ghost use Rattle.folds.specs.Folds.{all};
 ghost use Rattle.store_rules.specs.Store.{lent, per_link, row_kind, bytes_of, object_fits, link_fits, sound, handed_out, child_at};
-ghost use Rattle.folds.specs.Moments.{came};
 ghost use Rattle.store_rules.specs.Moments.{store_came_with};
 ghost use Rattle.store_reader.specs.Rows.{Inside, least_head, key_of, kind_in, row_place, row_key, OfParent, ObjectsSmall, shaped_key, fitting_key, InOrder, Bracket, FirstRow, ParentRows};
 ghost use Rattle.store_reader.specs.Children.{child_found};
@@ -44,7 +43,7 @@ pub struct LinkRows {
 // Whether object row `i` fits: head ≤ tail ≤ data in use, and its head is at or after `least`, the tail before it.
 fn object_fits(objects: &[u32], counts: [u32; 3], i: usize, least: u32) -> bool
     requires { (2 * i + 1 < length objects.now) × (least ≡ least_head objects.now i) }
-    ensures { (b l : List ℕ) → result ≡ object_fits (lent b (came objects) l counts) i }
+    ensures { (b l : List ℕ) → result ≡ object_fits (lent b objects.now l counts) i }
 {
     let head = objects[2 * i];
     let tail = objects[2 * i + 1];
@@ -60,7 +59,7 @@ fn object_fits(objects: &[u32], counts: [u32; 3], i: usize, least: u32) -> bool
 // Whether each object row in use fits.
 fn objects_fit(objects: &[u32], counts: [u32; 3]) -> bool
     requires { 2 * get_or counts 1 0 ≤ length objects.now }
-    ensures { (b l : List ℕ) → result ≡ all (object_fits (lent b (came objects) l counts)) (get_or counts 1 0) }
+    ensures { (b l : List ℕ) → result ≡ all (object_fits (lent b objects.now l counts)) (get_or counts 1 0) }
 {
     let count = counts[1] as usize;
     let mut i: usize = 0;
@@ -85,7 +84,7 @@ fn key_of(parent: u32, place: u32) -> u64
 // Where link row `k` stands among those of its parent.
 fn place_at(links: &[u32], k: usize) -> u32
     requires { (per_link * k + row_kind < length links.now) × (row_place links.now k < 4294967296) }
-    ensures { result ≡ row_place (came links) k }
+    ensures { result ≡ row_place links.now k }
 {
     if links[PER_LINK * k + KIND] == 0 {
         return links[PER_LINK * k + POSITION];
@@ -96,7 +95,7 @@ fn place_at(links: &[u32], k: usize) -> u32
 // Parent and place of link row `k` as one number.
 fn key_at(links: &[u32], k: usize) -> u64
     requires { (per_link * k + row_kind < length links.now) × (row_place links.now k < 4294967296) }
-    ensures { result ≡ row_key (came links) k }
+    ensures { result ≡ row_key links.now k }
 {
     key_of(links[PER_LINK * k + PARENT], place_at(links, k))
 }
@@ -104,7 +103,7 @@ fn key_at(links: &[u32], k: usize) -> u64
 // Whether position + 2 is within object `i`.
 fn position_fits(objects: &[u32], i: usize, position: u32) -> bool
     requires { 2 * i + 1 < length objects.now }
-    ensures { result ≡ leb (position + 2) (get_or (came objects) (2 * i + 1) 0 - get_or (came objects) (2 * i) 0) }
+    ensures { result ≡ leb (position + 2) (get_or objects.now (2 * i + 1) 0 - get_or objects.now (2 * i) 0) }
 {
     (objects[2 * i] as u64) + (position as u64) + 2 <= (objects[2 * i + 1] as u64)
 }
@@ -112,7 +111,7 @@ fn position_fits(objects: &[u32], i: usize, position: u32) -> bool
 // One more than the key of link row `k`, an offset of `parent`; 0 where it is not of its shape, with width 2 and position + 2 within the parent.
 fn offset_key(objects: &[u32], links: &[u32], k: usize, parent: u32) -> u64
     requires { (2 * parent + 1 < length objects.now) × OfParent links.now k parent × (kind_in links.now k ≡ 0) }
-    ensures { (b c : List ℕ) → result ≡ shaped_key (lent b (came objects) (came links) c) k }
+    ensures { (b c : List ℕ) → result ≡ shaped_key (lent b objects.now links.now c) k }
 {
     if links[PER_LINK * k + WIDTH] != 2 {
         return 0;
@@ -127,7 +126,7 @@ fn offset_key(objects: &[u32], links: &[u32], k: usize, parent: u32) -> u64
 // The same of one that is no offset: it has to have kind 1, position 0 and width 0.
 fn order_key(links: &[u32], k: usize, parent: u32) -> u64
     requires { OfParent links.now k parent × (kind_in links.now k ≡ 0 → ⊥) × (row_place links.now k < 4294967296) }
-    ensures { (b o c : List ℕ) → result ≡ shaped_key (lent b o (came links) c) k }
+    ensures { (b o c : List ℕ) → result ≡ shaped_key (lent b o links.now c) k }
 {
     if links[PER_LINK * k + KIND] != 1 {
         return 0;
@@ -144,7 +143,7 @@ fn order_key(links: &[u32], k: usize, parent: u32) -> u64
 // One more than the key of link row `k`, where its parent and child are in use and it is of its kind's shape, and else 0.
 fn fitting_key(objects: &[u32], links: &[u32], counts: [u32; 3], k: usize) -> u64
     requires { ObjectsSmall objects.now counts × (per_link * k + row_kind < length links.now) }
-    ensures { (b : List ℕ) → result ≡ fitting_key (lent b (came objects) (came links) counts) k }
+    ensures { (b : List ℕ) → result ≡ fitting_key (lent b objects.now links.now counts) k }
 {
     let parent = links[PER_LINK * k + PARENT];
     if counts[1] <= parent {
@@ -162,7 +161,7 @@ fn fitting_key(objects: &[u32], links: &[u32], counts: [u32; 3], k: usize) -> u6
 // Whether each link row in use fits: the keys of fitting rows ascend as the rows do.
 fn links_fit(objects: &[u32], links: &[u32], counts: [u32; 3]) -> bool
     requires { ObjectsSmall objects.now counts × (per_link * get_or counts 2 0 ≤ length links.now) }
-    ensures { (b : List ℕ) → result ≡ all (link_fits (lent b (came objects) (came links) counts)) (get_or counts 2 0) }
+    ensures { (b : List ℕ) → result ≡ all (link_fits (lent b objects.now links.now counts)) (get_or counts 2 0) }
 {
     let count = counts[2] as usize;
     let mut k: usize = 0;
@@ -210,7 +209,7 @@ pub fn is_sound(data: &[u8], objects: &[u32], links: &[u32], counts: [u32; 3]) -
 // The length of object `i`.
 pub fn size_of(objects: &[u32], i: usize) -> u32
     requires { (2 * i + 1 < length objects.now) × (get_or objects.now (2 * i) 0 ≤ get_or objects.now (2 * i + 1) 0) }
-    ensures { result ≡ get_or (came objects) (2 * i + 1) 0 - get_or (came objects) (2 * i) 0 }
+    ensures { result ≡ get_or objects.now (2 * i + 1) 0 - get_or objects.now (2 * i) 0 }
 {
     objects[2 * i + 1] - objects[2 * i]
 }
@@ -218,7 +217,7 @@ pub fn size_of(objects: &[u32], i: usize) -> u32
 // The bytes of object `i`, as a part of the data.
 pub fn bytes_of<'a>(data: &'a [u8], objects: &[u32], i: usize) -> &'a [u8]
     requires { Inside (length «data».now) objects.now i }
-    ensures { (l c : List ℕ) → result.now ≡ bytes_of (lent (came «data») (came objects) l c) i }
+    ensures { (l c : List ℕ) → result.now ≡ bytes_of (lent «data».now objects.now l c) i }
 {
     let head = objects[2 * i] as usize;
     let tail = objects[2 * i + 1] as usize;
@@ -247,7 +246,7 @@ pub fn object_bytes<'a>(
 // The first of the `count` link rows at or past `position` of `parent`; `count` where there is none.
 pub fn first_row(links: &[u32], count: usize, parent: u32, position: u32) -> usize
     requires { InOrder links.now count }
-    ensures { FirstRow (came links) count (key_of parent position) result }
+    ensures { FirstRow links.now count (key_of parent position) result }
 {
     first_row_between(links, count, 0, count, key_of(parent, position))
 }
@@ -255,7 +254,7 @@ pub fn first_row(links: &[u32], count: usize, parent: u32, position: u32) -> usi
 // The first of the `count` link rows at or past `key`, by halving: it is known to be one from `lo` to `hi`.
 fn first_row_between(links: &[u32], count: usize, lo: usize, hi: usize, key: u64) -> usize
     requires { InOrder links.now count × Bracket links.now count key lo hi }
-    ensures { FirstRow (came links) count key result }
+    ensures { FirstRow links.now count key result }
 {
     let mut from = lo;
     let mut to = hi;
@@ -273,7 +272,7 @@ fn first_row_between(links: &[u32], count: usize, lo: usize, hi: usize, key: u64
 // The same, looked for from `lo` up in steps that double, and then by halving the last of them.
 fn row_up(links: &[u32], count: usize, lo: usize, hi: usize, key: u64) -> usize
     requires { InOrder links.now count × Bracket links.now count key lo hi }
-    ensures { FirstRow (came links) count key result }
+    ensures { FirstRow links.now count key result }
 {
     let mut from = lo;
     let mut step = 1;
@@ -291,7 +290,7 @@ fn row_up(links: &[u32], count: usize, lo: usize, hi: usize, key: u64) -> usize
 // The same, from `hi` down.
 fn row_down(links: &[u32], count: usize, lo: usize, hi: usize, key: u64) -> usize
     requires { InOrder links.now count × Bracket links.now count key lo hi }
-    ensures { FirstRow (came links) count key result }
+    ensures { FirstRow links.now count key result }
 {
     let mut to = hi;
     let mut step = 1;
@@ -318,7 +317,7 @@ pub fn row_near(
     position: u32,
 ) -> usize
     requires { InOrder links.now count × Bracket links.now count (key_of parent position) lo hi }
-    ensures { FirstRow (came links) count (key_of parent position) result }
+    ensures { FirstRow links.now count (key_of parent position) result }
 {
     let key = key_of(parent, position);
     if hi <= near {
@@ -340,7 +339,7 @@ pub fn row_near(
 // The same, row by row from `start` on, before which every row stands before that position of that parent.
 pub fn next_row(links: &[u32], count: usize, start: usize, parent: u32, position: u32) -> usize
     requires { InOrder links.now count × (start ≤ count) × ((k : ℕ) → k < start → row_key links.now k < key_of parent position) }
-    ensures { FirstRow (came links) count (key_of parent position) result }
+    ensures { FirstRow links.now count (key_of parent position) result }
 {
     let key = key_of(parent, position);
     let mut row = start;
@@ -357,7 +356,7 @@ pub fn next_row(links: &[u32], count: usize, start: usize, parent: u32, position
 pub fn rows_of(links: &[u32], count: usize, parent: u32) -> LinkRows
     requires in_order_lem { InOrder links.now count }
     requires parent_bound { parent < 65536 }
-    ensures { ParentRows (came links) count parent result }
+    ensures { ParentRows links.now count parent result }
 {
     let first = first_row(links, count, parent, 0);
     let after = first_row(links, count, parent, ORDERS);
@@ -367,7 +366,7 @@ pub fn rows_of(links: &[u32], count: usize, parent: u32) -> LinkRows
 // The child that the offset at `position` of `parent` leads to, where `row` is the first row at or past it.
 pub fn child_in(links: &[u32], counts: [u32; 3], row: usize, parent: u32, position: u32) -> Child
     requires { InOrder links.now (get_or counts 2 0) × FirstRow links.now (get_or counts 2 0) (key_of parent position) row }
-    ensures { (b o : List ℕ) → child_found result ≡ child_at (lent b o (came links) counts) parent position }
+    ensures { (b o : List ℕ) → child_found result ≡ child_at (lent b o links.now counts) parent position }
 {
     if (counts[2] as usize) <= row {
         return Child::Nowhere;
@@ -387,7 +386,7 @@ pub fn child_in(links: &[u32], counts: [u32; 3], row: usize, parent: u32, positi
 // The child that the offset at `position` of `parent` leads to.
 pub fn child_at(links: &[u32], counts: [u32; 3], parent: u32, position: u32) -> Child
     requires { InOrder links.now (get_or counts 2 0) }
-    ensures { (b o : List ℕ) → child_found result ≡ child_at (lent b o (came links) counts) parent position }
+    ensures { (b o : List ℕ) → child_found result ≡ child_at (lent b o links.now counts) parent position }
 {
     let row = first_row(links, counts[2] as usize, parent, position);
     child_in(links, counts, row, parent, position)

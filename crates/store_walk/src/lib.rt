@@ -14,7 +14,7 @@ use store_reader::next_row;
 // Prepares the scratch, which may hold anything: no object has a mark, and the row where each object's rows end is at hand.
 pub fn prepare(links: &[u32], counts: [u32; 3], walk: &mut [u32])
     requires { Blank links.now counts walk.old }
-    ensures { Prepared (came links) counts (left walk) }
+    ensures { Prepared links.now counts (left walk) }
 {
     clear_u32(walk);
     last_rows(links, counts, walk);
@@ -24,7 +24,7 @@ pub fn prepare(links: &[u32], counts: [u32; 3], walk: &mut [u32])
 // For each object one more than the last of its rows, 0 where it has none.
 fn last_rows(links: &[u32], counts: [u32; 3], walk: &mut [u32])
     requires { Blank links.now counts walk.old × (walk.old ≡ replicate (length walk.old) 0) }
-    ensures { Lasts (came links) counts (left walk) }
+    ensures { Lasts links.now counts (left walk) }
 {
     let n = counts[1] as usize;
     let m = counts[2] as usize;
@@ -39,7 +39,7 @@ fn last_rows(links: &[u32], counts: [u32; 3], walk: &mut [u32])
 // Where each object's rows end: those of an object with none where those of the object before it do.
 fn row_ends(links: &[u32], counts: [u32; 3], walk: &mut [u32])
     requires { Blank links.now counts walk.old × Lasts links.now counts walk.old }
-    ensures { Prepared (came links) counts (left walk) }
+    ensures { Prepared links.now counts (left walk) }
 {
     let mut end: u32 = 0;
     let mut i: usize = 0;
@@ -57,7 +57,7 @@ fn row_ends(links: &[u32], counts: [u32; 3], walk: &mut [u32])
 // The row where the rows of object `i` of `n` start: where those of the object before it end.
 pub fn first_row_of(walk: &[u32], n: usize, i: usize) -> u32
     requires { (n + i ≤ length walk.now) × (n + i < 4294967296) }
-    ensures { result ≡ before (λ j. get_or (came walk) (n + j) 0) i }
+    ensures { result ≡ before (λ j. get_or walk.now (n + j) 0) i }
 {
     if i == 0 {
         return 0;
@@ -68,7 +68,7 @@ pub fn first_row_of(walk: &[u32], n: usize, i: usize) -> u32
 // Whether object `i` of `n` has no link rows: they would start where they end.
 fn has_no_rows(walk: &[u32], n: usize, i: usize) -> bool
     requires { (n + i < length walk.now) × (n + i < 4294967296) }
-    ensures { result ≡ eqb (before (λ j. get_or (came walk) (n + j) 0) i) (get_or (came walk) (n + i) 0) }
+    ensures { result ≡ eqb (before (λ j. get_or walk.now (n + j) 0) i) (get_or walk.now (n + i) 0) }
 {
     first_row_of(walk, n, i) == walk[n + i]
 }
@@ -102,7 +102,7 @@ pub fn subgraph_size(
     walk: &mut [u32],
 ) -> u64
     requires { (hi ≤ get_or counts 2 0) × ((from : ℕ → Bool) × WalkReady objects.now links.now counts from epoch walk.old) × Offsets links.now lo hi }
-    ensures { Walks (came objects) (came links) counts lo hi epoch (came walk) (left walk) result }
+    ensures { Walks objects.now links.now counts lo hi epoch (came walk) (left walk) result }
 {
     let mut sum: u64 = 0;
     let mut row = lo;
@@ -152,7 +152,7 @@ fn walk_before(
     walk: &mut [u32],
 )
     requires { (table < get_or counts 1 0) × WalkReady objects.now links.now counts no_row 1 walk.old × (end ≤ orders) }
-    ensures { (b : List ℕ) → Begun (lent b (came objects) (came links) counts) table end (left walk) }
+    ensures { (b : List ℕ) → Begun (lent b objects.now links.now counts) table end (left walk) }
 {
     let n = counts[1] as usize;
     let m = counts[2] as usize;
@@ -172,7 +172,7 @@ pub fn begin_walk(
 )
     requires by_index { (b : List ℕ) × (sound (lent b objects.now links.now counts) ≡ true) }
     requires table_bound { (table < get_or counts 1 0) × (2 * get_or counts 1 0 ≤ length walk.old) × (end ≤ orders) }
-    ensures { (b : List ℕ) → Begun (lent b (came objects) (came links) counts) table end (left walk) }
+    ensures { (b : List ℕ) → Begun (lent b objects.now links.now counts) table end (left walk) }
 {
     prepare(links, counts, walk);
     walk_before(objects, links, counts, table, end, walk);
