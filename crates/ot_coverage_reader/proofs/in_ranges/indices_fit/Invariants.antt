@@ -1,0 +1,28 @@
+-- `in_ranges::indices_fit` meets its contract. In the loop `total` is how many glyphs the ranges passed have, and those are numbered right. Assumes nothing.
+use borrow.Author.Rules.{rules}
+use mathlib.Core.Path.{◌≡◌, sym, ◌∙◌}
+use mathlib.Core.Bool.{true, false}
+use mathlib.Core.List.{List}
+use Prim.Native.Nat.{ℕ, ◌+◌, ◌-◌, ◌≤◌, ◌<◌}
+use native.Mathlib.Nat.{not-suc-le-zero}
+use native.Mathlib.Omega.{arith}
+use Rattle.folds.specs.Folds.{sum}
+use Rattle.folds.proofs.Folds.{before_more, sum_none, sum_more}
+use Rattle.folds.proofs.Halving.{Rising}
+use Rattle.ot_layouts.specs.Coverage.{start_at, end_at, beside_at, size_at, ranges_fit, indexed}
+use Rattle.ot_layouts.proofs.RangesRead.{RangesRead, ranges_read}
+use Rattle.ot_layouts.proofs.CoverageRead.{Indexed, index_fits, index_more, not-counts, sizes_under}
+use Rattle.ot_coverage_reader.proofs.in_ranges.indices_fit.Given as goal
+
+pub record Inv (part : List ℕ) (count total k : ℕ) : Type 0 where
+  pub read : RangesRead part count
+  pub within : k ≤ count
+  pub total_is : total ≡ sum (size_at part) k
+  pub most : total ≤ 65536
+  pub index : Indexed part k
+
+abbrev pub invariant-loop-k : goal.invariant-loop-k
+invariant-loop-k l = Inv l.part l.count l.total l.k
+
+abbrev pub decreases-loop-k : goal.decreases-loop-k
+decreases-loop-k l = l.count - l.k
