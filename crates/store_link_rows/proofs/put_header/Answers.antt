@@ -1,0 +1,18 @@
+-- `store_link_rows::put_header` meets its contract: the rows of the first i positions are written. Assumes nothing.
+use Prim.Native.Nat.{◌-◌}
+use lib.ListN.{length}
+use borrow.Author.Rules.{rules}
+use Rattle.store_link_rows.proofs.Header.{Headed, headed_start, headed_turn, headed_done}
+use Rattle.store_link_rows.proofs.put_header.Goals as goal
+
+pub loop-i-init : goal.loop-i-init
+loop-i-init c = headed_start _ _ _ _ _ _ c.requires.heads_in_bounds
+
+pub loop-i-preserved : goal.loop-i-preserved
+loop-i-preserved c =
+    let written = c.put_link in
+    headed_turn _ _ _ _ _ _ _ _ c.loop-i.invariant c.loop-i-test.true _ written.auto.0 _ c.own_child-child.ensures
+    written.ensures
+
+pub returns : goal.returns
+returns c = headed_done _ _ _ _ _ _ _ _ c.loop-i.invariant c.loop-i-test.false
