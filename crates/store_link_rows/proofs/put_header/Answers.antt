@@ -10,9 +10,8 @@ loop-i-init c = headed_start _ _ _ _ _ _ c.requires.heads_in_bounds
 
 pub loop-i-preserved : goal.loop-i-preserved
 loop-i-preserved c =
-    let written = c.put_link in
-    headed_turn _ _ _ _ _ _ _ _ c.loop-i.invariant c.loop-i-test.true _ written.auto.0 _ c.own_child-child.ensures
-    written.ensures
+    headed_turn _ _ _ _ _ _ _ _ c.loop-i.invariant c.loop-i-test.true _ c.put_link.auto.links _ c.own_child-child.ensures
+    c.put_link.ensures
 
 pub returns : goal.returns
 returns c = headed_done _ _ _ _ _ _ _ _ c.loop-i.invariant c.loop-i-test.false

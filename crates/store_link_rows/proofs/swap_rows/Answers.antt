@@ -4,4 +4,4 @@ use Rattle.store_link_rows.proofs.RowLaws.{rows_swapped}
 use Rattle.store_link_rows.proofs.swap_rows.Goals as goal
 
 pub returns : goal.returns
-returns c = rows_swapped _ _ _ c.slice_known-1.ensures c.row_at-other.ensures c.put_row.ensures c.put_row-2.ensures
+returns c = rows_swapped _ _ _ c.row_at-one.ensures c.row_at-other.ensures c.put_row.ensures c.put_row-2.ensures
