@@ -1,6 +1,5 @@
 -- `store_walk::begin_walk` meets its contract: the scratch is prepared, and the walk begun. Assumes nothing.
 use native.Mathlib.Omega.{arith}
-use borrow.Author.Rules.{rules}
 use Rattle.store_walk.proofs.begin_walk.Goals as goal
 
 pub prepare-requires : goal.prepare-requires

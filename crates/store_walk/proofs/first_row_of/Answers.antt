@@ -1,7 +1,6 @@
 -- `store_walk::first_row_of` meets its contract: no rows stand before those of the first object. Assumes nothing.
 use Prim.Native.Nat.{ℕ, ◌+◌}
 use lib.ListN.{get_or}
-use borrow.Author.Rules.{rules}
 use Rattle.store_reader.proofs.Checks.{before-first, before_next}
 use Rattle.store_walk.proofs.first_row_of.Goals as goal
 

@@ -6,7 +6,6 @@ use mathlib.Core.Path.{◌≡◌, ap}
 use native.Mathlib.Omega.{arith}
 use lib.Dec.{ltb}
 use lib.ListN.{length, get_or, set, length-set}
-use borrow.Author.Rules.{rules}
 use borrow.Author.Tests.{eqb-true}
 use Rattle.folds.specs.Folds.{sum}
 use Rattle.folds.proofs.Tally.{count}
@@ -94,136 +93,134 @@ pub has_no_rows-requires : goal.has_no_rows-requires
 has_no_rows-requires c =
     let fit : Fits (lent c.requires.1.1.bytes c.args.objects.now c.args.links.now c.args.counts) = sound_fits (lent c.requires.1.1.bytes c.args.objects.now c.args.links.now c.args.counts) c.requires.1.1.is_sound in
     let use-of : Used c.args.links.now (get_or c.args.counts 2 0) (get_or c.args.counts 1 0) = used (lent c.requires.1.1.bytes c.args.objects.now c.args.links.now c.args.counts) (fit) in
-    let child : child_at_row c.args.links.now c.slice_known-1.row < get_or c.args.counts 1 0 = use-of.children c.slice_known-1.row (omega arith) in
-    (omega (arith, child, c.slice_known-1.invariant.long, c.pre.1.1.marks.room), omega (arith, child, fit.objects_most))
+    let child : child_at_row c.args.links.now c.loop-row.row < get_or c.args.counts 1 0 = use-of.children c.loop-row.row (omega arith) in
+    (omega (arith, child, c.loop-row.invariant.long, c.requires.1.1.marks.room), omega (arith, child, fit.objects_most))
 
 pub size_of-size-requires : goal.size_of-size-requires
 size_of-size-requires c =
     let fit : Fits (lent c.requires.1.1.bytes c.args.objects.now c.args.links.now c.args.counts) = sound_fits (lent c.requires.1.1.bytes c.args.objects.now c.args.links.now c.args.counts) c.requires.1.1.is_sound in
     let use-of : Used c.args.links.now (get_or c.args.counts 2 0) (get_or c.args.counts 1 0) = used (lent c.requires.1.1.bytes c.args.objects.now c.args.links.now c.args.counts) (fit) in
-    let child : child_at_row c.args.links.now c.slice_known-1.row < get_or c.args.counts 1 0 = use-of.children c.slice_known-1.row (omega arith) in
-    let sized : (let x = c.args in let o = x.objects.now in let d = child_at_row x.links.now c.slice_known-1.row in (2 * d + 1 < length o) × (get_or o (2 * d) 0 ≤ get_or o (2 * d + 1) 0)) = let f = fit in
-    (omega (arith, f.objects_in, child), (f.object (child_at_row c.args.links.now c.slice_known-1.row) (child)).ordered) in
+    let child : child_at_row c.args.links.now c.loop-row.row < get_or c.args.counts 1 0 = use-of.children c.loop-row.row (omega arith) in
+    let sized : (let x = c.args in let o = x.objects.now in let d = child_at_row x.links.now c.loop-row.row in (2 * d + 1 < length o) × (get_or o (2 * d) 0 ≤ get_or o (2 * d + 1) 0)) = let f = fit in
+    (omega (arith, f.objects_in, child), (f.object (child_at_row c.args.links.now c.loop-row.row) (child)).ordered) in
     sized
 
 pub overflow_add-sum : goal.overflow_add-sum
 overflow_add-sum c =
     let fit : Fits (lent c.requires.1.1.bytes c.args.objects.now c.args.links.now c.args.counts) = sound_fits (lent c.requires.1.1.bytes c.args.objects.now c.args.links.now c.args.counts) c.requires.1.1.is_sound in
     let use-of : Used c.args.links.now (get_or c.args.counts 2 0) (get_or c.args.counts 1 0) = used (lent c.requires.1.1.bytes c.args.objects.now c.args.links.now c.args.counts) (fit) in
-    let own : IsOffset c.args.links.now c.slice_known-1.row = c.slice_known-then-row-stop-1.true in
-    let child : child_at_row c.args.links.now c.slice_known-1.row < get_or c.args.counts 1 0 = use-of.children c.slice_known-1.row (omega arith) in
-    let marked : (let x = c.args in let d = child_at_row x.links.now c.slice_known-1.row in Inv x.objects.now x.links.now (get_or x.counts 1 0) (get_or x.counts 2 0) x.lo x.hi x.epoch x.walk.now (set c.slice_known-1.walk d (max (get_or c.slice_known-1.walk d 0) x.epoch)) (c.slice_known-1.sum + cond (ltb (get_or c.slice_known-1.walk d 0) x.epoch) (size_at x.objects.now d) 0) (c.slice_known-1.row + 1) c.slice_known-1.stop c.slice_known-1.top) = let m = c.pre.1.1.marks in
-    leaf m.latest c.slice_known-1.inv (use-of) m.room c.loop-row.taken (own)
-    (rowless m.latest c.slice_known-1.inv (use-of) m.ends (child) (eqb-true _ _ (rw c.has_no_rows.ensures at c.if-has_no_rows.true))) in
+    let own : IsOffset c.args.links.now c.loop-row.row = c.if-kind-eq0.true in
+    let child : child_at_row c.args.links.now c.loop-row.row < get_or c.args.counts 1 0 = use-of.children c.loop-row.row (omega arith) in
+    let marked : (let x = c.args in let d = child_at_row x.links.now c.loop-row.row in Inv x.objects.now x.links.now (get_or x.counts 1 0) (get_or x.counts 2 0) x.lo x.hi x.epoch x.walk.now (set c.loop-row.walk d (max (get_or c.loop-row.walk d 0) x.epoch)) (c.loop-row.sum + cond (ltb (get_or c.loop-row.walk d 0) x.epoch) (size_at x.objects.now d) 0) (c.loop-row.row + 1) c.loop-row.stop c.loop-row.top) = leaf c.requires.1.1.marks.latest c.loop-row.invariant (use-of) c.requires.1.1.marks.room c.if-row-stop.true (own)
+    (rowless c.requires.1.1.marks.latest c.loop-row.invariant (use-of) c.requires.1.1.marks.ends (child) (eqb-true _ _ (rw c.has_no_rows.ensures at c.if-has_no_rows.true))) in
     let sizes : sum (size_at c.args.objects.now) (get_or c.args.counts 1 0) ≤ 16777216 = sizes_most (lent c.requires.1.1.bytes c.args.objects.now c.args.links.now c.args.counts) (fit) in
-    let adds : (let x = c.args in let d = child_at_row x.links.now c.slice_known-1.row in c.added.result ≡ cond (ltb (get_or c.slice_known-1.walk d 0) x.epoch) (size_at x.objects.now d) 0) = rw c.size_of-size.ensures at c.added.ensures in
-    omega (arith, total_most c.pre.1.1.marks.latest (marked) (sizes), adds)
+    let adds : (let x = c.args in let d = child_at_row x.links.now c.loop-row.row in c.added.result ≡ cond (ltb (get_or c.loop-row.walk d 0) x.epoch) (size_at x.objects.now d) 0) = rw c.size_of-size.ensures at c.added.ensures in
+    omega (arith, total_most c.requires.1.1.marks.latest (marked) (sizes), adds)
 
 pub offset_bounds-walk-c-then-has_no_rows : goal.offset_bounds-walk-c-then-has_no_rows
 offset_bounds-walk-c-then-has_no_rows c =
     let fit : Fits (lent c.requires.1.1.bytes c.args.objects.now c.args.links.now c.args.counts) = sound_fits (lent c.requires.1.1.bytes c.args.objects.now c.args.links.now c.args.counts) c.requires.1.1.is_sound in
     let use-of : Used c.args.links.now (get_or c.args.counts 2 0) (get_or c.args.counts 1 0) = used (lent c.requires.1.1.bytes c.args.objects.now c.args.links.now c.args.counts) (fit) in
-    let child : child_at_row c.args.links.now c.slice_known-1.row < get_or c.args.counts 1 0 = use-of.children c.slice_known-1.row (omega arith) in
+    let child : child_at_row c.args.links.now c.loop-row.row < get_or c.args.counts 1 0 = use-of.children c.loop-row.row (omega arith) in
     omega (arith, child, fit.objects_most)
 
 pub bounds-walk-c-then-has_no_rows : goal.bounds-walk-c-then-has_no_rows
 bounds-walk-c-then-has_no_rows c =
     let fit : Fits (lent c.requires.1.1.bytes c.args.objects.now c.args.links.now c.args.counts) = sound_fits (lent c.requires.1.1.bytes c.args.objects.now c.args.links.now c.args.counts) c.requires.1.1.is_sound in
     let use-of : Used c.args.links.now (get_or c.args.counts 2 0) (get_or c.args.counts 1 0) = used (lent c.requires.1.1.bytes c.args.objects.now c.args.links.now c.args.counts) (fit) in
-    let child : child_at_row c.args.links.now c.slice_known-1.row < get_or c.args.counts 1 0 = use-of.children c.slice_known-1.row (omega arith) in
+    let child : child_at_row c.args.links.now c.loop-row.row < get_or c.args.counts 1 0 = use-of.children c.loop-row.row (omega arith) in
     omega (arith, child)
 
 pub loop-row-smaller-then-has_no_rows : goal.loop-row-smaller-then-has_no_rows
 loop-row-smaller-then-has_no_rows c =
     let fit : Fits (lent c.requires.1.1.bytes c.args.objects.now c.args.links.now c.args.counts) = sound_fits (lent c.requires.1.1.bytes c.args.objects.now c.args.links.now c.args.counts) c.requires.1.1.is_sound in
     let use-of : Used c.args.links.now (get_or c.args.counts 2 0) (get_or c.args.counts 1 0) = used (lent c.requires.1.1.bytes c.args.objects.now c.args.links.now c.args.counts) (fit) in
-    let own : IsOffset c.args.links.now c.slice_known-1.row = c.slice_known-then-row-stop-1.true in
+    let own : IsOffset c.args.links.now c.loop-row.row = c.if-kind-eq0.true in
     let x = c.args in
-    let p = c.pre.1.1.marks in
+    let p = c.requires.1.1.marks in
     rw c.later.ensures
-    (falls_row (get_or x.counts 2 0) _ _ c.slice_known-1.row c.slice_known-1.stop (leaf_unread p.latest c.slice_known-1.inv (use-of) p.room c.loop-row.taken (own)) c.loop-row.taken)
+    (falls_row (get_or x.counts 2 0) _ _ c.loop-row.row c.loop-row.stop (leaf_unread p.latest c.loop-row.invariant (use-of) p.room c.if-row-stop.true (own)) c.if-row-stop.true)
 
 pub loop-row-preserved-then-has_no_rows : goal.loop-row-preserved-then-has_no_rows
 loop-row-preserved-then-has_no_rows c =
-    let adds : (let x = c.args in let d = child_at_row x.links.now c.slice_known-1.row in c.added.result ≡ cond (ltb (get_or c.slice_known-1.walk d 0) x.epoch) (size_at x.objects.now d) 0) = rw c.size_of-size.ensures at c.added.ensures in
+    let adds : (let x = c.args in let d = child_at_row x.links.now c.loop-row.row in c.added.result ≡ cond (ltb (get_or c.loop-row.walk d 0) x.epoch) (size_at x.objects.now d) 0) = rw c.size_of-size.ensures at c.added.ensures in
     let fit : Fits (lent c.requires.1.1.bytes c.args.objects.now c.args.links.now c.args.counts) = sound_fits (lent c.requires.1.1.bytes c.args.objects.now c.args.links.now c.args.counts) c.requires.1.1.is_sound in
     let use-of : Used c.args.links.now (get_or c.args.counts 2 0) (get_or c.args.counts 1 0) = used (lent c.requires.1.1.bytes c.args.objects.now c.args.links.now c.args.counts) (fit) in
-    let own : IsOffset c.args.links.now c.slice_known-1.row = c.slice_known-then-row-stop-1.true in
-    let child : child_at_row c.args.links.now c.slice_known-1.row < get_or c.args.counts 1 0 = use-of.children c.slice_known-1.row (omega arith) in
-    let marked : (let x = c.args in let d = child_at_row x.links.now c.slice_known-1.row in Inv x.objects.now x.links.now (get_or x.counts 1 0) (get_or x.counts 2 0) x.lo x.hi x.epoch x.walk.now (set c.slice_known-1.walk d (max (get_or c.slice_known-1.walk d 0) x.epoch)) (c.slice_known-1.sum + cond (ltb (get_or c.slice_known-1.walk d 0) x.epoch) (size_at x.objects.now d) 0) (c.slice_known-1.row + 1) c.slice_known-1.stop c.slice_known-1.top) = let m = c.pre.1.1.marks in
-    leaf m.latest c.slice_known-1.inv (use-of) m.room c.loop-row.taken (own)
-    (rowless m.latest c.slice_known-1.inv (use-of) m.ends (child) (eqb-true _ _ (rw c.has_no_rows.ensures at c.if-has_no_rows.true))) in
+    let own : IsOffset c.args.links.now c.loop-row.row = c.if-kind-eq0.true in
+    let child : child_at_row c.args.links.now c.loop-row.row < get_or c.args.counts 1 0 = use-of.children c.loop-row.row (omega arith) in
+    let marked : (let x = c.args in let d = child_at_row x.links.now c.loop-row.row in Inv x.objects.now x.links.now (get_or x.counts 1 0) (get_or x.counts 2 0) x.lo x.hi x.epoch x.walk.now (set c.loop-row.walk d (max (get_or c.loop-row.walk d 0) x.epoch)) (c.loop-row.sum + cond (ltb (get_or c.loop-row.walk d 0) x.epoch) (size_at x.objects.now d) 0) (c.loop-row.row + 1) c.loop-row.stop c.loop-row.top) = leaf c.requires.1.1.marks.latest c.loop-row.invariant (use-of) c.requires.1.1.marks.room c.if-row-stop.true (own)
+    (rowless c.requires.1.1.marks.latest c.loop-row.invariant (use-of) c.requires.1.1.marks.ends (child) (eqb-true _ _ (rw c.has_no_rows.ensures at c.if-has_no_rows.true))) in
     rw (adds, c.later.ensures) (marked)
 
 pub overflow_add-walk : goal.overflow_add-walk
-overflow_add-walk c = omega (arith, c.pre.1.1.early)
+overflow_add-walk c = omega (arith, c.requires.1.1.early)
 
 pub overflow_add-walk-then-mark-epoch : goal.overflow_add-walk-then-mark-epoch
 overflow_add-walk-then-mark-epoch c =
     let fit : Fits (lent c.requires.1.1.bytes c.args.objects.now c.args.links.now c.args.counts) = sound_fits (lent c.requires.1.1.bytes c.args.objects.now c.args.links.now c.args.counts) c.requires.1.1.is_sound in
     let use-of : Used c.args.links.now (get_or c.args.counts 2 0) (get_or c.args.counts 1 0) = used (lent c.requires.1.1.bytes c.args.objects.now c.args.links.now c.args.counts) (fit) in
-    omega (arith, c.pre.1.1.early, top_few c.pre.1.1.marks.latest c.slice_known-1.inv (use-of), fit.objects_most)
+    omega (arith, c.requires.1.1.early, top_few c.requires.1.1.marks.latest c.loop-row.invariant (use-of), fit.objects_most)
 
 pub offset_bounds-walk-c-then-mark-epoch : goal.offset_bounds-walk-c-then-mark-epoch
 offset_bounds-walk-c-then-mark-epoch c =
     let fit : Fits (lent c.requires.1.1.bytes c.args.objects.now c.args.links.now c.args.counts) = sound_fits (lent c.requires.1.1.bytes c.args.objects.now c.args.links.now c.args.counts) c.requires.1.1.is_sound in
     let use-of : Used c.args.links.now (get_or c.args.counts 2 0) (get_or c.args.counts 1 0) = used (lent c.requires.1.1.bytes c.args.objects.now c.args.links.now c.args.counts) (fit) in
-    let child : child_at_row c.args.links.now c.slice_known-1.row < get_or c.args.counts 1 0 = use-of.children c.slice_known-1.row (omega arith) in
+    let child : child_at_row c.args.links.now c.loop-row.row < get_or c.args.counts 1 0 = use-of.children c.loop-row.row (omega arith) in
     omega (arith, child, fit.objects_most)
 
 pub bounds-walk-c-then-mark-epoch : goal.bounds-walk-c-then-mark-epoch
 bounds-walk-c-then-mark-epoch c =
     let fit : Fits (lent c.requires.1.1.bytes c.args.objects.now c.args.links.now c.args.counts) = sound_fits (lent c.requires.1.1.bytes c.args.objects.now c.args.links.now c.args.counts) c.requires.1.1.is_sound in
     let use-of : Used c.args.links.now (get_or c.args.counts 2 0) (get_or c.args.counts 1 0) = used (lent c.requires.1.1.bytes c.args.objects.now c.args.links.now c.args.counts) (fit) in
-    let child : child_at_row c.args.links.now c.slice_known-1.row < get_or c.args.counts 1 0 = use-of.children c.slice_known-1.row (omega arith) in
+    let child : child_at_row c.args.links.now c.loop-row.row < get_or c.args.counts 1 0 = use-of.children c.loop-row.row (omega arith) in
     omega (arith, child)
 
 pub overflow_add-top : goal.overflow_add-top
 overflow_add-top c =
     let fit : Fits (lent c.requires.1.1.bytes c.args.objects.now c.args.links.now c.args.counts) = sound_fits (lent c.requires.1.1.bytes c.args.objects.now c.args.links.now c.args.counts) c.requires.1.1.is_sound in
     let use-of : Used c.args.links.now (get_or c.args.counts 2 0) (get_or c.args.counts 1 0) = used (lent c.requires.1.1.bytes c.args.objects.now c.args.links.now c.args.counts) (fit) in
-    let child : child_at_row c.args.links.now c.slice_known-1.row < get_or c.args.counts 1 0 = use-of.children c.slice_known-1.row (omega arith) in
+    let child : child_at_row c.args.links.now c.loop-row.row < get_or c.args.counts 1 0 = use-of.children c.loop-row.row (omega arith) in
     omega (arith, child, fit.objects_most)
 
 pub size_of-requires : goal.size_of-requires
 size_of-requires c =
     let fit : Fits (lent c.requires.1.1.bytes c.args.objects.now c.args.links.now c.args.counts) = sound_fits (lent c.requires.1.1.bytes c.args.objects.now c.args.links.now c.args.counts) c.requires.1.1.is_sound in
     let use-of : Used c.args.links.now (get_or c.args.counts 2 0) (get_or c.args.counts 1 0) = used (lent c.requires.1.1.bytes c.args.objects.now c.args.links.now c.args.counts) (fit) in
-    let child : child_at_row c.args.links.now c.slice_known-1.row < get_or c.args.counts 1 0 = use-of.children c.slice_known-1.row (omega arith) in
-    let sized : (let x = c.args in let o = x.objects.now in let d = child_at_row x.links.now c.slice_known-1.row in (2 * d + 1 < length o) × (get_or o (2 * d) 0 ≤ get_or o (2 * d + 1) 0)) = let f = fit in
-    (omega (arith, f.objects_in, child), (f.object (child_at_row c.args.links.now c.slice_known-1.row) (child)).ordered) in
+    let child : child_at_row c.args.links.now c.loop-row.row < get_or c.args.counts 1 0 = use-of.children c.loop-row.row (omega arith) in
+    let sized : (let x = c.args in let o = x.objects.now in let d = child_at_row x.links.now c.loop-row.row in (2 * d + 1 < length o) × (get_or o (2 * d) 0 ≤ get_or o (2 * d + 1) 0)) = let f = fit in
+    (omega (arith, f.objects_in, child), (f.object (child_at_row c.args.links.now c.loop-row.row) (child)).ordered) in
     sized
 
 pub overflow_add-sum-then-mark-epoch : goal.overflow_add-sum-then-mark-epoch
 overflow_add-sum-then-mark-epoch c =
     let fit : Fits (lent c.requires.1.1.bytes c.args.objects.now c.args.links.now c.args.counts) = sound_fits (lent c.requires.1.1.bytes c.args.objects.now c.args.links.now c.args.counts) c.requires.1.1.is_sound in
     let use-of : Used c.args.links.now (get_or c.args.counts 2 0) (get_or c.args.counts 1 0) = used (lent c.requires.1.1.bytes c.args.objects.now c.args.links.now c.args.counts) (fit) in
-    let own : IsOffset c.args.links.now c.slice_known-1.row = c.slice_known-then-row-stop-1.true in
-    let entered : (let x = c.args in let d = child_at_row x.links.now c.slice_known-1.row in Inv x.objects.now x.links.now (get_or x.counts 1 0) (get_or x.counts 2 0) x.lo x.hi x.epoch x.walk.now (set c.slice_known-1.walk d (x.epoch + 1 + c.slice_known-1.top)) (c.slice_known-1.sum + size_at x.objects.now d) (c.slice_known-1.row + 1) c.slice_known-1.stop (d + 1)) = push c.pre.1.1.marks.latest c.slice_known-1.inv (use-of) c.pre.1.1.marks.room c.loop-row.taken (own) c.if-mark-epoch.true in
+    let own : IsOffset c.args.links.now c.loop-row.row = c.if-kind-eq0.true in
+    let entered : (let x = c.args in let d = child_at_row x.links.now c.loop-row.row in Inv x.objects.now x.links.now (get_or x.counts 1 0) (get_or x.counts 2 0) x.lo x.hi x.epoch x.walk.now (set c.loop-row.walk d (x.epoch + 1 + c.loop-row.top)) (c.loop-row.sum + size_at x.objects.now d) (c.loop-row.row + 1) c.loop-row.stop (d + 1)) = push c.requires.1.1.marks.latest c.loop-row.invariant (use-of) c.requires.1.1.marks.room c.if-row-stop.true (own) c.if-mark-epoch.true in
     let sizes : sum (size_at c.args.objects.now) (get_or c.args.counts 1 0) ≤ 16777216 = sizes_most (lent c.requires.1.1.bytes c.args.objects.now c.args.links.now c.args.counts) (fit) in
-    omega (arith, total_most c.pre.1.1.marks.latest (entered) (sizes), c.size_of.ensures)
+    omega (arith, total_most c.requires.1.1.marks.latest (entered) (sizes), c.size_of.ensures)
 
 pub loop-row-smaller-then-mark-epoch : goal.loop-row-smaller-then-mark-epoch
 loop-row-smaller-then-mark-epoch c =
     let fit : Fits (lent c.requires.1.1.bytes c.args.objects.now c.args.links.now c.args.counts) = sound_fits (lent c.requires.1.1.bytes c.args.objects.now c.args.links.now c.args.counts) c.requires.1.1.is_sound in
     let use-of : Used c.args.links.now (get_or c.args.counts 2 0) (get_or c.args.counts 1 0) = used (lent c.requires.1.1.bytes c.args.objects.now c.args.links.now c.args.counts) (fit) in
-    let own : IsOffset c.args.links.now c.slice_known-1.row = c.slice_known-then-row-stop-1.true in
+    let own : IsOffset c.args.links.now c.loop-row.row = c.if-kind-eq0.true in
     let m = get_or c.args.counts 2 0 in
-    omega (arith, ap (λ (x : ℕ). x * (m + 1)) (push_unread c.pre.1.1.marks.latest c.slice_known-1.inv (use-of) c.pre.1.1.marks.room c.loop-row.taken (own) c.if-mark-epoch.true))
+    omega (arith, ap (λ (x : ℕ). x * (m + 1)) (push_unread c.requires.1.1.marks.latest c.loop-row.invariant (use-of) c.requires.1.1.marks.room c.if-row-stop.true (own) c.if-mark-epoch.true))
 
 pub loop-row-preserved-then-mark-epoch : goal.loop-row-preserved-then-mark-epoch
 loop-row-preserved-then-mark-epoch c =
     let fit : Fits (lent c.requires.1.1.bytes c.args.objects.now c.args.links.now c.args.counts) = sound_fits (lent c.requires.1.1.bytes c.args.objects.now c.args.links.now c.args.counts) c.requires.1.1.is_sound in
     let use-of : Used c.args.links.now (get_or c.args.counts 2 0) (get_or c.args.counts 1 0) = used (lent c.requires.1.1.bytes c.args.objects.now c.args.links.now c.args.counts) (fit) in
-    let own : IsOffset c.args.links.now c.slice_known-1.row = c.slice_known-then-row-stop-1.true in
-    let entered : (let x = c.args in let d = child_at_row x.links.now c.slice_known-1.row in Inv x.objects.now x.links.now (get_or x.counts 1 0) (get_or x.counts 2 0) x.lo x.hi x.epoch x.walk.now (set c.slice_known-1.walk d (x.epoch + 1 + c.slice_known-1.top)) (c.slice_known-1.sum + size_at x.objects.now d) (c.slice_known-1.row + 1) c.slice_known-1.stop (d + 1)) = push c.pre.1.1.marks.latest c.slice_known-1.inv (use-of) c.pre.1.1.marks.room c.loop-row.taken (own) c.if-mark-epoch.true in
+    let own : IsOffset c.args.links.now c.loop-row.row = c.if-kind-eq0.true in
+    let entered : (let x = c.args in let d = child_at_row x.links.now c.loop-row.row in Inv x.objects.now x.links.now (get_or x.counts 1 0) (get_or x.counts 2 0) x.lo x.hi x.epoch x.walk.now (set c.loop-row.walk d (x.epoch + 1 + c.loop-row.top)) (c.loop-row.sum + size_at x.objects.now d) (c.loop-row.row + 1) c.loop-row.stop (d + 1)) = push c.requires.1.1.marks.latest c.loop-row.invariant (use-of) c.requires.1.1.marks.room c.if-row-stop.true (own) c.if-mark-epoch.true in
     rw c.size_of.ensures (entered)
 
 pub loop-row-smaller-else-mark-epoch : goal.loop-row-smaller-else-mark-epoch
 loop-row-smaller-else-mark-epoch c = omega arith
 
 pub loop-row-preserved-else-mark-epoch : goal.loop-row-preserved-else-mark-epoch
-loop-row-preserved-else-mark-epoch c = skip c.pre.1.1.marks.latest c.slice_known-1.inv (λ _. omega arith)
+loop-row-preserved-else-mark-epoch c = skip c.requires.1.1.marks.latest c.loop-row.invariant (λ _. omega arith)
 
 pub loop-row-smaller-else-kind-eq0 : goal.loop-row-smaller-else-kind-eq0
 loop-row-smaller-else-kind-eq0 c = omega arith
@@ -242,8 +239,8 @@ returns-then-top-eq0 c =
     let l = c.args.links.now in
     let k = c.args.counts in
     λ b from v.
-    walked_bytes c.pre.1.1.bytes b o l k
-    (walked (fit) (marks_bytes_lem b c.pre.1.1.bytes o l k v) (done c.pre.1.1.marks.latest c.loop-row.invariant (use-of) c.pre.0 c.if-row-stop.false c.if-top-eq0.true) c.pre.2)
+    walked_bytes c.requires.1.1.bytes b o l k
+    (walked (fit) (marks_bytes_lem b c.requires.1.1.bytes o l k v) (done c.requires.1.1.marks.latest c.loop-row.invariant (use-of) c.requires.0 c.if-row-stop.false c.if-top-eq0.true) c.requires.2)
 
 pub overflow_sub-parent : goal.overflow_sub-parent
 overflow_sub-parent c = omega arith
@@ -308,82 +305,82 @@ pub first_row_of-row-requires : goal.first_row_of-row-requires
 first_row_of-row-requires c =
     let fit : Fits (lent c.requires.1.1.bytes c.args.objects.now c.args.links.now c.args.counts) = sound_fits (lent c.requires.1.1.bytes c.args.objects.now c.args.links.now c.args.counts) c.requires.1.1.is_sound in
     let use-of : Used c.args.links.now (get_or c.args.counts 2 0) (get_or c.args.counts 1 0) = used (lent c.requires.1.1.bytes c.args.objects.now c.args.links.now c.args.counts) (fit) in
-    let parent_used_lem : (c.slice_known-1.top - 1 < get_or c.args.counts 1 0) = let m = c.requires.1.1.marks in
-    top_used m.latest c.slice_known-1.invariant (use-of) m.room (omega arith) in
-    (simp length-set (omega (arith, parent_used_lem, c.slice_known-1.invariant.long, c.pre.1.1.marks.room)), omega (arith, parent_used_lem, fit.objects_most))
+    let parent_used_lem : (c.loop-row.top - 1 < get_or c.args.counts 1 0) = let m = c.requires.1.1.marks in
+    top_used m.latest c.loop-row.invariant (use-of) m.room (omega arith) in
+    (simp length-set (omega (arith, parent_used_lem, c.loop-row.invariant.long, c.requires.1.1.marks.room)), omega (arith, parent_used_lem, fit.objects_most))
 
 pub overflow_cast-row : goal.overflow_cast-row
 overflow_cast-row c =
     let fit : Fits (lent c.requires.1.1.bytes c.args.objects.now c.args.links.now c.args.counts) = sound_fits (lent c.requires.1.1.bytes c.args.objects.now c.args.links.now c.args.counts) c.requires.1.1.is_sound in
     let use-of : Used c.args.links.now (get_or c.args.counts 2 0) (get_or c.args.counts 1 0) = used (lent c.requires.1.1.bytes c.args.objects.now c.args.links.now c.args.counts) (fit) in
-    let ends : (let x = c.args in (i : ℕ) → i < get_or x.counts 1 0 → FirstRow x.links.now (get_or x.counts 2 0) (key_of (i + 1) 0) (get_or (set c.slice_known-1.walk (c.slice_known-1.top - 1) x.epoch) (get_or x.counts 1 0 + i) 0)) = let m = c.requires.1.1.marks in
-    pop_ends m.latest c.slice_known-1.invariant (use-of) m.room (omega arith) m.ends in
-    let parent_used_lem : (c.slice_known-1.top - 1 < get_or c.args.counts 1 0) = let m = c.requires.1.1.marks in
-    top_used m.latest c.slice_known-1.invariant (use-of) m.room (omega arith) in
-    let starts : (let x = c.args in FirstRow x.links.now (get_or x.counts 2 0) (key_of (c.slice_known-1.top - 1) 0) c.first_row_of-row.result) = let x = c.args in
+    let ends : (let x = c.args in (i : ℕ) → i < get_or x.counts 1 0 → FirstRow x.links.now (get_or x.counts 2 0) (key_of (i + 1) 0) (get_or (set c.loop-row.walk (c.loop-row.top - 1) x.epoch) (get_or x.counts 1 0 + i) 0)) = let m = c.requires.1.1.marks in
+    pop_ends m.latest c.loop-row.invariant (use-of) m.room (omega arith) m.ends in
+    let parent_used_lem : (c.loop-row.top - 1 < get_or c.args.counts 1 0) = let m = c.requires.1.1.marks in
+    top_used m.latest c.loop-row.invariant (use-of) m.room (omega arith) in
+    let starts : (let x = c.args in FirstRow x.links.now (get_or x.counts 2 0) (key_of (c.loop-row.top - 1) 0) c.first_row_of-row.result) = let x = c.args in
     rw c.first_row_of-row.ensures
-    (rows_start x.links.now (get_or x.counts 2 0) (get_or x.counts 1 0) (set c.slice_known-1.walk (c.slice_known-1.top - 1) x.epoch) (ends) (c.slice_known-1.top - 1) (parent_used_lem)) in
+    (rows_start x.links.now (get_or x.counts 2 0) (get_or x.counts 1 0) (set c.loop-row.walk (c.loop-row.top - 1) x.epoch) (ends) (c.loop-row.top - 1) (parent_used_lem)) in
     omega (arith, starts.within, fit.links_most)
 
 pub overflow_add-stop : goal.overflow_add-stop
 overflow_add-stop c =
     let fit : Fits (lent c.requires.1.1.bytes c.args.objects.now c.args.links.now c.args.counts) = sound_fits (lent c.requires.1.1.bytes c.args.objects.now c.args.links.now c.args.counts) c.requires.1.1.is_sound in
     let use-of : Used c.args.links.now (get_or c.args.counts 2 0) (get_or c.args.counts 1 0) = used (lent c.requires.1.1.bytes c.args.objects.now c.args.links.now c.args.counts) (fit) in
-    let parent_used_lem : (c.slice_known-1.top - 1 < get_or c.args.counts 1 0) = let m = c.requires.1.1.marks in
-    top_used m.latest c.slice_known-1.invariant (use-of) m.room (omega arith) in
+    let parent_used_lem : (c.loop-row.top - 1 < get_or c.args.counts 1 0) = let m = c.requires.1.1.marks in
+    top_used m.latest c.loop-row.invariant (use-of) m.room (omega arith) in
     omega (arith, parent_used_lem, fit.objects_most)
 
 pub offset_bounds-walk-n : goal.offset_bounds-walk-n
 offset_bounds-walk-n c =
     let fit : Fits (lent c.requires.1.1.bytes c.args.objects.now c.args.links.now c.args.counts) = sound_fits (lent c.requires.1.1.bytes c.args.objects.now c.args.links.now c.args.counts) c.requires.1.1.is_sound in
     let use-of : Used c.args.links.now (get_or c.args.counts 2 0) (get_or c.args.counts 1 0) = used (lent c.requires.1.1.bytes c.args.objects.now c.args.links.now c.args.counts) (fit) in
-    let parent_used_lem : (c.slice_known-1.top - 1 < get_or c.args.counts 1 0) = let m = c.requires.1.1.marks in
-    top_used m.latest c.slice_known-1.invariant (use-of) m.room (omega arith) in
+    let parent_used_lem : (c.loop-row.top - 1 < get_or c.args.counts 1 0) = let m = c.requires.1.1.marks in
+    top_used m.latest c.loop-row.invariant (use-of) m.room (omega arith) in
     omega (arith, parent_used_lem, fit.objects_most)
 
 pub bounds-walk-n : goal.bounds-walk-n
 bounds-walk-n c =
     let fit : Fits (lent c.requires.1.1.bytes c.args.objects.now c.args.links.now c.args.counts) = sound_fits (lent c.requires.1.1.bytes c.args.objects.now c.args.links.now c.args.counts) c.requires.1.1.is_sound in
     let use-of : Used c.args.links.now (get_or c.args.counts 2 0) (get_or c.args.counts 1 0) = used (lent c.requires.1.1.bytes c.args.objects.now c.args.links.now c.args.counts) (fit) in
-    let parent_used_lem : (c.slice_known-1.top - 1 < get_or c.args.counts 1 0) = let m = c.requires.1.1.marks in
-    top_used m.latest c.slice_known-1.invariant (use-of) m.room (omega arith) in
-    simp length-set (omega (arith, parent_used_lem, c.slice_known-1.invariant.long, c.requires.1.1.marks.room))
+    let parent_used_lem : (c.loop-row.top - 1 < get_or c.args.counts 1 0) = let m = c.requires.1.1.marks in
+    top_used m.latest c.loop-row.invariant (use-of) m.room (omega arith) in
+    simp length-set (omega (arith, parent_used_lem, c.loop-row.invariant.long, c.requires.1.1.marks.room))
 
 pub overflow_cast-stop : goal.overflow_cast-stop
 overflow_cast-stop c =
     let fit : Fits (lent c.requires.1.1.bytes c.args.objects.now c.args.links.now c.args.counts) = sound_fits (lent c.requires.1.1.bytes c.args.objects.now c.args.links.now c.args.counts) c.requires.1.1.is_sound in
     let use-of : Used c.args.links.now (get_or c.args.counts 2 0) (get_or c.args.counts 1 0) = used (lent c.requires.1.1.bytes c.args.objects.now c.args.links.now c.args.counts) (fit) in
-    let ends : (let x = c.args in (i : ℕ) → i < get_or x.counts 1 0 → FirstRow x.links.now (get_or x.counts 2 0) (key_of (i + 1) 0) (get_or (set c.slice_known-1.walk (c.slice_known-1.top - 1) x.epoch) (get_or x.counts 1 0 + i) 0)) = let m = c.requires.1.1.marks in
-    pop_ends m.latest c.slice_known-1.invariant (use-of) m.room (omega arith) m.ends in
-    let parent_used_lem : (c.slice_known-1.top - 1 < get_or c.args.counts 1 0) = let m = c.requires.1.1.marks in
-    top_used m.latest c.slice_known-1.invariant (use-of) m.room (omega arith) in
-    omega (arith, (ends (c.slice_known-1.top - 1) (parent_used_lem)).within, fit.links_most)
+    let ends : (let x = c.args in (i : ℕ) → i < get_or x.counts 1 0 → FirstRow x.links.now (get_or x.counts 2 0) (key_of (i + 1) 0) (get_or (set c.loop-row.walk (c.loop-row.top - 1) x.epoch) (get_or x.counts 1 0 + i) 0)) = let m = c.requires.1.1.marks in
+    pop_ends m.latest c.loop-row.invariant (use-of) m.room (omega arith) m.ends in
+    let parent_used_lem : (c.loop-row.top - 1 < get_or c.args.counts 1 0) = let m = c.requires.1.1.marks in
+    top_used m.latest c.loop-row.invariant (use-of) m.room (omega arith) in
+    omega (arith, (ends (c.loop-row.top - 1) (parent_used_lem)).within, fit.links_most)
 
 pub loop-row-smaller : goal.loop-row-smaller
 loop-row-smaller c =
     let fit : Fits (lent c.requires.1.1.bytes c.args.objects.now c.args.links.now c.args.counts) = sound_fits (lent c.requires.1.1.bytes c.args.objects.now c.args.links.now c.args.counts) c.requires.1.1.is_sound in
     let use-of : Used c.args.links.now (get_or c.args.counts 2 0) (get_or c.args.counts 1 0) = used (lent c.requires.1.1.bytes c.args.objects.now c.args.links.now c.args.counts) (fit) in
-    let ends : (let x = c.args in (i : ℕ) → i < get_or x.counts 1 0 → FirstRow x.links.now (get_or x.counts 2 0) (key_of (i + 1) 0) (get_or (set c.slice_known-1.walk (c.slice_known-1.top - 1) x.epoch) (get_or x.counts 1 0 + i) 0)) = let m = c.requires.1.1.marks in
-    pop_ends m.latest c.slice_known-1.invariant (use-of) m.room (omega arith) m.ends in
-    let parent_used_lem : (c.slice_known-1.top - 1 < get_or c.args.counts 1 0) = let m = c.requires.1.1.marks in
-    top_used m.latest c.slice_known-1.invariant (use-of) m.room (omega arith) in
+    let ends : (let x = c.args in (i : ℕ) → i < get_or x.counts 1 0 → FirstRow x.links.now (get_or x.counts 2 0) (key_of (i + 1) 0) (get_or (set c.loop-row.walk (c.loop-row.top - 1) x.epoch) (get_or x.counts 1 0 + i) 0)) = let m = c.requires.1.1.marks in
+    pop_ends m.latest c.loop-row.invariant (use-of) m.room (omega arith) m.ends in
+    let parent_used_lem : (c.loop-row.top - 1 < get_or c.args.counts 1 0) = let m = c.requires.1.1.marks in
+    top_used m.latest c.loop-row.invariant (use-of) m.room (omega arith) in
     let x = c.args in
     let p = c.requires.1.1.marks in
     let n = get_or x.counts 1 0 in
-    let w = set c.slice_known-1.walk (c.slice_known-1.top - 1) x.epoch in
-    falls (get_or x.counts 2 0) (count (unread x.epoch c.slice_known-1.walk) n) (count (unread x.epoch w) n) c.first_row_of-row.result (get_or w (n + (c.slice_known-1.top - 1)) 0) (c.slice_known-1.stop - c.slice_known-1.row)
-    (pop_unread p.latest c.slice_known-1.invariant (use-of) p.room (omega arith)) (ends (c.slice_known-1.top - 1) (parent_used_lem)).within
+    let w = set c.loop-row.walk (c.loop-row.top - 1) x.epoch in
+    falls (get_or x.counts 2 0) (count (unread x.epoch c.loop-row.walk) n) (count (unread x.epoch w) n) c.first_row_of-row.result (get_or w (n + (c.loop-row.top - 1)) 0) (c.loop-row.stop - c.loop-row.row)
+    (pop_unread p.latest c.loop-row.invariant (use-of) p.room (omega arith)) (ends (c.loop-row.top - 1) (parent_used_lem)).within
 
 pub loop-row-preserved : goal.loop-row-preserved
 loop-row-preserved c =
     let fit : Fits (lent c.requires.1.1.bytes c.args.objects.now c.args.links.now c.args.counts) = sound_fits (lent c.requires.1.1.bytes c.args.objects.now c.args.links.now c.args.counts) c.requires.1.1.is_sound in
     let use-of : Used c.args.links.now (get_or c.args.counts 2 0) (get_or c.args.counts 1 0) = used (lent c.requires.1.1.bytes c.args.objects.now c.args.links.now c.args.counts) (fit) in
-    let ends : (let x = c.args in (i : ℕ) → i < get_or x.counts 1 0 → FirstRow x.links.now (get_or x.counts 2 0) (key_of (i + 1) 0) (get_or (set c.slice_known-1.walk (c.slice_known-1.top - 1) x.epoch) (get_or x.counts 1 0 + i) 0)) = let m = c.requires.1.1.marks in
-    pop_ends m.latest c.slice_known-1.invariant (use-of) m.room (omega arith) m.ends in
-    let parent_used_lem : (c.slice_known-1.top - 1 < get_or c.args.counts 1 0) = let m = c.requires.1.1.marks in
-    top_used m.latest c.slice_known-1.invariant (use-of) m.room (omega arith) in
-    let starts : (let x = c.args in FirstRow x.links.now (get_or x.counts 2 0) (key_of (c.slice_known-1.top - 1) 0) c.first_row_of-row.result) = let x = c.args in
+    let ends : (let x = c.args in (i : ℕ) → i < get_or x.counts 1 0 → FirstRow x.links.now (get_or x.counts 2 0) (key_of (i + 1) 0) (get_or (set c.loop-row.walk (c.loop-row.top - 1) x.epoch) (get_or x.counts 1 0 + i) 0)) = let m = c.requires.1.1.marks in
+    pop_ends m.latest c.loop-row.invariant (use-of) m.room (omega arith) m.ends in
+    let parent_used_lem : (c.loop-row.top - 1 < get_or c.args.counts 1 0) = let m = c.requires.1.1.marks in
+    top_used m.latest c.loop-row.invariant (use-of) m.room (omega arith) in
+    let starts : (let x = c.args in FirstRow x.links.now (get_or x.counts 2 0) (key_of (c.loop-row.top - 1) 0) c.first_row_of-row.result) = let x = c.args in
     rw c.first_row_of-row.ensures
-    (rows_start x.links.now (get_or x.counts 2 0) (get_or x.counts 1 0) (set c.slice_known-1.walk (c.slice_known-1.top - 1) x.epoch) (ends) (c.slice_known-1.top - 1) (parent_used_lem)) in
+    (rows_start x.links.now (get_or x.counts 2 0) (get_or x.counts 1 0) (set c.loop-row.walk (c.loop-row.top - 1) x.epoch) (ends) (c.loop-row.top - 1) (parent_used_lem)) in
     let p = c.requires.1.1.marks in
-    pop p.latest c.slice_known-1.invariant (use-of) p.room (omega arith) c.loop-row.false (starts) (ends (c.slice_known-1.top - 1) (parent_used_lem))
+    pop p.latest c.loop-row.invariant (use-of) p.room (omega arith) c.if-row-stop.false (starts) (ends (c.loop-row.top - 1) (parent_used_lem))
