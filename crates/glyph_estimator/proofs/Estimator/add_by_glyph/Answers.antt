@@ -9,7 +9,7 @@ pub loop-k-init : goal.loop-k-init
 loop-k-init c = start _ _ _ _ c.requires
 
 pub add_glyph-self-requires : goal.add_glyph-self-requires
-add_glyph-self-requires c = (c.loop-k-test.true, takes _ _ _ _ _ _ _ c.loop-k.invariant c.loop-k-test.true)
+add_glyph-self-requires c = record { k_in_bounds = c.loop-k-test.true; takes = takes _ _ _ _ _ _ _ c.loop-k.invariant c.loop-k-test.true }
 
 pub loop-k-preserved : goal.loop-k-preserved
 loop-k-preserved c = turn _ _ _ _ _ _ _ c.loop-k.invariant c.loop-k-test.true _ _ c.add_glyph-self.ensures

@@ -12,16 +12,16 @@ pub loop-k-init : goal.loop-k-init
 loop-k-init c = start _ _ _ _ (search rules)
 
 pub take_glyph-self-requires : goal.take_glyph-self-requires
-take_glyph-self-requires c = (c.loop-k-test.true, takes _ _ _ _ _ _ _ c.loop-k.invariant c.loop-k-test.true)
+take_glyph-self-requires c = record { k_in_bounds = c.loop-k-test.true; takes = takes _ _ _ _ _ _ _ c.loop-k.invariant c.loop-k-test.true }
 
 pub loop-k-preserved : goal.loop-k-preserved
-loop-k-preserved c = turn _ _ _ _ _ _ _ c.loop-k.invariant c.loop-k-test.true _ _ c.take_glyph-self.ensures.0
+loop-k-preserved c = turn _ _ _ _ _ _ _ c.loop-k.invariant c.loop-k-test.true _ _ c.take_glyph-self.ensures.taken
 
 pub run_count-requires : goal.run_count-requires
-run_count-requires c = record { in_bounds = long _ _ _ _ c.before.requires c.slice_known-1.self _ _ c.slice_known-1.invariant; spans = spans _ _ _ _ c.before.requires c.slice_known-1.self _ _ c.slice_known-1.invariant }
+run_count-requires c = record { in_bounds = long _ _ _ _ c.requires c.loop-k.self _ _ c.loop-k.invariant; spans = spans _ _ _ _ c.requires c.loop-k.self _ _ c.loop-k.invariant }
 
 pub shape_of-set : goal.shape_of-set
-shape_of-set c = set-length _ _ _ _ _ _ _ c.slice_known-1.invariant
+shape_of-set c = set-length _ _ _ _ _ _ _ c.loop-k.invariant
 
 pub returns : goal.returns
-returns c = added_counted _ _ _ _ c.before.requires c.slice_known-1.self _ _ c.slice_known-1.invariant c.loop-k.false _ c.run_count.ensures
+returns c = added_counted _ _ _ _ c.requires c.loop-k.self _ _ c.loop-k.invariant c.loop-k-test.false _ c.run_count.ensures

@@ -6,9 +6,7 @@ use borrow.Author.Rules.{rules}
 use Rattle.glyph_estimator.proofs.Estimator.take_glyph.Goals as goal
 
 pub returns-then-class-eq0 : goal.returns-then-class-eq0
-returns-then-class-eq0 c =
-    let d = c.cover-self in
-    record { taken = taken_none _ _ _ _ _ _ _ d.ensures.0 c.if-class-eq0.true; runs_value = d.ensures.1 }
+returns-then-class-eq0 c = record { taken = taken_none _ _ _ _ _ _ _ c.cover-self.ensures.covered c.if-class-eq0.true; runs_value = c.cover-self.ensures.runs_value }
 
 pub overflow_mul-self : goal.overflow_mul-self
 overflow_mul-self c =
@@ -18,10 +16,7 @@ overflow_mul-self c =
 pub overflow_add-self : goal.overflow_add-self
 overflow_add-self c =
     let a = c.args in
-    let d = c.cover-self in
-    omega (arith, c.starts_run.ensures, starts_le a.glyphs.now a.k, d.ensures.0.counts.ranged, d.ensures.0.counts.glyphs, members_le d.new.1.1.0)
+    omega (arith, c.starts_run.ensures, starts_le a.glyphs.now a.k, c.cover-self.ensures.covered.counts.ranged, c.cover-self.ensures.covered.counts.glyphs, members_le c.cover-self.new.set)
 
 pub returns : goal.returns
-returns c =
-    let d = c.cover-self in
-    record { taken = taken_some _ _ _ _ _ _ _ c.requires.takes d.ensures.0 c.if-class-eq0.false _ c.starts_run.ensures; runs_value = d.ensures.1 }
+returns c = record { taken = taken_some _ _ _ _ _ _ _ c.requires.takes c.cover-self.ensures.covered c.if-class-eq0.false _ c.starts_run.ensures; runs_value = c.cover-self.ensures.runs_value }
