@@ -41,7 +41,7 @@ module _ {s : Store} {t : ℕ} {p : MarkTable} {n : Needs} {gs ks set cs list : 
   fits = sound_fits s k.opens.reads.sounds
 
   room : Enough s list (needed s t cs)
-  room = enough s list (needed s t cs) (subst (λ (x : Needs). room_short s list x ≡ false) k.decreases.needs k.room)
+  room = enough s list (needed s t cs) (subst (λ (x : Needs). room_short s list x ≡ false) k.measured.needs k.room)
 
   -- what is in use is within its most
   pub in_use_lem : (s.byte_count ≤ 16777216) × (s.object_count ≤ 65536)
@@ -62,11 +62,11 @@ module _ {s : Store} {t : ℕ} {p : MarkTable} {n : Needs} {gs ks set cs list : 
   same_new : coded ≡ new
   same_new =
       ap₂ (λ (bases classes : ℕ). objects_of gs ks bases classes cs) (bases_are k.opens) k.opens.classes
-      ∙ stored_objects s t gs ks cs k.decreases.arranged k.some
+      ∙ stored_objects s t gs ks cs k.measured.arranged k.some
 
   pub objects_asked : Bytes s.bytes → PlannedParts gs ks cs p.classes × ObjectsRoom s.bytes s.objects s.byte_count s.object_count coded
   objects_asked octets = (
-    subst (PlannedParts gs ks cs) (sym k.opens.classes) (stored_plan s t k.opens.reads octets gs ks cs k.decreases.arranged k.places k.some),
+    subst (PlannedParts gs ks cs) (sym k.opens.classes) (stored_plan s t k.opens.reads octets gs ks cs k.measured.arranged k.places k.some),
     subst (ObjectsRoom s.bytes s.objects s.byte_count s.object_count) (sym same_new) new_room,
   )
 
@@ -77,7 +77,7 @@ module _ {s : Store} {t : ℕ} {p : MarkTable} {n : Needs} {gs ks set cs list : 
   tables_few = omega (arith, room.objects_most)
 
   many_marks : length gs ≡ p.marks.count
-  many_marks = k.decreases.arranged.long ∙ length-map entry_from (marks_of s t) ∙ marks_many s t ∙ sym (marks_are k.opens)
+  many_marks = k.measured.arranged.long ∙ length-map entry_from (marks_of s t) ∙ marks_many s t ∙ sym (marks_are k.opens)
 
   pub list_asked : (length cs ≤ length list) × (s.object_count + 4 * length cs < 4294967296)
   unfolding needed needs_of
@@ -107,7 +107,7 @@ module _ {s : Store} {t : ℕ} {p : MarkTable} {n : Needs} {gs ks set cs list : 
                 places = k.places;
                 some = k.some;
                 numbers = many_marks;
-                classes = k.decreases.arranged.same ∙ many_marks;
+                classes = k.measured.arranged.same ∙ many_marks;
                 scratch = k.scratch;
               };
           slots = k.slots;
@@ -136,7 +136,7 @@ module _ {s : Store} {t : ℕ} {p : MarkTable} {n : Needs} {gs ks set cs list : 
         → CutAt s t cs list (lent d' o ls (r ∷ (s.object_count + n.objects) ∷ rows ∷ [])) list'
     unfolding needed needs_of split_store appended kept_table with_bytes new_tables
     carried split kept numbered =
-        let many = ap (λ (x : Needs). x.objects) k.decreases.needs ∙ sym (new_many (marks_of s t) (bases_in s t) (classes_of s t) cs) in
+        let many = ap (λ (x : Needs). x.objects) k.measured.needs ∙ sym (new_many (marks_of s t) (bases_in s t) (classes_of s t) cs) in
         let count = be16 (from cs 0) in
         let bytes =
         kept
@@ -155,7 +155,7 @@ module _ {s : Store} {t : ℕ} {p : MarkTable} {n : Needs} {gs ks set cs list : 
         }
 
   objects_needed : n.objects ≡ (needed s t cs).objects
-  objects_needed = ap (λ (x : Needs). x.objects) k.decreases.needs
+  objects_needed = ap (λ (x : Needs). x.objects) k.measured.needs
 
   pub objects_fit_lem : s.object_count + n.objects < 4294967296
   objects_fit_lem = omega (arith, objects_needed, room.objects_most)

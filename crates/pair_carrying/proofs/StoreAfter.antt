@@ -34,7 +34,7 @@ module _ {s : Store} {t : ℕ} {p : PairTable} {n : Needs} {gs ks cs list : List
   fits = sound_fits s k.opens.reads.sounds
 
   room : Enough s list (needed s t cs)
-  room = enough s list (needed s t cs) (subst (λ (x : Needs). room_short s list x ≡ false) k.decreases.needs k.room)
+  room = enough s list (needed s t cs) (subst (λ (x : Needs). room_short s list x ≡ false) k.measured.needs k.room)
 
   same_own : p.layout.own ≡ length sh.own
   unfolding layout_of
@@ -59,7 +59,7 @@ module _ {s : Store} {t : ℕ} {p : PairTable} {n : Needs} {gs ks cs list : List
         octets = octets;
         places = k.places;
         some = k.some;
-        arranged = k.decreases.arranged;
+        arranged = k.measured.arranged;
         room = record { bytes = room.bytes_in; rows = omega (arith, room.objects_in); small = omega (arith, room.bytes_most) };
       }
 
@@ -89,7 +89,7 @@ module _ {s : Store} {t : ℕ} {p : PairTable} {n : Needs} {gs ks cs list : List
   bytes_fit w = omega (arith, w.ends, room.bytes_most)
 
   objects_needed : n.objects ≡ (needed s t cs).objects
-  objects_needed = ap (λ (x : Needs). x.objects) k.decreases.needs
+  objects_needed = ap (λ (x : Needs). x.objects) k.measured.needs
 
   pub objects_fit_lem : s.object_count + n.objects < 4294967296
   objects_fit_lem = omega (arith, objects_needed, room.objects_most)

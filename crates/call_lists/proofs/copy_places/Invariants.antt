@@ -1,0 +1,12 @@
+-- `call_lists::copy_places` meets its contract: the places passed stand at the front. Assumes nothing.
+use Prim.Native.Nat.{◌-◌}
+use borrow.Author.Rules.{rules}
+use lib.ListN.{length}
+use Rattle.call_lists.proofs.Copying.{Copying, copy_start, copy_turn, copy_stop}
+use Rattle.call_lists.proofs.copy_places.Given as goal
+
+abbrev pub invariant-loop-k : goal.invariant-loop-k
+invariant-loop-k l = Copying l.cuts l.initial.places l.places l.k
+
+abbrev pub decreases-loop-k : goal.decreases-loop-k
+decreases-loop-k l = length l.cuts - l.k

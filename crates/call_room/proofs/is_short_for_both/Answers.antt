@@ -1,0 +1,74 @@
+-- `call_room::is_short_for_both` meets its contract: short for the first, or by what the second finds once the first is written. Assumes nothing.
+use mathlib.Core.Path.{◌≡◌, sym, ◌∙◌}
+use mathlib.Core.Bool.{false}
+use native.Mathlib.Omega.{arith}
+use borrow.Author.Rules.{rules}
+use Rattle.store_rules.specs.Store.{byte_room, object_room, link_room}
+use Rattle.call_rules.specs.Needs.{short_by}
+use Rattle.call_room.proofs.Together.{Holds, holds, first_short, then_in_use, then_second}
+use Rattle.call_room.proofs.is_short_for_both.Goals as goal
+
+pub returns-then-is_short : goal.returns-then-is_short
+returns-then-is_short c =
+    let a = c.args in
+    first_short a.lent a.counts a.first a.second (sym c.is_short.ensures ∙ c.if-is_short.true)
+
+pub overflow_cast-used : goal.overflow_cast-used
+unfolding byte_room
+overflow_cast-used c =
+    let enough : let a = c.args in short_by a.lent a.counts a.first ≡ false = sym c.is_short.ensures ∙ c.if-is_short.false in
+    let held : let a = c.args in Holds a.lent a.counts a.first = let a = c.args in holds a.lent a.counts a.first (enough) in
+    omega (arith, held.bytes)
+
+pub overflow_add-used : goal.overflow_add-used
+unfolding byte_room
+overflow_add-used c =
+    let enough : let a = c.args in short_by a.lent a.counts a.first ≡ false = sym c.is_short.ensures ∙ c.if-is_short.false in
+    let held : let a = c.args in Holds a.lent a.counts a.first = let a = c.args in holds a.lent a.counts a.first (enough) in
+    omega (arith, held.bytes)
+
+pub overflow_cast-used-2 : goal.overflow_cast-used-2
+unfolding object_room
+overflow_cast-used-2 c =
+    let enough : let a = c.args in short_by a.lent a.counts a.first ≡ false = sym c.is_short.ensures ∙ c.if-is_short.false in
+    let held : let a = c.args in Holds a.lent a.counts a.first = let a = c.args in holds a.lent a.counts a.first (enough) in
+    omega (arith, held.objects)
+
+pub overflow_add-used-2 : goal.overflow_add-used-2
+unfolding object_room
+overflow_add-used-2 c =
+    let enough : let a = c.args in short_by a.lent a.counts a.first ≡ false = sym c.is_short.ensures ∙ c.if-is_short.false in
+    let held : let a = c.args in Holds a.lent a.counts a.first = let a = c.args in holds a.lent a.counts a.first (enough) in
+    omega (arith, held.objects)
+
+pub overflow_cast-used-3 : goal.overflow_cast-used-3
+unfolding link_room
+overflow_cast-used-3 c =
+    let enough : let a = c.args in short_by a.lent a.counts a.first ≡ false = sym c.is_short.ensures ∙ c.if-is_short.false in
+    let held : let a = c.args in Holds a.lent a.counts a.first = let a = c.args in holds a.lent a.counts a.first (enough) in
+    omega (arith, held.links)
+
+pub overflow_add-used-3 : goal.overflow_add-used-3
+unfolding link_room
+overflow_add-used-3 c =
+    let enough : let a = c.args in short_by a.lent a.counts a.first ≡ false = sym c.is_short.ensures ∙ c.if-is_short.false in
+    let held : let a = c.args in Holds a.lent a.counts a.first = let a = c.args in holds a.lent a.counts a.first (enough) in
+    omega (arith, held.links)
+
+pub overflow_sub-left : goal.overflow_sub-left
+overflow_sub-left c =
+    let enough : let a = c.args in short_by a.lent a.counts a.first ≡ false = sym c.is_short.ensures ∙ c.if-is_short.false in
+    let held : let a = c.args in Holds a.lent a.counts a.first = let a = c.args in holds a.lent a.counts a.first (enough) in
+    omega (arith, held.entries)
+
+pub is_short-requires-2 : goal.is_short-requires-2
+is_short-requires-2 c =
+    let enough : let a = c.args in short_by a.lent a.counts a.first ≡ false = sym c.is_short.ensures ∙ c.if-is_short.false in
+    let a = c.args in
+    then_in_use a.lent a.counts a.first a.second (enough)
+
+pub returns : goal.returns
+returns c =
+    let enough : let a = c.args in short_by a.lent a.counts a.first ≡ false = sym c.is_short.ensures ∙ c.if-is_short.false in
+    let a = c.args in
+    c.is_short-2.ensures ∙ then_second a.lent a.counts a.first a.second (enough)

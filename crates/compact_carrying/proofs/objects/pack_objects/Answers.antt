@@ -1,0 +1,71 @@
+-- `objects::pack_objects` meets its contract: the kept objects before i are packed, and all from i on are as they came. Assumes nothing.
+use Prim.Native.Nat.{◌-◌}
+use mathlib.Core.List.{[]}
+use native.Mathlib.Omega.{arith}
+use lib.ListN.{get_or}
+use borrow.Author.Rules.{rules}
+use borrow.Author.Tests.{lt-ltb, le-ltb}
+use Rattle.store_rules.specs.Store.{lent}
+use Rattle.compact_rules.specs.Marks.{has_mark}
+use Rattle.compact_carrying.proofs.Packing.{Packing, Lying, lying, packing_start, may_place, packing_kept, packing_dropped, packing_stop, end_small, many_small, bytes_long, objects_long}
+use Rattle.compact_carrying.proofs.objects.pack_objects.Goals as goal
+
+pub loop-i-init : goal.loop-i-init
+loop-i-init c =
+    let lies : Lying (lent c.args.«data».now c.args.objects.now [] c.args.counts) = lying c.args.«data».now c.args.objects.now c.requires.by_index.0 c.args.counts c.requires.by_index.1 in
+    packing_start _ _ (lies)
+
+pub bounds-walk-i : goal.bounds-walk-i
+bounds-walk-i c = omega (arith, c.loop-i-test.true, c.requires.counts_in_bounds)
+
+pub place-p-requires : goal.place-p-requires
+place-p-requires c =
+    let lies : Lying (lent c.args.«data».now c.args.objects.now [] c.args.counts) = lying c.args.«data».now c.args.objects.now c.requires.by_index.0 c.args.counts c.requires.by_index.1 in
+    may_place _ _ (lies) _ _ _ _ _ _ c.loop-i.invariant c.loop-i-test.true
+
+pub overflow_add-moved : goal.overflow_add-moved
+overflow_add-moved c =
+    let lies : Lying (lent c.args.«data».now c.args.objects.now [] c.args.counts) = lying c.args.«data».now c.args.objects.now c.requires.by_index.0 c.args.counts c.requires.by_index.1 in
+    let v = packing_kept _ _ (lies) _ _ _ _ _ _ c.loop-i.invariant c.loop-i-test.true (lt-ltb _ _ c.if-walk-i-gt0.true) c.place-p.ensures in
+    omega (arith, v.moved_low, end_small _ _ (lies) v)
+
+pub overflow_add-j : goal.overflow_add-j
+overflow_add-j c =
+    let lies : Lying (lent c.args.«data».now c.args.objects.now [] c.args.counts) = lying c.args.«data».now c.args.objects.now c.requires.by_index.0 c.args.counts c.requires.by_index.1 in
+    omega (arith, many_small _ _ (lies) c.loop-i.invariant)
+
+pub overflow_add-i : goal.overflow_add-i
+overflow_add-i c =
+    let lies : Lying (lent c.args.«data».now c.args.objects.now [] c.args.counts) = lying c.args.«data».now c.args.objects.now c.requires.by_index.0 c.args.counts c.requires.by_index.1 in
+    omega (arith, c.loop-i.invariant.some, lies.rows_most)
+
+pub loop-i-preserved-then-walk-i-gt0 : goal.loop-i-preserved-then-walk-i-gt0
+loop-i-preserved-then-walk-i-gt0 c =
+    let lies : Lying (lent c.args.«data».now c.args.objects.now [] c.args.counts) = lying c.args.«data».now c.args.objects.now c.requires.by_index.0 c.args.counts c.requires.by_index.1 in
+    packing_kept _ _ (lies) _ _ _ _ _ _ c.loop-i.invariant c.loop-i-test.true
+    (lt-ltb _ _ c.if-walk-i-gt0.true) c.place-p.ensures
+
+pub loop-i-preserved : goal.loop-i-preserved
+loop-i-preserved c =
+    let lies : Lying (lent c.args.«data».now c.args.objects.now [] c.args.counts) = lying c.args.«data».now c.args.objects.now c.requires.by_index.0 c.args.counts c.requires.by_index.1 in
+    packing_dropped _ _ (lies) _ _ _ _ _ _ c.loop-i.invariant c.loop-i-test.true (le-ltb _ _ c.if-walk-i-gt0.false)
+
+pub overflow_cast-result : goal.overflow_cast-result
+overflow_cast-result c =
+    let lies : Lying (lent c.args.«data».now c.args.objects.now [] c.args.counts) = lying c.args.«data».now c.args.objects.now c.requires.by_index.0 c.args.counts c.requires.by_index.1 in
+    omega (arith, many_small _ _ (lies) c.loop-i.invariant)
+
+pub shape_of-data : goal.shape_of-data
+shape_of-data c =
+    let lies : Lying (lent c.args.«data».now c.args.objects.now [] c.args.counts) = lying c.args.«data».now c.args.objects.now c.requires.by_index.0 c.args.counts c.requires.by_index.1 in
+    bytes_long _ _ (lies) c.loop-i.invariant
+
+pub shape_of-objects : goal.shape_of-objects
+shape_of-objects c =
+    let lies : Lying (lent c.args.«data».now c.args.objects.now [] c.args.counts) = lying c.args.«data».now c.args.objects.now c.requires.by_index.0 c.args.counts c.requires.by_index.1 in
+    objects_long _ _ (lies) c.loop-i.invariant
+
+pub returns : goal.returns
+returns c =
+    let lies : Lying (lent c.args.«data».now c.args.objects.now [] c.args.counts) = lying c.args.«data».now c.args.objects.now c.requires.by_index.0 c.args.counts c.requires.by_index.1 in
+    packing_stop _ _ (lies) _ _ _ _ _ _ c.loop-i.invariant c.loop-i-test.false

@@ -1,0 +1,19 @@
+-- `compact_marking::mark_kept` meets its contract: the first k roots have been walked from. Assumes nothing.
+use Prim.Native.Nat.{ℕ, ◌+◌, ◌-◌, ◌≤◌}
+use mathlib.Core.Path.{◌≡◌, refl, ap, ◌∙◌}
+use mathlib.Core.List.{[], ◌∷◌, ◌++◌}
+use native.Mathlib.Numerals.{add-one}
+use lib.ListN.{get_or, length, take}
+use lib.Seq.{take-suc, take_all}
+use borrow.Author.Rules.{rules}
+use Rattle.store_rules.specs.Store.{lent}
+use Rattle.store_rules.proofs.Sound.{sound_fits}
+use Rattle.compact_marking.specs.Rooted.{Rooting}
+use Rattle.compact_marking.proofs.Rooting.{none_rooted}
+use Rattle.compact_marking.proofs.mark_kept.Given as goal
+
+abbrev pub invariant-loop-k : goal.invariant-loop-k
+invariant-loop-k l = (l.k ≤ length l.roots) × Rooting l.objects l.links l.counts (take l.k l.roots) l.walk × (length l.walk ≡ length l.initial.walk)
+
+abbrev pub decreases-loop-k : goal.decreases-loop-k
+decreases-loop-k l = length l.roots - l.k

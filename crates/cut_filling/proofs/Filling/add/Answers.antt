@@ -1,0 +1,7 @@
+-- `cut_filling::Filling::add` meets its contract: the sum goes on. Assumes nothing.
+use borrow.Author.Rules.{rules}
+use Rattle.cut_filling.proofs.Weighing.{adding}
+use Rattle.cut_filling.proofs.Filling.add.Goals as goal
+
+pub returns : goal.returns
+returns c = let a = c.args in adding a.self a.cost

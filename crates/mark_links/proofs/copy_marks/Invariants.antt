@@ -1,0 +1,16 @@
+-- `mark_links::copy_marks` meets its contract: the slots of the marks before k are copied. Assumes nothing.
+use Prim.Native.Nat.{◌-◌, ◌<◌}
+use native.Mathlib.Omega.{arith}
+use lib.ListN.{length, get_or}
+use borrow.Author.Rules.{rules}
+use Rattle.store_rules.specs.SlotLinks.{slot_links}
+use Rattle.mark_links.specs.Copies.{mark_copies}
+use Rattle.store_link_rows.proofs.Copying.{Turns, turns_start, turns_source, turns_room, turns_turn, turns_stop}
+use Rattle.mark_links.proofs.Slots.{mark_turn}
+use Rattle.mark_links.proofs.copy_marks.Given as goal
+
+abbrev pub invariant-loop-k : goal.invariant-loop-k
+invariant-loop-k l = Turns l.initial.links l.counts l.at (mark_turn l.array l.places l.parent) (length l.places) l.links l.next l.k
+
+abbrev pub decreases-loop-k : goal.decreases-loop-k
+decreases-loop-k l = length l.places - l.k

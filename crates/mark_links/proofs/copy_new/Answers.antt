@@ -1,0 +1,14 @@
+-- `mark_links::copy_new` meets its contract: the links of the new tables, and then those of the kept table's arrays. Assumes nothing.
+use native.Mathlib.Omega.{arith}
+use Rattle.mark_links.proofs.Whole.{all_sources, tables_room, kept_many, kept_inside, kept_sources, kept_room, all_copied}
+use borrow.Author.Rules.{rules}
+use Rattle.mark_links.proofs.copy_new.Goals as goal
+
+pub copy_tables-at-requires : goal.copy_tables-at-requires
+copy_tables-at-requires c = record { sources = (all_sources _ _ _ _ _ _ c.requires c.rows_of-marks.ensures c.rows_of-bases.ensures, c.requires.parts); places_len_bound = (c.requires.few, omega (arith, c.requires.numbers)); part_end = c.part_end-end.ensures; rows_room = tables_room _ _ _ _ _ _ c.requires }
+
+pub copy_arrays-requires : goal.copy_arrays-requires
+copy_arrays-requires c = let sources = all_sources _ _ _ _ _ _ c.requires c.rows_of-marks.ensures c.rows_of-bases.ensures in record { sources = (kept_sources _ _ _ _ _ _ c.requires _ c.part_end-end.ensures c.copy_tables-at.ensures _ sources, omega (arith, c.requires.few, kept_many _ _ _ _ _ _ c.requires _ c.part_end-end.ensures c.copy_tables-at.ensures)); lo_le_hi = (omega arith, kept_inside _ _ _ _ _ _ c.requires _ c.part_end-end.ensures c.copy_tables-at.ensures, omega (arith, c.requires.numbers)); rows_room = kept_room _ _ _ _ _ _ c.requires _ c.part_end-end.ensures c.copy_tables-at.ensures }
+
+pub returns : goal.returns
+returns c = all_copied _ _ _ _ _ _ c.requires _ c.part_end-end.ensures c.copy_tables-at.ensures c.copy_arrays.ensures

@@ -1,0 +1,15 @@
+-- `pair_sets::marked::mark_sets` meets its contract: what the rows before `k` lead to has a mark. Assumes nothing.
+use borrow.Author.Rules.{rules}
+use Prim.Native.Nat.{◌-◌, ◌≤◌}
+use mathlib.Core.Path.{◌≡◌, refl}
+use native.Mathlib.Omega.{arith}
+use lib.ListN.{length}
+use Rattle.pair_sets.specs.Marked.{MarksSets}
+use Rattle.pair_sets.proofs.Marks.{none_marked}
+use Rattle.pair_sets.proofs.marked.mark_sets.Given as goal
+
+abbrev pub invariant-loop-k : goal.invariant-loop-k
+invariant-loop-k l = (l.rows.first ≤ l.k) × (l.k ≤ l.rows.after) × MarksSets l.links l.rows.first l.k l.marks × (length l.marks ≡ length l.initial.marks)
+
+abbrev pub decreases-loop-k : goal.decreases-loop-k
+decreases-loop-k l = l.rows.after - l.k

@@ -1,0 +1,22 @@
+-- `pair_spots::spot_in_set` meets its contract: by what the search finds. Assumes nothing.
+use mathlib.Core.List.{[]}
+use native.Mathlib.Omega.{arith}
+use Rattle.store_rules.specs.Store.{lent}
+use Rattle.pair_spots.proofs.Finding.{record_in, no_record_in, record_place}
+use borrow.Author.Rules.{rules}
+use Rattle.pair_spots.proofs.spot_in_set.Goals as goal
+
+pub record_in_set-found-requires : goal.record_in_set-found-requires
+record_in_set-found-requires c = (c.requires.size_bound.0, rw (c.bytes_of-set.ensures [] []) (c.requires.size_bound.1 [] []))
+
+pub overflow_mul-at : goal.overflow_mul-at
+overflow_mul-at c = let a = c.args in omega (arith, record_place c.bytes_of-set.result.now a.size a.second _ c.record_in_set-found.ensures c.in-At.is)
+
+pub overflow_add-at-in-At : goal.overflow_add-at-in-At
+overflow_add-at-in-At c = let a = c.args in omega (arith, record_place c.bytes_of-set.result.now a.size a.second _ c.record_in_set-found.ensures c.in-At.is)
+
+pub returns-in-At : goal.returns-in-At
+returns-in-At c l k = let a = c.args in record_in (lent a.«data».now a.objects.now l k) a.size a.second a.object (c.bytes_of-set.ensures l k) c.record_in_set-found.ensures c.in-At.is
+
+pub returns-in-Nothing : goal.returns-in-Nothing
+returns-in-Nothing c l k = let a = c.args in no_record_in (lent a.«data».now a.objects.now l k) a.size a.second a.object (c.bytes_of-set.ensures l k) c.record_in_set-found.ensures c.in-Nothing.is
