@@ -5,8 +5,8 @@
  * definitions, of which in PairPos format 2 the largest is left out. It is a count and no layout. An item
  * that is too large by itself stays so.
  *
- * The archive to link is libsplitter.a of a release folder; or `rt staticlib splitter`, at the top of
- * the repository, proves the functions and writes it to target/staticlib. It needs nothing else,
+ * The archive to link is libsplitter.a of a release folder; or `rt lib`, in the folder crates/splitter_c of
+ * the repository, proves the functions and writes it, as out/libsplitter_c.a. It needs nothing else,
  * allocates nothing, keeps nothing between calls, and may be called from any thread.
  *
  * The object store

@@ -1,4 +1,4 @@
-// The functions that are exported: on numbers and slices of numbers, on any input. They only call.
+// The library's functions: on numbers and slices of numbers, on any input. They only call. The crate splitter_c exports them to C.
 #![tactic(auto)]
 
 ghost use Rattle.std.specs.Prelude.{◌≡◌};
@@ -17,8 +17,7 @@ ghost use Rattle.call_rules.specs.Moments.{scratch_came, scratch_left};
 use call_rules::Settings;
 
 // Splits a table of any store: the answer, the numbers of the new tables at the front of their list, and how many there are. Scratch is zero after it.
-#[unsafe(no_mangle)]
-pub extern "C" fn split_pairpos(
+pub fn split_pairpos(
     data: &mut [u8],
     objects: &mut [u32],
     links: &mut [u32],
@@ -56,8 +55,7 @@ pub extern "C" fn split_pairpos(
 }
 
 // The cut places of a table of any store: the answer, the places at the front of their list, and how many there are. Scratch is zero after it.
-#[unsafe(no_mangle)]
-pub extern "C" fn cut_plan(
+pub fn cut_plan(
     data: &[u8],
     objects: &[u32],
     links: &[u32],
@@ -95,8 +93,7 @@ pub extern "C" fn cut_plan(
 }
 
 // Reads the pair of two glyphs by a table of any store: the answer, whether there is a pair, and the sixteen numbers.
-#[unsafe(no_mangle)]
-pub extern "C" fn read_pair(
+pub fn read_pair(
     data: &[u8],
     objects: &[u32],
     links: &[u32],
@@ -115,8 +112,7 @@ pub extern "C" fn read_pair(
 }
 
 // Splits a mark-to-base table of any store, as `split_pairpos` splits a pair table.
-#[unsafe(no_mangle)]
-pub extern "C" fn split_markbasepos(
+pub fn split_markbasepos(
     data: &mut [u8],
     objects: &mut [u32],
     links: &mut [u32],
@@ -154,8 +150,7 @@ pub extern "C" fn split_markbasepos(
 }
 
 // The cut places of a mark-to-base table of any store, as `cut_plan` gives those of a pair table.
-#[unsafe(no_mangle)]
-pub extern "C" fn cut_plan_markbasepos(
+pub fn cut_plan_markbasepos(
     data: &[u8],
     objects: &[u32],
     links: &[u32],
@@ -194,8 +189,7 @@ pub extern "C" fn cut_plan_markbasepos(
 
 // Reads the attachment of a mark glyph to a base glyph by a table of any store: the answer, whether there is one, and the two anchor objects, each as
 // its number plus one.
-#[unsafe(no_mangle)]
-pub extern "C" fn read_mark(
+pub fn read_mark(
     data: &[u8],
     objects: &[u32],
     links: &[u32],
@@ -215,8 +209,7 @@ pub extern "C" fn read_mark(
 
 // Splits a pair table of any store, and enters the new tables in the type 2 lookups of a lookup list that name it: the answer, the numbers of the new tables
 // at the front of their list, and how many there are. Scratch is zero after it.
-#[unsafe(no_mangle)]
-pub extern "C" fn split_in_lookups(
+pub fn split_in_lookups(
     data: &mut [u8],
     objects: &mut [u32],
     links: &mut [u32],
@@ -256,8 +249,7 @@ pub extern "C" fn split_in_lookups(
 }
 
 // Compacts any store by a list of roots: the answer, the bytes moved, and the roots under their new numbers. Scratch is zero after it.
-#[unsafe(no_mangle)]
-pub extern "C" fn compact(
+pub fn compact(
     data: &mut [u8],
     objects: &mut [u32],
     links: &mut [u32],

@@ -3,7 +3,7 @@
 
 ghost use Rattle.store_runs.specs.Looks.{Looks};
 
-use libc::STDOUT_FILENO;
+use std::io;
 use store_link_rows::put_link;
 use store_reader::{
     CHILD, KIND, ORDERS, PARENT, PER_LINK, POSITION, WIDTH, first_row, is_sound, object_bytes,
@@ -18,7 +18,7 @@ pub struct Report {
     pub reach: u64,
 }
 
-fn main() {
+fn main(rt: HostRuntime) -> io::Result<()> {
     let data = [0u8; 524288];
     let mut objects = [0u32; 131072];
     let mut links = [0u32; 1310720];
@@ -26,26 +26,30 @@ fn main() {
     lay_objects(&mut objects);
     lay_links(&mut links, 0);
     print(
-        b"a chain with a way back: ",
+        &rt,
+        "a chain with a way back: ",
         look(&data, &objects, &links, 262144, &mut walk),
-    );
+    )?;
     print(
-        b"the same without its last object's links: ",
+        &rt,
+        "the same without its last object's links: ",
         look(&data, &objects, &links, 262140, &mut walk),
-    );
+    )?;
     order_last(&mut links);
     print(
-        b"the same with order-only links of its last object: ",
+        &rt,
+        "the same with order-only links of its last object: ",
         look(&data, &objects, &links, 262144, &mut walk),
-    );
-    hand_out(b"its last object: ", &data, &objects, &links, 65535);
-    hand_out(b"an object behind it: ", &data, &objects, &links, 65536);
+    )?;
+    hand_out(&rt, "its last object: ", &data, &objects, &links, 65535)?;
+    hand_out(&rt, "an object behind it: ", &data, &objects, &links, 65536)?;
     lay_links(&mut links, 65536);
     print(
-        b"a link to no object: ",
+        &rt,
+        "a link to no object: ",
         look(&data, &objects, &links, 262144, &mut walk),
-    );
-    hand_out(b"its first object: ", &data, &objects, &links, 0);
+    )?;
+    hand_out(&rt, "its first object: ", &data, &objects, &links, 0)
 }
 
 // Objects of eight bytes each.
@@ -136,27 +140,23 @@ fn nothing() -> Report {
 
 // How many bytes of an object are handed out, of the store with all of its links in use.
 fn hand_out(
-    what: &[u8],
+    rt: &impl Print,
+    what: &str,
     data: &[u8; 524288],
     objects: &[u32; 131072],
     links: &[u32; 1310720],
     object: u32,
-) {
+) -> io::Result<()> {
     let part = object_bytes(data, objects, links, [524288, 65536, 262144], object);
-    io::write_all(STDOUT_FILENO, what);
-    io::print_decimal(STDOUT_FILENO, part.len() as u64);
-    io::write_all(STDOUT_FILENO, b" bytes handed out\n");
+    let count = part.len();
+    println!(rt; "{what}{count} bytes handed out")
 }
 
-fn print(what: &[u8], r: Report) {
-    io::write_all(STDOUT_FILENO, what);
-    io::write_all(STDOUT_FILENO, b"sound ");
-    io::print_decimal(STDOUT_FILENO, r.sound);
-    io::write_all(STDOUT_FILENO, b", cycle ");
-    io::print_decimal(STDOUT_FILENO, r.cycle);
-    io::write_all(STDOUT_FILENO, b", reaches ");
-    io::print_decimal(STDOUT_FILENO, r.reach);
-    io::write_all(STDOUT_FILENO, b" bytes\n");
+fn print(rt: &impl Print, what: &str, r: Report) -> io::Result<()> {
+    println!(rt;
+        "{what}sound {}, cycle {}, reaches {} bytes",
+        r.sound, r.cycle, r.reach
+    )
 }
 
 // The walk from object 0 of a sound store: it has a mark then if there is a way back.

@@ -1,7 +1,10 @@
 // The stored text: its numbers, and the arrays that it has in runs.
-ghost use Rattle.std.specs.Prelude.{◌<◌, ◌≤◌, length};
-ghost use Rattle.io.specs.Counts.{IsPrefixLen};
+ghost use Rattle.std.specs.Prelude.{◌<◌, ◌≤◌, length, IfOk};
+ghost use Rattle.std.specs.Counts.{IsPrefixLen};
 ghost use Rattle.folds.specs.Moments.{left};
+
+use std::io;
+use std::io::Read;
 
 // A number, and the place behind it.
 #[derive(Clone, Copy)]
@@ -23,6 +26,22 @@ pub struct Run {
 pub struct Laid {
     pub count: usize,
     pub at: usize,
+}
+
+// Reads until `out` is full or the input ends: how much was read.
+pub fn read_full(rt: &impl Input, out: &mut [u8]) -> io::Result<usize>
+    ensures { IfOk result (λ n. IsPrefixLen n (left out)) }
+{
+    let mut input = rt.reader();
+    let mut done: usize = 0;
+    while done < out.len() {
+        let n = input.read(&mut out[done..])?;
+        if n == 0 {
+            return Ok(done);
+        }
+        done += n;
+    }
+    Ok(done)
 }
 
 // The first number from a place on. What stands before it and is no digit is passed over; behind the last number there are zeros.

@@ -10,33 +10,32 @@ mod readings;
 mod report;
 mod splits;
 
-use input::{lay_u8, lay_u32, read_number};
-use libc::{STDIN_FILENO, STDOUT_FILENO};
+use input::{lay_u8, lay_u32, read_full, read_number};
 use plans::plan_agrees;
 use readings::readings_agree;
 use report::{add_case, both, print_kinds, print_line};
 use splits::{Outcome, split_agrees};
+use std::io;
 
-fn main() {
+fn main(rt: HostRuntime) -> io::Result<()> {
     let mut text = [0u8; 524288];
-    let length = io::read_full(STDIN_FILENO, &mut text);
-    replay(&text[..length]);
+    let length = read_full(&rt, &mut text)?;
+    replay(&rt, &text[..length])
 }
 
 // The text says how long it is, and how many cases it has; then come the cases.
-fn replay(text: &[u8]) {
+fn replay(rt: &impl Print, text: &[u8]) -> io::Result<()> {
     let length = read_number(text, 0);
     if !is_whole(text, length.value) {
-        io::write_all(STDOUT_FILENO, b"the stored answers are cut off\n");
-        return;
+        return println!(rt; "the stored answers are cut off");
     }
     let count = read_number(text, length.at);
     let mut tally = [0u64; 15];
-    let differing = replay_cases(text, count.at, count.value, &mut tally);
-    print_kinds(&tally);
-    print_line(b"cases", count.value as u64);
-    print_line(b"cases of marks", tally[14]);
-    print_line(b"not as stored", differing as u64);
+    let differing = replay_cases(rt, text, count.at, count.value, &mut tally)?;
+    print_kinds(rt, &tally)?;
+    print_line(rt, "cases", count.value as u64)?;
+    print_line(rt, "cases of marks", tally[14])?;
+    print_line(rt, "not as stored", differing as u64)
 }
 
 // The text is as long as it says; with no text nothing is said.
@@ -45,15 +44,21 @@ fn is_whole(text: &[u8], length: u32) -> bool {
 }
 
 // Replays case after case; answers how many are not as stored, or not there.
-fn replay_cases(text: &[u8], from: usize, count: u32, tally: &mut [u64; 15]) -> u32 {
+fn replay_cases(
+    rt: &impl Print,
+    text: &[u8],
+    from: usize,
+    count: u32,
+    tally: &mut [u64; 15],
+) -> io::Result<u32> {
     let mut at = from;
     let mut differing: u32 = 0;
     let mut k: u32 = 0;
     while k < count {
         if at >= text.len() {
-            return differing + (count - k);
+            return Ok(differing + (count - k));
         }
-        let case = replay_case(text, at, k as u64 + 1);
+        let case = replay_case(rt, text, at, k as u64 + 1)?;
         add_case(tally, case.answer, case.count, case.marks);
         at = case.at;
         k += 1;
@@ -61,11 +66,11 @@ fn replay_cases(text: &[u8], from: usize, count: u32, tally: &mut [u64; 15]) -> 
             differing += 1;
         }
     }
-    differing
+    Ok(differing)
 }
 
 // Lays a case's store, and makes the calls. A lookup type of 4 is that of a table of marks, 2 that of one of pairs.
-fn replay_case(text: &[u8], from: usize, case: u64) -> Outcome {
+fn replay_case(rt: &impl Print, text: &[u8], from: usize, case: u64) -> io::Result<Outcome> {
     let mut counts = [0u32; 3];
     let mut data = [0u8; 524288];
     let mut objects = [0u32; 16384];
@@ -82,6 +87,7 @@ fn replay_case(text: &[u8], from: usize, case: u64) -> Outcome {
     let object_count = c.count;
     let link_count = d.count;
     replay_calls(
+        rt,
         text,
         d.at,
         case,
@@ -97,6 +103,7 @@ fn replay_case(text: &[u8], from: usize, case: u64) -> Outcome {
 
 // Reads what is stored of glyphs, plans the cuts, splits, and reads again.
 fn replay_calls(
+    rt: &impl Print,
     text: &[u8],
     from: usize,
     case: u64,
@@ -107,22 +114,22 @@ fn replay_calls(
     counts: &mut [u32; 3],
     table: u32,
     edition: u32,
-) -> Outcome {
+) -> io::Result<Outcome> {
     let before = readings_agree(
-        text, from, case, marks, data, objects, links, counts, table, &[0; 8192], 0,
-    );
+        rt, text, from, case, marks, data, objects, links, counts, table, &[0; 8192], 0,
+    )?;
     let plan = plan_agrees(
-        text, before.at, case, marks, data, objects, links, counts, table, edition,
-    );
+        rt, text, before.at, case, marks, data, objects, links, counts, table, edition,
+    )?;
     let split = split_agrees(
-        text, plan.at, from, case, marks, data, objects, links, counts, table, edition,
-    );
+        rt, text, plan.at, from, case, marks, data, objects, links, counts, table, edition,
+    )?;
     let agrees = both(both(before.agrees, plan.agrees), split.agrees);
-    Outcome {
+    Ok(Outcome {
         at: split.at,
         marks,
         answer: split.answer,
         count: split.count,
         agrees,
-    }
+    })
 }

@@ -3,9 +3,11 @@ use crate::digest::{mix_u16, of_scratch};
 use crate::input::{lay_u8, lay_u16, lay_u32, least, read_number};
 use crate::report::{Called, Seen, both, call_agrees, same};
 use splitter::{cut_plan, cut_plan_markbasepos};
+use std::io;
 
 // Lays the list, makes the call, and compares.
 pub fn plan_agrees(
+    rt: &impl Print,
     text: &[u8],
     from: usize,
     case: u64,
@@ -16,7 +18,7 @@ pub fn plan_agrees(
     counts: &[u32; 3],
     table: u32,
     edition: u32,
-) -> Seen {
+) -> io::Result<Seen> {
     let mut places = [0u16; 8192];
     let laid = lay_u16(text, from, &mut places);
     let room = laid.count;
@@ -32,7 +34,7 @@ pub fn plan_agrees(
         edition,
         &mut places[..room],
     );
-    places_agree(text, case, called, &places)
+    places_agree(rt, text, case, called, &places)
 }
 
 // Lays the first scratch, and lends it on.
@@ -195,14 +197,20 @@ fn either_plan(
 }
 
 // The stored answer, digest and places are those of the call.
-fn places_agree(text: &[u8], case: u64, called: Called, places: &[u16; 8192]) -> Seen {
-    let call = call_agrees(text, case, b"cut plan", called);
+fn places_agree(
+    rt: &impl Print,
+    text: &[u8],
+    case: u64,
+    called: Called,
+    places: &[u16; 8192],
+) -> io::Result<Seen> {
+    let call = call_agrees(rt, text, case, "cut plan", called)?;
     let list = first_places(text, call.at, called.count, places);
-    let agrees = same(case, b"cut plan", b"a place", list.agrees);
-    Seen {
+    let agrees = same(rt, case, "cut plan", "a place", list.agrees)?;
+    Ok(Seen {
         at: list.at,
         agrees: both(agrees, call.agrees),
-    }
+    })
 }
 
 // The stored places are the first of the list, as many as there are.

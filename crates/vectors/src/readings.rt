@@ -3,9 +3,11 @@ use crate::input::{lay_u32, least, read_number};
 use crate::marks::compare_attachment;
 use crate::pairs::compare_pair;
 use crate::report::{Reading, Seen, both, same};
+use std::io;
 
 // Each of some stored readings is there, and is what a table and so many new tables after it give.
 pub fn readings_agree(
+    rt: &impl Print,
     text: &[u8],
     from: usize,
     case: u64,
@@ -17,26 +19,27 @@ pub fn readings_agree(
     table: u32,
     new_tables: &[u32; 8192],
     new_count: u32,
-) -> Seen {
+) -> io::Result<Seen> {
     let count = read_number(text, from);
     let mut at = count.at;
     let mut agrees = true;
     let mut k: u32 = 0;
     while k < count.value {
         if at >= text.len() {
-            return Seen { at, agrees: false };
+            return Ok(Seen { at, agrees: false });
         }
         let reading = reading_agrees(
-            text, at, case, marks, data, objects, links, counts, table, new_tables, new_count,
-        );
+            rt, text, at, case, marks, data, objects, links, counts, table, new_tables, new_count,
+        )?;
         at = reading.at;
         agrees = both(agrees, reading.agrees);
         k += 1;
     }
-    Seen { at, agrees }
+    Ok(Seen { at, agrees })
 }
 
 fn reading_agrees(
+    rt: &impl Print,
     text: &[u8],
     from: usize,
     case: u64,
@@ -48,7 +51,7 @@ fn reading_agrees(
     table: u32,
     new_tables: &[u32; 8192],
     new_count: u32,
-) -> Seen {
+) -> io::Result<Seen> {
     let first = read_number(text, from);
     let second = read_number(text, first.at);
     let answer = read_number(text, second.at);
@@ -69,10 +72,10 @@ fn reading_agrees(
         &stored,
     );
     let agrees = reading.answer == answer.value && reading.found == found.value && reading.agrees;
-    Seen {
+    Ok(Seen {
         at: laid.at,
-        agrees: same(case, b"reading", b"what two glyphs have", agrees),
-    }
+        agrees: same(rt, case, "reading", "what two glyphs have", agrees)?,
+    })
 }
 
 // The reading of two glyphs by the first of the tables that has something of them, or else by the last.

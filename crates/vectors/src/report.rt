@@ -2,7 +2,7 @@
 ghost use Rattle.std.specs.Prelude.{◌<◌};
 
 use crate::input::read_number;
-use libc::STDOUT_FILENO;
+use std::io;
 
 // The place behind what was compared, and whether it was as stored.
 #[derive(Clone, Copy)]
@@ -29,20 +29,27 @@ pub struct Reading {
 }
 
 // The stored answer and digest of a call are its own.
-pub fn call_agrees(text: &[u8], case: u64, call: &[u8], called: Called) -> Seen {
+pub fn call_agrees(
+    rt: &impl Print,
+    text: &[u8],
+    case: u64,
+    call: &str,
+    called: Called,
+) -> io::Result<Seen> {
     let answer = read_number(text, called.at);
     let digest = read_number(text, answer.at);
-    let a = same(case, call, b"the answer", answer.value == called.answer);
+    let a = same(rt, case, call, "the answer", answer.value == called.answer)?;
     let b = same(
+        rt,
         case,
         call,
-        b"what it leaves",
+        "what it leaves",
         digest.value as u64 == called.digest,
-    );
-    Seen {
+    )?;
+    Ok(Seen {
         at: digest.at,
         agrees: both(a, b),
-    }
+    })
 }
 
 pub fn both(a: bool, b: bool) -> bool {
@@ -50,18 +57,12 @@ pub fn both(a: bool, b: bool) -> bool {
 }
 
 // Says what of a call differs, where it does.
-pub fn same(case: u64, call: &[u8], what: &[u8], agrees: bool) -> bool {
+pub fn same(rt: &impl Print, case: u64, call: &str, what: &str, agrees: bool) -> io::Result<bool> {
     if agrees {
-        return true;
+        return Ok(true);
     }
-    io::write_all(STDOUT_FILENO, b"case ");
-    io::print_decimal(STDOUT_FILENO, case);
-    io::write_all(STDOUT_FILENO, b", ");
-    io::write_all(STDOUT_FILENO, call);
-    io::write_all(STDOUT_FILENO, b": ");
-    io::write_all(STDOUT_FILENO, what);
-    io::write_all(STDOUT_FILENO, b" differs\n");
-    false
+    println!(rt; "case {case}, {call}: {what} differs")?;
+    Ok(false)
 }
 
 // Adds a case to its kind: 0 where the table was cut, the answer where the split was refused, 13 where there was nothing to cut; and one of marks to 14.
@@ -96,22 +97,19 @@ fn kind_of(answer: u32, count: u32) -> usize
 }
 
 // Says how many cases of each kind there are.
-pub fn print_kinds(tally: &[u64; 15]) {
-    print_line(b"cut", tally[0]);
-    print_line(b"nothing to cut", tally[13]);
+pub fn print_kinds(rt: &impl Print, tally: &[u64; 15]) -> io::Result<()> {
+    print_line(rt, "cut", tally[0])?;
+    print_line(rt, "nothing to cut", tally[13])?;
     let mut k: usize = 1;
     while k < 13 {
-        io::write_all(STDOUT_FILENO, b"refused by ");
-        io::print_decimal(STDOUT_FILENO, k as u64);
-        print_line(b"", tally[k]);
+        print!(rt; "refused by {k}")?;
+        print_line(rt, "", tally[k])?;
         k += 1;
     }
+    Ok(())
 }
 
 // A line of what is counted and its number.
-pub fn print_line(what: &[u8], count: u64) {
-    io::write_all(STDOUT_FILENO, what);
-    io::write_all(STDOUT_FILENO, b": ");
-    io::print_decimal(STDOUT_FILENO, count);
-    io::write_all(STDOUT_FILENO, b"\n");
+pub fn print_line(rt: &impl Print, what: &str, count: u64) -> io::Result<()> {
+    println!(rt; "{what}: {count}")
 }

@@ -4,6 +4,7 @@ use crate::input::{lay_u8, lay_u16, lay_u32, least, read_number};
 use crate::readings::readings_agree;
 use crate::report::{Called, Seen, both, call_agrees, same};
 use splitter::{split_markbasepos, split_pairpos};
+use std::io;
 
 // What came of a split, whether its table is one of marks, and whether all is as stored; and the place behind it.
 #[derive(Clone, Copy)]
@@ -17,6 +18,7 @@ pub struct Outcome {
 
 // Lays the list, makes the call, compares, and reads the stored readings again, which stand at `readings`, by the table and the new tables.
 pub fn split_agrees(
+    rt: &impl Print,
     text: &[u8],
     from: usize,
     readings: usize,
@@ -28,7 +30,7 @@ pub fn split_agrees(
     counts: &mut [u32; 3],
     table: u32,
     edition: u32,
-) -> Outcome {
+) -> io::Result<Outcome> {
     let mut new_tables = [0u32; 8192];
     let laid = lay_u32(text, from, &mut new_tables);
     let room = laid.count;
@@ -44,8 +46,9 @@ pub fn split_agrees(
         edition,
         &mut new_tables[..room],
     );
-    let split = tables_agree(text, case, called, &new_tables);
+    let split = tables_agree(rt, text, case, called, &new_tables)?;
     let after = readings_agree(
+        rt,
         text,
         readings,
         case,
@@ -57,14 +60,14 @@ pub fn split_agrees(
         table,
         &new_tables,
         called.count,
-    );
-    Outcome {
+    )?;
+    Ok(Outcome {
         at: split.at,
         marks,
         answer: called.answer,
         count: called.count,
         agrees: both(split.agrees, after.agrees),
-    }
+    })
 }
 
 // Lays the first scratch, and lends it on.
@@ -206,14 +209,20 @@ fn either_split(
 }
 
 // The stored answer, digest and new tables are those of the call.
-fn tables_agree(text: &[u8], case: u64, called: Called, new_tables: &[u32; 8192]) -> Seen {
-    let call = call_agrees(text, case, b"split", called);
+fn tables_agree(
+    rt: &impl Print,
+    text: &[u8],
+    case: u64,
+    called: Called,
+    new_tables: &[u32; 8192],
+) -> io::Result<Seen> {
+    let call = call_agrees(rt, text, case, "split", called)?;
     let list = first_tables(text, call.at, called.count, new_tables);
-    let agrees = same(case, b"split", b"a new table", list.agrees);
-    Seen {
+    let agrees = same(rt, case, "split", "a new table", list.agrees)?;
+    Ok(Seen {
         at: list.at,
         agrees: both(agrees, call.agrees),
-    }
+    })
 }
 
 // The stored numbers are the first of the list, as many as there are.

@@ -25,7 +25,10 @@ fn each_quotation_stands_in_a_document() {
     let documents = documents(&root.join("docs")).unwrap();
     let mut count = 0;
     let mut missing = Vec::new();
-    for file in files_of_kinds(&root.join("crates"), &["antt", "rt"]).unwrap() {
+    let files = files_of_kinds(&root.join("crates"), &["antt", "rt"]).unwrap();
+    // What `rt` makes beside the sources may be of older ones.
+    let is_made = |file: &PathBuf| file.components().any(|it| it.as_os_str() == "out");
+    for file in files.into_iter().filter(|file| !is_made(file)) {
         let quotations = quotations(&fs::read_to_string(&file).unwrap());
         count += quotations.len();
         for (line, part) in not_found(&quotations, &documents) {

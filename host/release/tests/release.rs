@@ -8,7 +8,7 @@ use std::{
     ffi::OsString,
     fs,
     path::{Path, PathBuf},
-    process::{Command, Output},
+    process::{self, Command, Output},
     sync::OnceLock,
 };
 
@@ -113,6 +113,7 @@ fn a_host_in_c() {
 #[test]
 fn a_build_without_the_kit() {
     let target = Path::new(env!("CARGO_TARGET_TMPDIR")).join("without-kit");
+    let programs = Programs::new();
     let run = |words: &[&str]| {
         let output = Command::new(env::var_os("CARGO").unwrap_or("cargo".into()))
             .args([
@@ -128,8 +129,7 @@ fn a_build_without_the_kit() {
             .arg(folder().join("cargo-config.toml"))
             .args(words)
             .env("CARGO_TARGET_DIR", &target)
-            .env("PATH", path_without_kit())
-            .env_remove("RATTLE_HOME")
+            .env("PATH", &programs.path)
             .output()
             .unwrap();
         let said = String::from_utf8_lossy(&output.stderr);
@@ -143,19 +143,34 @@ fn a_build_without_the_kit() {
     assert_eq!(known(&version), known(&record));
 }
 
-/// The PATH without the folders that have an `rt`, whatever else these have being linked elsewhere.
-fn path_without_kit() -> OsString {
-    let path = env::var_os("PATH").unwrap();
-    let has_kit = |folder: &PathBuf| folder.join("rt").exists();
-    let (with, without): (Vec<_>, Vec<_>) = env::split_paths(&path).partition(has_kit);
-    let links = Path::new(env!("CARGO_TARGET_TMPDIR")).join("programs");
-    fs::create_dir_all(&links).unwrap();
-    for program in ["cc", "ld", "as", "ar", "cargo", "rustc", "rustup"] {
-        let place = with.iter().map(|folder| folder.join(program));
-        if let Some(place) = place.into_iter().find(|place| place.exists()) {
-            let _ = std::os::unix::fs::symlink(place, links.join(program));
+/// The PATH without the folders that have an `rt`, whatever else these have being linked elsewhere: not in
+/// cargo's folder, since `rt` refuses a repository that has links in it.
+struct Programs {
+    links: PathBuf,
+    path: OsString,
+}
+
+impl Programs {
+    fn new() -> Self {
+        let path = env::var_os("PATH").unwrap();
+        let has_kit = |folder: &PathBuf| folder.join("rt").exists();
+        let (with, without): (Vec<_>, Vec<_>) = env::split_paths(&path).partition(has_kit);
+        let links = env::temp_dir().join(format!("splitter-programs-{}", process::id()));
+        fs::create_dir_all(&links).unwrap();
+        for program in ["cc", "ld", "as", "ar", "cargo", "rustc", "rustup"] {
+            let place = with.iter().map(|folder| folder.join(program));
+            if let Some(place) = place.into_iter().find(|place| place.exists()) {
+                let _ = std::os::unix::fs::symlink(place, links.join(program));
+            }
         }
+        let folders = without.into_iter().chain([links.clone()]);
+        let path = env::join_paths(folders).unwrap();
+        Self { links, path }
     }
-    let folders = without.into_iter().chain([links]);
-    env::join_paths(folders).unwrap()
+}
+
+impl Drop for Programs {
+    fn drop(&mut self) {
+        let _ = fs::remove_dir_all(&self.links);
+    }
 }

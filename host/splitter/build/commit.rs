@@ -2,7 +2,7 @@
 
 use std::{env, path::Path, process::Command};
 
-/// What goes into the command, below the top.
+/// What goes into the command, below the top. The crates' sources are looked at anyway.
 const SOURCES: [&str; 5] = [
     "crates",
     "crates.txt",
@@ -30,7 +30,7 @@ pub fn tell(root: &Path) {
     for file in watched.into_iter().flatten() {
         println!("cargo::rerun-if-changed={}", root.join(file).display());
     }
-    for path in SOURCES {
+    for path in SOURCES.into_iter().filter(|path| *path != "crates") {
         println!("cargo::rerun-if-changed={}", root.join(path).display());
     }
     let changes = git(&[&["status", "--porcelain", "--"][..], &SOURCES].concat());

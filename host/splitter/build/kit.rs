@@ -26,7 +26,6 @@ pub struct Kit {
 impl Kit {
     /// The kit on the PATH.
     pub fn find() -> Self {
-        println!("cargo::rerun-if-env-changed=RATTLE_HOME");
         let Some(rt) = on_the_path("rt") else {
             fail(&format!(
                 "the Rattle kit is missing: its program rt, which proves the library, is not on the \
@@ -51,11 +50,9 @@ impl Kit {
 
     /// The file that says which kit it is: where it changes, the kit has.
     fn identity_file(&self) -> Option<PathBuf> {
-        let home = match env::var_os("RATTLE_HOME") {
-            Some(home) => PathBuf::from(home),
-            None => self.rt.canonicalize().ok()?.parent()?.parent()?.into(),
-        };
-        Some(home.join("KIT-ID")).filter(|file| file.is_file())
+        let rt = self.rt.canonicalize().ok()?;
+        let file = rt.parent()?.parent()?.join("KIT-ID");
+        Some(file).filter(|file| file.is_file())
     }
 
     /// Names a kit that is not the pinned one. It proves too, from nothing, so this is no error.

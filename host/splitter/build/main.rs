@@ -1,19 +1,21 @@
 //! Proves the functions that are exported, and links the archive that has them.
 //!
-//! All of it is done in cargo's own output folder: what is proved is copied there, so the repository
-//! may be read-only, and what was linked stays what it was, whatever happens to the repository. Where
-//! nothing has changed since, nothing is proved. What is there already is taken over: another profile's
-//! archive of the same sources, or proofs of the repository's own `rt check` or `rt ci`.
+//! What is proved is a copy, which is gone afterwards; what was linked stays in cargo's own output folder.
+//! So the repository may be read-only, and nothing that happens to it changes what is proved or linked.
+//! Where nothing has changed since, nothing is proved, and where another profile's archive was made of the
+//! same sources by the same kit, that one is taken. `rt` itself takes what it has proved elsewhere on this
+//! machine, as by the repository's own `rt check`.
 
 mod commit;
 mod kit;
+mod others;
 mod proof;
-mod seeds;
 mod sha256;
 mod sources;
 mod tell;
 
 use kit::Kit;
+use sources::Sources;
 use std::{
     env,
     fs::{self, File},
@@ -22,20 +24,17 @@ use std::{
 };
 use tell::{done, fail};
 
-/// The crate whose functions are exported.
-const CRATE: &str = "splitter";
+/// The crate that exports the functions.
+const CRATE: &str = "splitter_c";
 const ARCHIVE: &str = "libsplitter.a";
 
-/// In the output folder: the identity of the kit that made the archive.
-const MADE_BY: &str = "made-by";
-/// In the output folder: the sources of the archive, and what was proved of them.
-const PROOF: &str = "proof";
+/// In the output folder: which kit made the archive, and of which sources.
+const MADE_OF: &str = "made-of";
 
 fn main() {
     let root = root();
-    for path in ["crates", "crates.txt", kit::PIN] {
-        println!("cargo::rerun-if-changed={}", root.join(path).display());
-    }
+    sources::watch(&root);
+    println!("cargo::rerun-if-changed={}", root.join(kit::PIN).display());
     ensure_target();
     let out = PathBuf::from(variable("OUT_DIR"));
     let kit = Kit::find();
@@ -75,32 +74,22 @@ fn ensure_target() {
 
 /// Makes the archive, unless there is one of the same sources by the same kit.
 fn make(root: &Path, out: &Path, kit: &Kit, archive: &Path) {
-    if is_made(root, out, kit) {
+    let sources = Sources::read(root, CRATE);
+    let made_of = format!("{}\n{}\n", kit.identity, sources.digest());
+    if others::is_made(out, &made_of) {
         return;
     }
-    let [made_by, folder] = [MADE_BY, PROOF].map(|name| out.join(name));
-    remove(&made_by);
-    sources::changes(root, &folder).apply();
-    // Builds of two profiles take turns: the second takes over what the first has proved.
+    remove(&out.join(MADE_OF));
+    // Builds of two profiles take turns: the second takes the archive of the first.
     let turn = File::open(root.join("crates.txt"));
     let turn = turn.and_then(|file| file.lock().map(|()| file));
-    let made = seeds::archive(root, out, kit).unwrap_or_else(|| {
-        let crates = sources::crates_of(root, CRATE);
-        seeds::take_over(root, out, &folder, &crates);
-        proof::prove(&folder, kit, crates.len())
-    });
+    match others::archive(out, &made_of) {
+        Some(other) => drop(done(fs::copy(other, archive), "copying the archive")),
+        None => proof::prove(&sources, kit, archive).unwrap_or_else(|reason| fail(&reason)),
+    }
+    let kept = fs::write(out.join(MADE_OF), &made_of);
+    done(kept, "keeping what the archive is made of");
     drop(turn);
-    done(fs::copy(&made, archive), "copying the archive");
-    let kept = fs::write(&made_by, &kit.identity);
-    done(kept, "keeping the kit's identity");
-}
-
-/// Whether an output folder has an archive of the repository's sources by a kit.
-fn is_made(root: &Path, out: &Path, kit: &Kit) -> bool {
-    let made_by = fs::read_to_string(out.join(MADE_BY));
-    made_by.is_ok_and(|by| by == kit.identity)
-        && out.join(ARCHIVE).is_file()
-        && sources::changes(root, &out.join(PROOF)).is_empty()
 }
 
 /// Removes a file, if it is there.

@@ -2,61 +2,88 @@
 
 use crate::{
     kit::Kit,
-    remove,
-    sources::needs_of,
-    tell::{done, fail, Teller},
+    sources::Sources,
+    tell::{done, Teller},
     ARCHIVE, CRATE,
 };
 use std::{
-    fs,
+    env,
+    fs::{self, DirBuilder},
     io::{BufRead, BufReader, Read},
+    num::NonZero,
+    os::unix::fs::DirBuilderExt,
     path::{Path, PathBuf},
-    process::{Command, Stdio},
+    process::{self, Command, Stdio},
     thread,
 };
 
-/// Proves the library in a folder, which is one of so many crates, and gives its archive there.
-pub fn prove(folder: &Path, kit: &Kit, crates: usize) -> PathBuf {
+/// What a proof takes of memory, in kilobytes.
+const MEMORY: usize = 2_500_000;
+
+/// Proves the sources, and writes their archive; or says why they are not proved.
+pub fn prove(sources: &Sources, kit: &Kit, archive: &Path) -> Result<(), String> {
+    // Not in cargo's own folder: it is mostly below the repository, where `rt` refuses all sources but the crates'.
+    let folder = env::temp_dir().join(format!("splitter-proof-{}", process::id()));
+    let made = DirBuilder::new().mode(0o700).create(&folder);
+    done(made, &folder.display().to_string());
+    sources.copy_to(&folder);
+    let made = prove_in(&folder, kit, sources.crates());
+    if let Ok(made) = &made {
+        done(fs::copy(made, archive), "copying the archive");
+    }
+    done(fs::remove_dir_all(&folder), "removing the copy");
+    made.map(drop)
+}
+
+/// Proves what stands in a folder, so many crates, and gives its archive there.
+fn prove_in(folder: &Path, kit: &Kit, crates: usize) -> Result<PathBuf, String> {
     let mut teller = Teller::new();
     let what = format!(
         "{CRATE} and what it needs, {crates} crates, by {}",
         kit.identity
     );
     teller.say("Proving", &what);
-    let archive = folder.join("target/staticlib").join(ARCHIVE);
-    remove(&archive);
-    // What it needs comes first: crates that need nothing of each other are proved side by side.
-    let list = done(fs::read_to_string(folder.join("crates.txt")), "crates.txt");
-    let needs = needs_of(&list, CRATE);
+    // Crates that need nothing of each other are proved side by side. Of each that is done it says its name first; of one that
+    // another copy on this machine had proved it says no more.
     let mut count = 0;
-    if !needs.is_empty() {
-        run(
-            folder,
-            kit,
-            &[&["check"], &needs[..]].concat(),
-            &mut |line| {
-                let Some((name, how)) = proved(line) else {
-                    return;
-                };
+    let mut name = String::new();
+    let jobs = jobs().to_string();
+    run(
+        folder,
+        kit,
+        &["all", "check", "--jobs", &jobs],
+        &mut |line| {
+            if let Some(next) = line.strip_prefix("== ") {
                 count += 1;
-                if !how.contains("unchanged") {
-                    teller.say("Proved", &format!("{name} {how}, {count} of {crates}"));
-                }
-            },
-        );
-    }
+                name = next.into();
+            } else if count > 0 && line.starts_with("logic=proved") {
+                teller.say("Proved", &format!("{name}, {count} of {crates}"));
+            }
+        },
+    )?;
     teller.say("Proving", &format!("{CRATE}, and writing {ARCHIVE}"));
-    run(folder, kit, &["staticlib", CRATE], &mut |_| {});
-    archive
+    let top = folder.join("crates").join(CRATE);
+    run(&top, kit, &["lib"], &mut |_| {})?;
+    Ok(top.join(format!("out/lib{CRATE}.a")))
 }
 
-/// A crate that was proved, and how: `rt: NAME proved (3 s)`.
-fn proved(line: &str) -> Option<(&str, &str)> {
-    line.strip_prefix("rt: ")?.split_once(" proved ")
+/// How many crates are proved at a time: one for each core, and no more than there is memory for.
+fn jobs() -> usize {
+    let cores = thread::available_parallelism().map_or(1, NonZero::get);
+    let room = free_memory().map_or(cores, |free| free / MEMORY);
+    cores.min(room).max(1)
+}
+
+/// The memory that can be had, in kilobytes.
+fn free_memory() -> Option<usize> {
+    let said = fs::read_to_string("/proc/meminfo").ok()?;
+    let mut lines = said.lines();
+    let free = lines.find_map(|line| line.strip_prefix("MemAvailable:"))?;
+    free.trim().strip_suffix(" kB")?.parse().ok()
 }
 
 /// Runs a command of the kit, and shows its lines as they come.
-fn run(folder: &Path, kit: &Kit, words: &[&str], show: &mut dyn FnMut(&str)) {
+fn run(folder: &Path, kit: &Kit, words: &[&str], show: &mut dyn FnMut(&str)) -> Result<(), String> {
     let what = format!("rt {}", words.join(" "));
     let child = Command::new(&kit.rt)
         .args(words)
@@ -83,8 +110,9 @@ fn run(folder: &Path, kit: &Kit, words: &[&str], show: &mut dyn FnMut(&str)) {
         let errors = errors.and_then(|errors| errors.join().ok());
         eprint!("{}", errors.unwrap_or_default());
         eprintln!("{}", said.join("\n"));
-        fail(&format!("{what} did not prove the library: {status}"));
+        return Err(format!("{what} did not prove the library: {status}"));
     }
+    Ok(())
 }
 
 fn whole(mut errors: impl Read) -> String {

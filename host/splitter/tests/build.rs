@@ -6,33 +6,38 @@ use std::{
     env, fs,
     os::unix::fs::PermissionsExt,
     path::{Path, PathBuf},
-    process::Command,
+    process::{self, Command},
     time::SystemTime,
 };
 
-/// A kit that proves nothing: it keeps what it is asked, and its archive is the one that is linked here.
+/// A kit that proves nothing: it keeps what it is asked, and its archive is the one that is linked here. Of
+/// a crate that it takes to be proved elsewhere it says its name alone.
 const KIT: &str = r#"#!/bin/sh
-echo "$@" >>"LOG"
+echo "$1${2:+ $2}" >>"LOG"
 case $1 in
 version) echo "rattle-kit-test logic 1" ;;
-check)
-    grep -q wrong crates/*/src/lib.rt && { echo "rt: base NOT PROVED (exit 1, 1 s)"; exit 1; }
-    for crate in ground base; do
-        if [ -f target/stamp/$crate ]; then
-            echo "rt: $crate proved (unchanged since it was last proved)"
-        else
-            echo "rt: $crate proved (3 s)"
-        fi
+all)
+    for crate in $(sed 's/[: ].*//' crates.txt); do
+        echo "== $crate"
+        grep -q wrong crates/$crate/src/lib.rt && { echo "logic=not-proved"; echo "$crate: failed (1)"; exit 1; }
+        grep -q taken crates/$crate/src/lib.rt || echo "logic=proved functions=1"
     done ;;
-staticlib)
-    mkdir -p target/staticlib target/stamp
-    cp "ARCHIVE" target/staticlib/libsplitter.a ;;
+lib)
+    mkdir out
+    cp "ARCHIVE" out/libsplitter_c.a ;;
 esac
 "#;
 
-/// A repository of three crates, and a fourth that is not needed, with this library in it.
+/// A repository of four crates, and a fifth that is not needed, with this library in it. It is not in cargo's
+/// folder, since `rt` refuses a repository that has another one in it, and goes with the test.
 struct Repository {
     top: PathBuf,
+}
+
+impl Drop for Repository {
+    fn drop(&mut self) {
+        let _ = fs::remove_dir_all(&self.top);
+    }
 }
 
 /// What came of a build.
@@ -45,13 +50,15 @@ struct Built {
 
 impl Repository {
     fn new(name: &str) -> Self {
-        let top = Path::new(env!("CARGO_TARGET_TMPDIR")).join(name);
+        let top = env::temp_dir().join(format!("splitter-{name}-{}", process::id()));
         let _ = fs::remove_dir_all(&top);
         let repository = Self { top };
-        let list = "ground:\nbase: ground io\nsplitter: base\nother: base # a comment: splitter\n";
+        let list =
+            "ground:\nbase: ground io\nsplitter: base\nsplitter_c staticlib: splitter base\n\
+                    other: base # a comment: splitter_c\n";
         repository.write("tree/crates.txt", list);
         repository.write("tree/kit.txt", "rattle-kit-test logic 1\n");
-        for name in ["ground", "base", "splitter", "other"] {
+        for name in ["ground", "base", "splitter", "splitter_c", "other"] {
             repository.write(&format!("tree/crates/{name}/src/lib.rt"), "// nothing\n");
         }
         let workspace = "[workspace]\nresolver = \"2\"\nmembers = [\"splitter\"]\n";
@@ -98,7 +105,6 @@ impl Repository {
             .current_dir(self.top.join("tree/host"))
             .env("PATH", env::join_paths(path).unwrap())
             .env("CARGO_TARGET_DIR", self.top.join("target"))
-            .env_remove("RATTLE_HOME")
             .output()
             .unwrap();
         let asked = fs::read_to_string(self.top.join("asked")).unwrap_or_default();
@@ -149,10 +155,10 @@ fn list(folder: &Path, files: &mut BTreeMap<PathBuf, (u64, SystemTime)>) {
     }
 }
 
-const PROVES: &str = "version; check base; staticlib splitter; ";
+const PROVES: &str = "version; all check; lib; ";
 
-/// The first build proves and says so, in cargo's own folder; the second does nothing at all; a file that
-/// was only touched is looked at, and one that is not needed too; one that has changed is proved.
+/// The first build proves and says so, and leaves the repository alone; the second does nothing at all; a file
+/// that was only touched is looked at, and one that is not needed too; one that has changed is proved.
 #[test]
 fn what_is_proved_and_when() {
     let repository = Repository::new("builds");
@@ -161,10 +167,10 @@ fn what_is_proved_and_when() {
     assert!(built.succeeded, "{}", built.said);
     assert_eq!(built.asked, PROVES);
     for line in [
-        "     Proving splitter and what it needs, 3 crates, by rattle-kit-test logic 1\n",
-        "      Proved ground (3 s), 1 of 3\n",
-        "      Proved base (3 s), 2 of 3\n",
-        "     Proving splitter, and writing libsplitter.a\n",
+        "     Proving splitter_c and what it needs, 4 crates, by rattle-kit-test logic 1\n",
+        "      Proved ground, 1 of 4\n",
+        "      Proved base, 2 of 4\n",
+        "     Proving splitter_c, and writing libsplitter.a\n",
     ] {
         assert!(built.said.contains(line), "{}", built.said);
     }
@@ -188,16 +194,15 @@ fn what_is_proved_and_when() {
     assert_eq!(repository.build().asked, "version; ");
 }
 
-/// What `rt` has proved in the repository is taken over.
+/// What `rt` takes over from elsewhere is not told as proved.
 #[test]
 fn proofs_are_taken_over() {
     let repository = Repository::new("seeds");
-    repository.write("tree/target/stamp/ground", "a stamp\n");
-    repository.write("tree/target/rlib/ground.rlib/interface/file", "a library\n");
+    repository.write("tree/crates/ground/src/lib.rt", "// taken\n");
     let built = repository.build();
     assert!(built.succeeded, "{}", built.said);
     assert!(!built.said.contains("Proved ground"), "{}", built.said);
-    assert!(built.said.contains("Proved base (3 s), 2 of 3\n"));
+    assert!(built.said.contains("Proved base, 2 of 4\n"));
 }
 
 /// Another kit than the pinned one is named, and builds all the same.
@@ -240,12 +245,9 @@ fn what_ends_a_build() {
     ]);
     repository.kit(KIT);
     repository.write("tree/crates/base/src/lib.rt", "// wrong\n");
-    ends(&[
-        "rt: base NOT PROVED",
-        "rt check base did not prove the library",
-    ]);
+    ends(&["base: failed (1)", "did not prove the library"]);
     // What was not proved is not taken for proved.
-    ends(&["rt: base NOT PROVED"]);
+    ends(&["base: failed (1)"]);
     repository.write("tree/crates/base/src/lib.rt", "// right\n");
     assert!(repository.build().succeeded);
 }
