@@ -1,12 +1,10 @@
 -- `lookup_checks::lookups_fit` meets its contract: the lookups of the rows before i have been looked at. Assumes nothing.
-use Prim.Native.Nat.{◌+◌, ◌-◌, ◌*◌}
+use Prim.Native.Nat.{◌-◌}
 use mathlib.Core.Path.{refl, sym, ◌∙◌}
-use lib.ListN.{length, get_or}
+use lib.ListN.{length}
 use borrow.Author.Tests.{not-false}
-use borrow.Author.Rules.{rules}
-use Rattle.store_rules.specs.Store.{lent, per_link, row_child}
 use Rattle.lookup_checks.proofs.Objects.{lead_used}
-use Rattle.lookup_checks.proofs.Looking.{Looked, start, again, unfit, one_named, one_other, stop}
+use Rattle.lookup_checks.proofs.Looking.{start, again, unfit, one_named, one_other, stop}
 use mathlib.Core.Path.{ap}
 use mathlib.Core.Bool.{not}
 use Rattle.lookup_checks.proofs.lookups_fit.Goals as goal

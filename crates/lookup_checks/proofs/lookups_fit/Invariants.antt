@@ -1,12 +1,8 @@
 -- `lookup_checks::lookups_fit` meets its contract: the lookups of the rows before i have been looked at. Assumes nothing.
 use Prim.Native.Nat.{◌+◌, ◌-◌, ◌*◌}
-use mathlib.Core.Path.{refl, sym, ◌∙◌}
 use lib.ListN.{length, get_or}
-use borrow.Author.Tests.{not-false}
-use borrow.Author.Rules.{rules}
 use Rattle.store_rules.specs.Store.{lent, per_link, row_child}
-use Rattle.lookup_checks.proofs.Objects.{lead_used}
-use Rattle.lookup_checks.proofs.Looking.{Looked, start, again, unfit, one_named, one_other, stop}
+use Rattle.lookup_checks.proofs.Looking.{Looked}
 use Rattle.lookup_checks.proofs.lookups_fit.Given as goal
 
 abbrev pub invariant-loop-i : goal.invariant-loop-i

@@ -1,8 +1,6 @@
 -- `lookup_links::enter_links` meets its contract: the links of the new lookups before m are written. Assumes nothing.
 use Prim.Native.Nat.{◌-◌}
-use lib.ListN.{length}
-use borrow.Author.Rules.{rules}
-use Rattle.lookup_links.proofs.Entering.{AllEntered, all_start, all_stop, lookup_ready, all-turn}
+use Rattle.lookup_links.proofs.Entering.{all_start, all_stop, lookup_ready, all-turn}
 use Rattle.lookup_links.proofs.enter_links.Goals as goal
 
 pub loop-m-init : goal.loop-m-init

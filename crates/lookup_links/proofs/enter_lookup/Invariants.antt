@@ -1,8 +1,6 @@
 -- `lookup_links::enter_lookup` meets its contract: the links of the rows before k are written. Assumes nothing.
 use Prim.Native.Nat.{◌-◌}
-use native.Mathlib.Omega.{arith}
-use borrow.Author.Rules.{rules}
-use Rattle.lookup_links.proofs.Lookup.{Entered, all_are, entered_start, entered_stop, row_ready, entered_turn}
+use Rattle.lookup_links.proofs.Lookup.{Entered}
 use Rattle.lookup_links.proofs.enter_lookup.Given as goal
 
 abbrev pub invariant-loop-k : goal.invariant-loop-k

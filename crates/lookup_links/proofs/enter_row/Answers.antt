@@ -1,6 +1,5 @@
 -- `lookup_links::enter_row` meets its contract: the row's copy, and the new tables where it leads to the old one. Assumes nothing.
 use native.Mathlib.Omega.{arith}
-use borrow.Author.Rules.{rules}
 use Rattle.lookup_links.proofs.Rows.{copy_room, other_copied, listing_room, listing_copied}
 use Rattle.lookup_links.proofs.enter_row.Goals as goal
 

@@ -2,8 +2,8 @@
 use Prim.Native.Nat.{◌-◌}
 use lib.ListN.{length-set}
 use borrow.Author.Rules.{rules}
-use Rattle.store_link_rows.proofs.Changing.{Changed, changed_start, changed_turn, changed_done}
-use Rattle.lookup_links.proofs.Redirecting.{redirected_by, numbers_fit, row_redirected, all-redirected}
+use Rattle.store_link_rows.proofs.Changing.{changed_start, changed_turn, changed_done}
+use Rattle.lookup_links.proofs.Redirecting.{numbers_fit, row_redirected, all-redirected}
 use Rattle.lookup_links.proofs.lead_links.Goals as goal
 
 pub loop-k-init : goal.loop-k-init

@@ -1,9 +1,7 @@
 -- `lookup_links::lead_links` meets its contract: the rows before k are redirected. Assumes nothing.
 use Prim.Native.Nat.{◌-◌}
-use lib.ListN.{length-set}
-use borrow.Author.Rules.{rules}
-use Rattle.store_link_rows.proofs.Changing.{Changed, changed_start, changed_turn, changed_done}
-use Rattle.lookup_links.proofs.Redirecting.{redirected_by, numbers_fit, row_redirected, all-redirected}
+use Rattle.store_link_rows.proofs.Changing.{Changed}
+use Rattle.lookup_links.proofs.Redirecting.{redirected_by}
 use Rattle.lookup_links.proofs.lead_links.Given as goal
 
 abbrev pub invariant-loop-k : goal.invariant-loop-k

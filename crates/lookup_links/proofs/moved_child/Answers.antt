@@ -1,7 +1,6 @@
 -- `lookup_links::moved_child` meets its contract: an object without a mark stays as one that is marked with less than 2. Assumes nothing.
 use native.Mathlib.Omega.{arith}
 use lib.ListN.{get_or-eq_default}
-use borrow.Author.Rules.{rules}
 use Rattle.lookup_links.proofs.Redirecting.{stays_there, moves_there}
 use Rattle.lookup_links.proofs.moved_child.Goals as goal
 

@@ -1,5 +1,4 @@
 -- `lookup_links::redirect_links` meets its contract: each row is redirected, and then the order-only rows of each parent are put in order. Assumes nothing.
-use borrow.Author.Rules.{rules}
 use Rattle.lookup_links.proofs.Reordering.{rows_led, all-ordered}
 use Rattle.lookup_links.proofs.redirect_links.Goals as goal
 

@@ -1,6 +1,5 @@
 -- `lookup_new_objects::copy_lookup` meets its contract: type and flag, the count, the offsets and what stands behind them. Assumes nothing.
 use native.Mathlib.Omega.{arith}
-use borrow.Author.Rules.{rules}
 use Rattle.lookup_new_objects.proofs.Copied.{copy_room, copied}
 use Rattle.lookup_new_objects.proofs.copy_lookup.Goals as goal
 

@@ -1,7 +1,6 @@
 -- `lookup_new_objects::count_listings` meets its contract: the rows before k are counted. Assumes nothing.
 use Prim.Native.Nat.{◌-◌}
-use borrow.Author.Rules.{rules}
-use Rattle.lookup_new_objects.proofs.Listing.{Counted, counted_start, counted_stop, counted_listing, counted_other}
+use Rattle.lookup_new_objects.proofs.Listing.{counted_start, counted_stop, counted_listing, counted_other}
 use Rattle.lookup_new_objects.proofs.count_listings.Goals as goal
 
 pub loop-k-init : goal.loop-k-init

@@ -1,10 +1,8 @@
 -- `lookup_new_objects::measure` meets its contract: what the new lookups before m need is added up. Assumes nothing.
 use Prim.Native.Nat.{◌-◌}
-use native.Mathlib.Omega.{arith}
 use lib.ListN.{length}
-use borrow.Author.Rules.{rules}
 use Rattle.store_rules.specs.Store.{lent}
-use Rattle.lookup_new_objects.proofs.Measuring.{Added, added_start, can_size, added_turn, added_stop}
+use Rattle.lookup_new_objects.proofs.Measuring.{Added}
 use Rattle.lookup_new_objects.proofs.measure.Given as goal
 
 abbrev pub invariant-loop-m : goal.invariant-loop-m

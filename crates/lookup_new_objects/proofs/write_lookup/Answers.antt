@@ -1,7 +1,6 @@
 -- `lookup_new_objects::write_lookup` meets its contract: the old lookup lies below what is written. Assumes nothing.
 use Prim.Native.Nat.{◌+◌, ◌*◌}
 use native.Mathlib.Omega.{arith}
-use borrow.Author.Rules.{rules}
 use Rattle.lookup_new_objects.proofs.Writing.{row_there, copy_ready, end_small, lookup_written}
 use Rattle.lookup_new_objects.proofs.write_lookup.Goals as goal
 

@@ -1,10 +1,7 @@
 -- `lookup_new_objects::write_lookups` meets its contract: the new lookups before m are written. Assumes nothing.
 use Prim.Native.Nat.{◌-◌}
 use native.Mathlib.Omega.{arith}
-use lib.ListN.{length}
-use borrow.Author.Rules.{rules}
-use Rattle.store_rules.specs.Store.{lent}
-use Rattle.lookup_new_objects.proofs.Looping.{LookupsWritten, lookups_start, lookups_stop, lookup_ready, row_small, lookups_turn}
+use Rattle.lookup_new_objects.proofs.Looping.{lookups_start, lookups_stop, lookup_ready, row_small, lookups_turn}
 use Rattle.lookup_new_objects.proofs.write_lookups.Goals as goal
 
 pub loop-m-init : goal.loop-m-init

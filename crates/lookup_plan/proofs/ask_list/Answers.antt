@@ -1,6 +1,5 @@
 -- `lookup_plan::ask_list` meets its contract: 12, 1, 2 and 9 one after another. Assumes nothing.
 use Rattle.store_rules.specs.Store.{Store, lent}
-use borrow.Author.Rules.{rules}
 use Rattle.lookup_plan.proofs.Asking.{unknown, unsound, no_table_lem, no_list_lem, list_used, bad_list_lem, good_list_lem}
 use mathlib.Core.Path.{ap}
 use mathlib.Core.Bool.{not}

@@ -1,7 +1,6 @@
 -- `lookup_plan::decide` meets its contract: by what the checks of the list decide, and then as for a split. Assumes nothing.
 use Rattle.store_rules.specs.Store.{Store, lent}
 use Rattle.call_rules.specs.Scratch.{Scratch, scratch_of}
-use borrow.Author.Rules.{rules}
 use Rattle.lookup_plan.proofs.ListDecided.{list_settled, known_sound, list_good}
 use Rattle.lookup_plan.proofs.decide.Goals as goal
 

@@ -1,7 +1,6 @@
 -- `lookup_split::enter_any` meets its contract: refused by one of the checks, or entered as planned. Assumes nothing.
 use mathlib.Core.Path.{sym, ap, ◌∙◌}
 use mathlib.Core.Option.{some}
-use borrow.Author.Rules.{rules}
 use Rattle.store_rules.specs.Store.{Store, lent}
 use Rattle.call_rules.specs.Scratch.{Scratch, scratch_of}
 use Rattle.pair_plan.specs.Decided.{decided_as}

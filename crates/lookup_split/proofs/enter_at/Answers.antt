@@ -1,8 +1,5 @@
 -- `lookup_split::enter_at` meets its contract: too many subtables, no room, or carried out. Assumes nothing.
-use borrow.Author.Rules.{rules}
 use Rattle.lookup_split.proofs.EnterAt.{measure_asked, in_use_lem, too_many, no_room_lem, can_carry, all-entered}
-use mathlib.Core.Path.{ap}
-use mathlib.Core.Bool.{not}
 use Rattle.lookup_split.proofs.enter_at.Goals as goal
 
 pub measure_all-measures-requires : goal.measure_all-measures-requires

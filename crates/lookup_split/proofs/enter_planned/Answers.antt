@@ -1,6 +1,5 @@
 -- `lookup_split::enter_planned` meets its contract: nothing to cut, or the lookups in order, and then by what is entered at the plan's places. Assumes nothing.
 use native.Mathlib.Omega.{arith}
-use borrow.Author.Rules.{rules}
 use Rattle.lookup_split.proofs.Planned.{nothing, both_small, marks_long_lem, lookups_end, placing, refused, entered}
 use Rattle.lookup_split.proofs.enter_planned.Goals as goal
 

@@ -1,6 +1,5 @@
 -- `lookup_split::split_in_lookups` meets its contract: new tables are entered or refused, and the scratch is cleared. Assumes nothing.
 use mathlib.Core.Path.{◌∙◌}
-use borrow.Author.Rules.{rules}
 use Rattle.call_rules.specs.Scratch.{scratch_of}
 use Rattle.call_lists.proofs.Split.{then_cleared}
 use Rattle.lookup_split.proofs.split_in_lookups.Goals as goal

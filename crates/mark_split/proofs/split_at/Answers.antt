@@ -1,6 +1,5 @@
 -- `mark_split::split_at` meets its contract: the needs are measured, and there is room for them or not. Assumes nothing.
 use native.Mathlib.Omega.{arith}
-use borrow.Author.Rules.{rules}
 use Rattle.mark_carrying.proofs.ByTable.{marks_room}
 use Rattle.mark_split.proofs.SplitAt.{in_use_lem, no_room_lem, can_carry, carried}
 use Rattle.mark_split.proofs.split_at.Goals as goal

@@ -1,6 +1,5 @@
 -- `mark_split::split_markbasepos` meets its contract: the table is split or refused, and the scratch is cleared. Assumes nothing.
 use mathlib.Core.Path.{◌∙◌}
-use borrow.Author.Rules.{rules}
 use Rattle.call_rules.specs.Scratch.{scratch_of}
 use Rattle.call_lists.proofs.Split.{then_cleared}
 use Rattle.mark_split.proofs.split_markbasepos.Goals as goal

@@ -5,7 +5,6 @@ use mathlib.Core.List.{List}
 use native.Mathlib.Omega.{arith}
 use lib.ListN.{length}
 use borrow.Author.Tests.{not-true, not-false}
-use borrow.Author.Rules.{rules}
 use Rattle.folds.specs.Lists.{part}
 use Rattle.folds.proofs.Fronts.{front_long}
 use Rattle.store_rules.specs.Store.{Store, lent}

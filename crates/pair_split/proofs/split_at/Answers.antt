@@ -1,5 +1,4 @@
 -- `pair_split::split_at` meets its contract: the needs are measured, and there is room for them or not. Assumes nothing.
-use borrow.Author.Rules.{rules}
 use Rattle.pair_split.proofs.SplitAt.{in_use_lem, no_room_lem, can_carry, carried}
 use Rattle.pair_split.proofs.split_at.Goals as goal
 

@@ -1,6 +1,5 @@
 -- `pair_split::split_pairpos` meets its contract: the table is split or refused, and the scratch is cleared. Assumes nothing.
 use mathlib.Core.Path.{◌∙◌}
-use borrow.Author.Rules.{rules}
 use Rattle.call_rules.specs.Scratch.{scratch_of}
 use Rattle.call_lists.proofs.Split.{then_cleared}
 use Rattle.pair_split.proofs.split_pairpos.Goals as goal

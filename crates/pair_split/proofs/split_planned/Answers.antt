@@ -1,6 +1,5 @@
 -- `pair_split::split_planned` meets its contract: nothing to cut, no room, or the split. Assumes nothing.
 use borrow.Author.Tests.{not-true, not-false}
-use borrow.Author.Rules.{rules}
 use mathlib.Core.Path.{◌≡◌, sym}
 use mathlib.Core.List.{List}
 use Prim.Native.Nat.{ℕ}

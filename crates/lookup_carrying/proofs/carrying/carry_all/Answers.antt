@@ -1,5 +1,4 @@
 -- `carrying::carry_all` meets its contract: the split, and then the lookups, which find the new tables at the front of the list. Assumes nothing.
-use borrow.Author.Rules.{rules}
 use Rattle.lookup_carrying.proofs.CarryAll.{front_fits, front_is, lookups_asked, all_carried}
 use Rattle.lookup_carrying.proofs.carrying.carry_all.Goals as goal
 

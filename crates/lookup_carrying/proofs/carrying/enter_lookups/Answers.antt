@@ -1,7 +1,6 @@
 -- `carrying::enter_lookups` meets its contract: new lookups, their links, the redirection, and then the counts. Assumes nothing.
 use mathlib.Core.Path.{refl}
 use native.Mathlib.Omega.{arith}
-use borrow.Author.Rules.{rules}
 use Rattle.lookup_carrying.proofs.Entered.{entered}
 use Rattle.lookup_carrying.proofs.Steps.{write_asked, links_known, links_asked, bytes_fit, rows_fit, redirect_asked}
 use Rattle.lookup_carrying.proofs.carrying.enter_lookups.Goals as goal

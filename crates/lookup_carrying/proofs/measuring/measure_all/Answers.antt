@@ -1,5 +1,4 @@
 -- `measuring::measure_all` meets its contract: the split's needs, and then those of the lookups. Assumes nothing.
-use borrow.Author.Rules.{rules}
 use Rattle.store_rules.specs.Store.{lent}
 use Rattle.pair_rules.specs.Written.{new_tables}
 use Rattle.pair_carrying.proofs.Counting.{tables_many}

@@ -1,6 +1,5 @@
 -- `lookup_checks::fitting::all_at` meets its contract: the rows of the object's own links decide. Assumes nothing.
 use mathlib.Core.Path.{◌∙◌}
-use borrow.Author.Rules.{rules}
 use Rattle.ot_layouts.specs.Lookup.{is_one_of}
 use Rattle.store_rules.specs.Store.{lent}
 use Rattle.store_rules.proofs.Sound.{sound_fits}

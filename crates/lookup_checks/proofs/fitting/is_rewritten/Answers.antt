@@ -1,5 +1,4 @@
 -- `lookup_checks::fitting::is_rewritten` meets its contract: its type, and then its rows. Assumes nothing.
-use borrow.Author.Rules.{rules}
 use Rattle.store_rules.specs.Store.{lent}
 use Rattle.lookup_checks.proofs.Objects.{use_fits, lies, searchable, rows_in_lem, good_long, of_others, rows_decide}
 use mathlib.Core.Path.{ap}

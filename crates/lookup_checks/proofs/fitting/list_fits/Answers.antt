@@ -1,7 +1,6 @@
 -- `lookup_checks::fitting::list_fits` meets its contract: its length, and then its slots. Assumes nothing.
 use Prim.Native.Nat.{ℕ}
 use mathlib.Core.Path.{ap, ◌∙◌}
-use borrow.Author.Rules.{rules}
 use Rattle.ot_layouts.specs.Lookup.{is_one_of, list_header, list_exact, is_list_slot}
 use Rattle.store_rules.specs.Store.{lent, all_at}
 use Rattle.lookup_rules.specs.Listed.{good_list}

@@ -1,7 +1,6 @@
 -- `lookup_checks::fitting::lookup_fits` meets its contract: its length, and then its slots. Assumes nothing.
 use Prim.Native.Nat.{ℕ}
 use mathlib.Core.Path.{ap, ◌∙◌}
-use borrow.Author.Rules.{rules}
 use Rattle.ot_layouts.specs.Lookup.{is_one_of, lookup_header, lookup_exact, is_subtable_slot}
 use Rattle.store_rules.specs.Store.{lent, all_at}
 use Rattle.lookup_rules.specs.Listed.{good_lookup}

@@ -1,10 +1,9 @@
 -- `lookup_checks::fitting::rows_at_slots` meets its contract: the rows before i stand at slots. Assumes nothing.
 use Prim.Native.Nat.{◌+◌, ◌-◌, ◌*◌}
 use lib.ListN.{get_or}
-use borrow.Author.Rules.{rules}
 use Rattle.ot_layouts.specs.Lookup.{is_one_of}
 use Rattle.store_rules.specs.Store.{per_link, row_position}
-use Rattle.store_reader.proofs.Checks.{Passed, start, turn, stop, fail}
+use Rattle.store_reader.proofs.Checks.{Passed, start}
 use Rattle.lookup_checks.proofs.fitting.rows_at_slots.Given as goal
 
 abbrev pub invariant-loop-i : goal.invariant-loop-i

@@ -1,9 +1,6 @@
 -- `lookup_checks::fitting::rows_lead_to` meets its contract: the rows before i do not. Assumes nothing.
-use Prim.Native.Nat.{◌+◌, ◌-◌, ◌*◌}
-use lib.ListN.{get_or}
-use borrow.Author.Rules.{rules}
-use Rattle.store_rules.specs.Store.{per_link, row_child}
-use Rattle.lookup_checks.proofs.Leading.{Unmet, start, turn, stop, met}
+use Prim.Native.Nat.{◌-◌}
+use Rattle.lookup_checks.proofs.Leading.{start, turn, stop, met}
 use Rattle.lookup_checks.proofs.fitting.rows_lead_to.Goals as goal
 
 pub loop-i-init : goal.loop-i-init

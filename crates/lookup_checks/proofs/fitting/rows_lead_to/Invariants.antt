@@ -1,9 +1,8 @@
 -- `lookup_checks::fitting::rows_lead_to` meets its contract: the rows before i do not. Assumes nothing.
 use Prim.Native.Nat.{◌+◌, ◌-◌, ◌*◌}
 use lib.ListN.{get_or}
-use borrow.Author.Rules.{rules}
 use Rattle.store_rules.specs.Store.{per_link, row_child}
-use Rattle.lookup_checks.proofs.Leading.{Unmet, start, turn, stop, met}
+use Rattle.lookup_checks.proofs.Leading.{Unmet}
 use Rattle.lookup_checks.proofs.fitting.rows_lead_to.Given as goal
 
 abbrev pub invariant-loop-i : goal.invariant-loop-i

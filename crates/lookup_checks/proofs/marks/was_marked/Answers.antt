@@ -1,5 +1,4 @@
 -- `lookup_checks::marks::was_marked` meets its contract: no place, a mark, or none yet. Assumes nothing.
-use borrow.Author.Rules.{rules}
 use Rattle.lookup_checks.proofs.OneMark.{has_no_place, has_mark_lem, gets_mark}
 use Rattle.lookup_checks.proofs.marks.was_marked.Goals as goal
 

@@ -1,12 +1,8 @@
 -- `lookup_checks::order::order_rows` meets its contract: what the rows before i lead to is in order. Assumes nothing.
 use Prim.Native.Nat.{◌+◌, ◌-◌, ◌*◌}
-use mathlib.Core.Path.{refl}
 use lib.ListN.{length, get_or}
-use borrow.Author.Rules.{rules}
 use Rattle.store_rules.specs.Store.{lent, per_link, row_child}
-use Rattle.store_rules.proofs.Sound.{sound_fits}
-use Rattle.lookup_checks.proofs.Objects.{lead_used}
-use Rattle.lookup_checks.proofs.Choosing.{Chosen, begin, met, placed, one_chosen, one_other, end}
+use Rattle.lookup_checks.proofs.Choosing.{Chosen}
 use Rattle.lookup_checks.proofs.order.order_rows.Given as goal
 
 abbrev pub invariant-loop-i : goal.invariant-loop-i

@@ -1,5 +1,4 @@
 -- `arranging::arrange` meets its contract: the marks are put in the order of their classes, and then those of each table in their own. Assumes nothing.
-use borrow.Author.Rules.{rules}
 use Rattle.mark_carrying.proofs.ByTable.{by_class_lem, by_parts}
 use Rattle.mark_carrying.proofs.arranging.arrange.Goals as goal
 

@@ -1,5 +1,4 @@
 -- `arranging::arrange_glyphs` meets its contract: all covered glyphs are written, and those of the marks arranged. Assumes nothing.
-use borrow.Author.Rules.{rules}
 use Rattle.mark_checks.proofs.Opened.{marks_inside}
 use Rattle.mark_carrying.proofs.ByTable.{coverage_inside, cover_ready, marks_few, glyphs_numbered, glyphs_arranged}
 use Rattle.mark_carrying.proofs.arranging.arrange_glyphs.Goals as goal

@@ -1,5 +1,4 @@
 -- `arranging::arrange_places` meets its contract: the places are counted up, and arranged. Assumes nothing.
-use borrow.Author.Rules.{rules}
 use Rattle.mark_checks.proofs.Opened.{marks_inside}
 use Rattle.mark_carrying.proofs.ByTable.{few_places, places_numbered, places_arranged}
 use Rattle.mark_carrying.proofs.arranging.arrange_places.Goals as goal

@@ -1,6 +1,5 @@
 -- `carrying::carry_out` meets its contract: the new objects, the link rows, the class count and the list are those after the split, and then the counts.
 -- Assumes nothing.
-use borrow.Author.Rules.{rules}
 use native.Mathlib.Omega.{arith}
 use Rattle.mark_carrying.proofs.StoreAfter.{in_use_lem, objects_asked, links_asked, count_asked, list_asked, bytes_fit, objects_fit_lem, rows_fit, carried}
 use Rattle.mark_carrying.proofs.carrying.carry_out.Goals as goal

@@ -1,5 +1,4 @@
 -- `carrying::relink` meets its contract: the marks' places are arranged, and the links then copied by them. Assumes nothing.
-use borrow.Author.Rules.{rules}
 use Rattle.mark_carrying.proofs.LinksAfter.{places_asked, links_asked}
 use Rattle.mark_carrying.proofs.carrying.relink.Goals as goal
 

@@ -1,6 +1,5 @@
 -- `measuring::links_from` meets its contract: the object's rows are counted. Assumes nothing.
 use native.Mathlib.Omega.{arith}
-use borrow.Author.Rules.{rules}
 use Rattle.store_rules.specs.Store.{lent}
 use Rattle.store_rules.proofs.Sound.{sound_fits}
 use Rattle.store_reader.proofs.Rows.{in_order_lem, positions_low}

@@ -1,6 +1,5 @@
 -- `measuring::measure_needs` meets its contract: the marks are arranged, the new objects counted from them, and the links from the old arrays. Assumes nothing.
 use native.Mathlib.Omega.{arith}
-use borrow.Author.Rules.{rules}
 use Rattle.mark_checks.proofs.AtSlots.{opened_in_order, marks_small, bases_small}
 use Rattle.mark_carrying.proofs.ByTable.{marks_room}
 use Rattle.mark_carrying.proofs.Counting.{few_links, planned, few_cuts, measured}

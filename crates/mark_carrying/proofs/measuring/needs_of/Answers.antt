@@ -1,5 +1,4 @@
 -- `measuring::needs_of` meets its contract. Assumes nothing.
-use borrow.Author.Rules.{rules}
 use Rattle.mark_carrying.proofs.Counting.{counted}
 use Rattle.mark_carrying.proofs.measuring.needs_of.Goals as goal
 
