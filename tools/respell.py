@@ -4,7 +4,8 @@
 usage: tools/respell.py [--show]        at the top of the repository
 
 Words are in snake case. A dash joins two names of definitions, as in `length-mark_all`; any other word is added with an underscore.
-A lemma that would then have the name of a definition gets `_lem`. No two names fall together: the script stops where two would.
+A lemma that would then have the name of a definition gets `_lem`, so that no two names of definitions and lemmas fall together. A field of a record may be
+spelled like one of them, since it stands behind a dot. A name of Rust's keeps its spelling, and a definition may be spelled like a function.
 It rewrites .antt, .rt and .edit files below crates/, but no comment's prose (only its code spans), and no name that Rattle makes in a proof.
 """
 

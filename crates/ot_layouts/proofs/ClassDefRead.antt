@@ -13,7 +13,6 @@ use Rattle.ot_layouts.specs.Numbers.{u16_at}
 use Rattle.ot_layouts.specs.Coverage.{start_at, end_at, ranges_fit, kind_of, reading}
 use Rattle.ot_layouts.specs.ClassDef.{class_readable, class_def_of, beside_or, class_of}
 use Rattle.ot_layouts.specs.declared.Kind.{Kind}
-use Rattle.ot_layouts.specs.declared.Kind.TheVariants as Kind
 use Rattle.ot_layouts.specs.declared.Header.{Header}
 use Rattle.ot_layouts.specs.declared.Reading.TheVariants.{Readable, Unreadable}
 use Rattle.ot_layouts.proofs.RangesRead.{not_long}

@@ -18,7 +18,6 @@ use Rattle.folds.proofs.Halving.{Rising}
 use Rattle.ot_layouts.specs.Numbers.{u16_at}
 use Rattle.ot_layouts.specs.Coverage.{glyph_at, start_at, beside_at, end_at, size_at, list_fits, ranges_fit, indexed, cover_readable, kind_of, reading, coverage_of, cover_glyphs}
 use Rattle.ot_layouts.specs.declared.Kind.{Kind}
-use Rattle.ot_layouts.specs.declared.Kind.TheVariants as Kind
 use Rattle.ot_layouts.specs.declared.Header.{Header}
 use Rattle.ot_layouts.specs.declared.Reading.TheVariants.{Readable, Unreadable}
 use Rattle.ot_layouts.proofs.RangesRead.{RangesRead, ranges_read, not_long}

@@ -44,7 +44,6 @@ use Rattle.ot_layouts.specs.MarkBasePos.{
 use Rattle.ot_layouts.specs.Lookup as Lookup
 use Rattle.ot_layouts.specs.Lookup.{lookup_count, list_exact, is_list_slot, lookup_type, subtable_count, lookup_exact, is_subtable_slot}
 use Rattle.ot_layouts.specs.declared.Kind.{Kind}
-use Rattle.ot_layouts.specs.declared.Kind.TheVariants as Kind
 use Rattle.ot_layouts.specs.declared.Reading.{Reading}
 use Rattle.ot_layouts.specs.declared.Reading.TheVariants.{Readable, Unreadable}
 

@@ -5,7 +5,6 @@ use Rattle.folds.specs.Folds.{all, sum, before, flat, upto, run}
 use Rattle.folds.specs.Lists.{find}
 use Rattle.ot_layouts.specs.Numbers.{u16_at, be16, words}
 use Rattle.ot_layouts.specs.declared.Kind.{Kind}
-use Rattle.ot_layouts.specs.declared.Kind.TheVariants as Kind
 use Rattle.ot_layouts.specs.declared.Reading.{Reading}
 use Rattle.ot_layouts.specs.declared.Reading.TheVariants.{Readable, Unreadable}
 

@@ -83,8 +83,8 @@ slots_seen how = in_either how (λ how. seen_of three_slots (left how) ≡ 0 ∷
 
 -- so there is something of which the demands speak
 pub slots_split : (how : Settings) → known how ≡ true → Splits how three_slots 0 slots_scratch two_list
-slots_split how is_Known =
-    let seen = slots_seen how is_Known in
+slots_split how is_known =
+    let seen = slots_seen how is_known in
     let count = counts three_slots 0 slots_scratch two_list (left how) 11 seen in
     record { answers = answers three_slots 0 slots_scratch two_list (left how) 11 seen; cuts = omega arith }
 

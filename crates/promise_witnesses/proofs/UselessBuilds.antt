@@ -11,9 +11,9 @@ use Rattle.promise_witnesses.proofs.HeldToACall.{seen_of, refuses_not, cuts_once
 use Rattle.promise_witnesses.proofs.CallsThatSplit.{three_slots, slots_scratch, two_list, slots_octets, left, slots_seen}
 
 -- the build leaves what the call leaves, so it is none of the four
-module _ (how : Settings) (is_Known : known how ≡ true) (build : Build) (keeps : Keeps how build) where
+module _ (how : Settings) (is_known : known how ≡ true) (build : Build) (keeps : Keeps how build) where
   seen : seen_of three_slots (left how) ≡ 0 ∷ 2 ∷ 11 ∷ 1 ∷ 0 ∷ []
-  seen = slots_seen how is_Known
+  seen = slots_seen how is_known
 
   -- the build leaves what `split_call` leaves
   built : build three_slots 0 slots_scratch two_list ≡ left how

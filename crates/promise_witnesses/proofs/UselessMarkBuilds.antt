@@ -63,9 +63,9 @@ known_seen how = in_either how (λ how. seen_of three_classes (left how) ≡ 0 �
 
 -- ---- so none of the four does it
 
-module _ (how : Settings) (is_Known : known how ≡ true) where
+module _ (how : Settings) (is_known : known how ≡ true) where
   seen : seen_of three_classes (left how) ≡ 0 ∷ 2 ∷ 18 ∷ 1 ∷ 0 ∷ []
-  seen = known_seen how is_Known
+  seen = known_seen how is_known
 
   -- the demands speak of something
   pub three_split : Splits how three_classes 0 classes_scratch two_entries

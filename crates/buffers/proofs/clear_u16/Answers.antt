@@ -1,9 +1,7 @@
 -- `buffers::clear_u16` meets its contract: zeros stand over the numbers passed. Assumes nothing.
-use Prim.Native.Nat.{◌-◌}
 use mathlib.Core.Path.{refl}
 use borrow.Author.Rules.{rules}
-use lib.ListN.{length}
-use Rattle.buffers.proofs.Filling.{Filling, fill_start, fill_turn, clear_stop}
+use Rattle.buffers.proofs.Filling.{fill_start, fill_turn, clear_stop}
 use Rattle.buffers.proofs.clear_u16.Goals as goal
 
 pub loop-k-init : goal.loop-k-init

@@ -1,9 +1,7 @@
 -- `buffers::clear_u32` meets its contract: zeros stand over the numbers passed. Assumes nothing.
 use Prim.Native.Nat.{◌-◌}
-use mathlib.Core.Path.{refl}
-use borrow.Author.Rules.{rules}
 use lib.ListN.{length}
-use Rattle.buffers.proofs.Filling.{Filling, fill_start, fill_turn, clear_stop}
+use Rattle.buffers.proofs.Filling.{Filling}
 use Rattle.buffers.proofs.clear_u32.Given as goal
 
 abbrev pub invariant-loop-k : goal.invariant-loop-k

@@ -1,9 +1,6 @@
 -- `buffers::copy_up` meets its contract: the bytes that are read lie below those written so far, and are still as they came. Assumes nothing.
 use Prim.Native.Nat.{◌-◌}
-use native.Mathlib.Omega.{arith}
-use borrow.Author.Rules.{rules}
-use Rattle.folds.proofs.Writing.{write_start}
-use Rattle.buffers.proofs.Copying.{Copying, up_turn, copy_stop}
+use Rattle.buffers.proofs.Copying.{Copying}
 use Rattle.buffers.proofs.copy_up.Given as goal
 
 abbrev pub invariant-loop-k : goal.invariant-loop-k

@@ -1,9 +1,7 @@
 -- `buffers::number_u16` meets its contract: the numbers passed hold their indices. Assumes nothing.
 use Prim.Native.Nat.{◌-◌}
-use mathlib.Core.Path.{refl}
-use borrow.Author.Rules.{rules}
 use lib.ListN.{length}
-use Rattle.buffers.proofs.Filling.{Filling, fill_start, fill_turn, fill_stop}
+use Rattle.buffers.proofs.Filling.{Filling}
 use Rattle.buffers.proofs.number_u16.Given as goal
 
 abbrev pub invariant-loop-k : goal.invariant-loop-k

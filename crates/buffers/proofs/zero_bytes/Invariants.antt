@@ -1,9 +1,6 @@
 -- `buffers::zero_bytes` meets its contract: zeros stand over the bytes passed. Assumes nothing.
 use Prim.Native.Nat.{◌-◌}
-use mathlib.Core.Path.{ap, ◌∙◌}
-use borrow.Author.Rules.{rules}
-use Rattle.folds.specs.Lists.{put}
-use Rattle.folds.proofs.Writing.{Writing, write_start, write_turn, write_stop, upto_const}
+use Rattle.folds.proofs.Writing.{Writing}
 use Rattle.buffers.proofs.zero_bytes.Given as goal
 
 abbrev pub invariant-loop-k : goal.invariant-loop-k

@@ -1,8 +1,7 @@
 -- `call_lists::copy_places` meets its contract: the places passed stand at the front. Assumes nothing.
 use Prim.Native.Nat.{◌-◌}
-use borrow.Author.Rules.{rules}
 use lib.ListN.{length}
-use Rattle.call_lists.proofs.Copying.{Copying, copy_start, copy_turn, copy_stop}
+use Rattle.call_lists.proofs.Copying.{Copying}
 use Rattle.call_lists.proofs.copy_places.Given as goal
 
 abbrev pub invariant-loop-k : goal.invariant-loop-k

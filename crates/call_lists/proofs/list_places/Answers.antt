@@ -1,5 +1,4 @@
 -- `call_lists::list_places` meets its contract: by the room for the places. Assumes nothing.
-use borrow.Author.Rules.{rules}
 use Rattle.call_lists.proofs.Handing.{handed_short, handed_places}
 use Rattle.call_lists.proofs.list_places.Goals as goal
 

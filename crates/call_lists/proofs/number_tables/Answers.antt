@@ -1,8 +1,7 @@
 -- `call_lists::number_tables` meets its contract: the first j numbers are written. Assumes nothing.
-use borrow.Author.Rules.{rules}
 use Prim.Native.Nat.{◌-◌, ◌+◌, ◌*◌}
 use native.Mathlib.Omega.{arith}
-use Rattle.call_lists.proofs.Numbering.{Numbering, number_start, number_turn, number_stop, number_small}
+use Rattle.call_lists.proofs.Numbering.{number_start, number_turn, number_stop, number_small}
 use Rattle.call_lists.proofs.number_tables.Goals as goal
 
 pub loop-j-init : goal.loop-j-init

@@ -1,8 +1,6 @@
 -- `call_lists::number_tables` meets its contract: the first j numbers are written. Assumes nothing.
-use borrow.Author.Rules.{rules}
 use Prim.Native.Nat.{◌-◌, ◌+◌, ◌*◌}
-use native.Mathlib.Omega.{arith}
-use Rattle.call_lists.proofs.Numbering.{Numbering, number_start, number_turn, number_stop, number_small}
+use Rattle.call_lists.proofs.Numbering.{Numbering}
 use Rattle.call_lists.proofs.number_tables.Given as goal
 
 abbrev pub invariant-loop-j : goal.invariant-loop-j

@@ -1,6 +1,5 @@
 -- `call_room::is_short` meets its contract: test by test. Assumes nothing.
 use native.Mathlib.Omega.{arith}
-use borrow.Author.Rules.{rules}
 use Rattle.store_rules.specs.Store.{byte_room, object_room, link_room}
 use Rattle.call_room.proofs.Tests.{few_objects, few_links, few_bytes, by_list}
 use Rattle.call_room.proofs.is_short.Goals as goal

@@ -2,7 +2,6 @@
 use mathlib.Core.Path.{◌≡◌, sym, ◌∙◌}
 use mathlib.Core.Bool.{false}
 use native.Mathlib.Omega.{arith}
-use borrow.Author.Rules.{rules}
 use Rattle.store_rules.specs.Store.{byte_room, object_room, link_room}
 use Rattle.call_rules.specs.Needs.{short_by}
 use Rattle.call_room.proofs.Together.{Holds, holds, first_short, then_in_use, then_second}

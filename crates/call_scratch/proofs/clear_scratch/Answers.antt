@@ -1,6 +1,5 @@
 -- `call_scratch::clear_scratch` meets its contract: one after another. Assumes nothing.
 use Rattle.call_rules.specs.Scratch.{scratch_of, cleared}
-use borrow.Author.Rules.{rules}
 use Rattle.call_scratch.proofs.clear_scratch.Goals as goal
 
 pub returns : goal.returns

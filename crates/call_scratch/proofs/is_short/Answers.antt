@@ -1,5 +1,4 @@
 -- `call_scratch::is_short` meets its contract: test by test. Assumes nothing.
-use borrow.Author.Rules.{rules}
 use borrow.Author.Tests.{lt-ltb, le-ltb}
 use Rattle.call_rules.specs.Scratch.{lengths_short}
 use Rattle.call_scratch.proofs.is_short.Goals as goal

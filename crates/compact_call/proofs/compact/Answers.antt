@@ -2,7 +2,6 @@
 use mathlib.Core.Path.{◌≡◌, ap, ◌∙◌}
 use mathlib.Core.Option.{none}
 use native.Mathlib.Omega.{arith}
-use borrow.Author.Rules.{rules}
 use Rattle.store_rules.specs.Store.{Store, lent}
 use Rattle.call_rules.specs.Answers.{first_case}
 use Rattle.compact_rules.specs.Calls.{compact_cases}

@@ -1,7 +1,6 @@
 -- `compact_call::roots_used` meets its contract: each root before k is in use. Assumes nothing.
-use Prim.Native.Nat.{ℕ, ◌-◌, ◌≤◌, ◌<◌}
+use Prim.Native.Nat.{◌-◌}
 use native.Mathlib.Omega.{arith}
-use lib.ListN.{get_or, length}
 use borrow.Author.Count.{below_more}
 use borrow.Author.Rules.{rules}
 use Rattle.compact_call.proofs.Calling.{all-low, one_high}

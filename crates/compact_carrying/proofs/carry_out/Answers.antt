@@ -1,5 +1,4 @@
 -- `compact_carrying::carry_out` meets its contract: numbers, objects, links, roots and counts one after the other are the compaction. Assumes nothing.
-use borrow.Author.Rules.{rules}
 use Rattle.store_rules.specs.Store.{lent}
 use Rattle.store_rules.proofs.Sound.{Fits, sound_fits}
 use Rattle.compact_carrying.proofs.Carried.{carried, roots_low}

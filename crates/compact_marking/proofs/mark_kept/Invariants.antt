@@ -1,15 +1,8 @@
 -- `compact_marking::mark_kept` meets its contract: the first k roots have been walked from. Assumes nothing.
-use Prim.Native.Nat.{ℕ, ◌+◌, ◌-◌, ◌≤◌}
-use mathlib.Core.Path.{◌≡◌, refl, ap, ◌∙◌}
-use mathlib.Core.List.{[], ◌∷◌, ◌++◌}
-use native.Mathlib.Numerals.{add-one}
-use lib.ListN.{get_or, length, take}
-use lib.Seq.{take-suc, take_all}
-use borrow.Author.Rules.{rules}
-use Rattle.store_rules.specs.Store.{lent}
-use Rattle.store_rules.proofs.Sound.{sound_fits}
+use Prim.Native.Nat.{◌-◌, ◌≤◌}
+use mathlib.Core.Path.{◌≡◌}
+use lib.ListN.{length, take}
 use Rattle.compact_marking.specs.Rooted.{Rooting}
-use Rattle.compact_marking.proofs.Rooting.{none_rooted}
 use Rattle.compact_marking.proofs.mark_kept.Given as goal
 
 abbrev pub invariant-loop-k : goal.invariant-loop-k

@@ -2,7 +2,6 @@
 use mathlib.Core.Path.{sym, subst}
 use native.Mathlib.Omega.{arith}
 use lib.ListN.{get_or}
-use borrow.Author.Rules.{rules}
 use Rattle.store_rules.specs.Store.{Store, lent}
 use Rattle.store_rules.proofs.Sound.{Fits, sound_fits}
 use Rattle.store_reader.specs.Rows.{key_of, FirstRow}

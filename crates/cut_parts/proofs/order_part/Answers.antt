@@ -1,6 +1,5 @@
 -- `cut_parts::order_part` meets its contract: the parts are lent, and back in order. Assumes nothing.
 use Rattle.cut_parts.proofs.Ordering.{glyph_order_long, item_order_long, put_back}
-use borrow.Author.Rules.{rules}
 use Rattle.cut_parts.proofs.order_part.Goals as goal
 
 pub returns : goal.returns

@@ -1,9 +1,7 @@
 -- `cut_parts::order_parts` meets its contract: the parts of the first k tables are in order. Assumes nothing.
-use borrow.Author.Rules.{rules}
-use native.Mathlib.Omega.{arith}
 use Prim.Native.Nat.{◌-◌}
 use lib.ListN.{length}
-use Rattle.cut_parts.proofs.Ordering.{Ordering, order_start, cut_end, last_end, order_ready, order_turn, order_stop}
+use Rattle.cut_parts.proofs.Ordering.{Ordering}
 use Rattle.cut_parts.proofs.order_parts.Given as goal
 
 abbrev pub invariant-loop-k : goal.invariant-loop-k

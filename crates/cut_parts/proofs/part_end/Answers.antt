@@ -1,10 +1,9 @@
 -- `cut_parts::part_end` meets its contract: the items passed lie below the bound. Assumes nothing.
 use borrow.Author.Rules.{rules}
-use Prim.Native.Nat.{ℕ, ◌-◌, ◌≤◌, ◌<◌}
+use Prim.Native.Nat.{◌-◌}
 use mathlib.Core.Logic.{⊎_elim}
 use native.Mathlib.Nat.{eq-or-lt_of_le, le_of_suc-le-suc}
 use native.Mathlib.Numerals.{add-one}
-use lib.ListN.{length, get_or}
 use Rattle.cut_parts.proofs.part_end.Goals as goal
 
 pub loop-at-preserved : goal.loop-at-preserved

@@ -1,9 +1,8 @@
 -- `glyph_class_parts::class_end` meets its contract: all entries that were passed are of the class. Assumes nothing.
 use Prim.Native.Nat.{◌-◌}
 use native.Mathlib.Omega.{arith}
-use lib.ListN.{length}
 use borrow.Author.Rules.{rules}
-use Rattle.glyph_class_parts.proofs.Scanning.{Scanned, scan_start, scan_turn, scan_stop}
+use Rattle.glyph_class_parts.proofs.Scanning.{scan_start, scan_turn, scan_stop}
 use Rattle.glyph_class_parts.proofs.class_end.Goals as goal
 
 pub loop-end-init : goal.loop-end-init

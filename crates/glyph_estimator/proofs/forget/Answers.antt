@@ -1,8 +1,6 @@
 -- `glyph_estimator::forget` meets its contract: after each turn the bytes of the glyphs passed are empty. The measure is what is left. Assumes nothing.
-use borrow.Author.Rules.{rules}
 use Prim.Native.Nat.{◌-◌}
-use lib.ListN.{length}
-use Rattle.glyph_estimator.proofs.Forgetting.{Forgets, forget_start, forget_turn, forget_stop}
+use Rattle.glyph_estimator.proofs.Forgetting.{forget_start, forget_turn, forget_stop}
 use Rattle.glyph_estimator.proofs.forget.Goals as goal
 
 pub loop-k-init : goal.loop-k-init

@@ -3,7 +3,6 @@ use Prim.Native.Nat.{◌-◌}
 use native.Mathlib.Omega.{arith}
 use borrow.Author.Tests.{eq-eqb, ne_eqb}
 use Rattle.glyph_estimator.proofs.Taking.{starts_first, starts_behind_lem}
-use borrow.Author.Rules.{rules}
 use Rattle.glyph_estimator.proofs.starts_run.Goals as goal
 
 pub returns-then-k-eq0 : goal.returns-then-k-eq0

@@ -3,7 +3,6 @@ use mathlib.Core.Path.{◌∙◌, ap}
 use mathlib.Core.List.{List, []}
 use Prim.Native.Nat.{ℕ}
 use Rattle.ot_layouts.specs.ClassDef.{class_def_of, class_of}
-use borrow.Author.Rules.{rules}
 use Rattle.glyph_parts.proofs.class_in.Goals as goal
 
 pub class_of-requires : goal.class_of-requires

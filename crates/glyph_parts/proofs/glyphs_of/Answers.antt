@@ -4,7 +4,6 @@ use mathlib.Core.List.{List, []}
 use Prim.Native.Nat.{ℕ}
 use lib.ListN.{length}
 use Rattle.ot_layouts.specs.Coverage.{coverage_of, cover_glyphs}
-use borrow.Author.Rules.{rules}
 use Rattle.glyph_parts.proofs.glyphs_of.Goals as goal
 
 pub glyph_count-requires : goal.glyph_count-requires

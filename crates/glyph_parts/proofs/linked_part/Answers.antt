@@ -3,7 +3,6 @@ use Rattle.store_reader.proofs.Rows.{rows_in_order}
 use Rattle.store_rules.specs.Store.{lent}
 use Rattle.glyph_parts.specs.Parts.{read_as}
 use Rattle.glyph_parts.proofs.Linking.{no_child_lem, child_inside, child_read, child_unread}
-use borrow.Author.Rules.{rules}
 use Rattle.glyph_parts.proofs.linked_part.Goals as goal
 
 pub child_at-child-requires : goal.child_at-child-requires

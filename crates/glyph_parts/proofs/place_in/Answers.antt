@@ -3,7 +3,6 @@ use mathlib.Core.Path.{◌∙◌, ap}
 use mathlib.Core.List.{List, []}
 use Prim.Native.Nat.{ℕ}
 use Rattle.ot_layouts.specs.Coverage.{coverage_of, cover_place}
-use borrow.Author.Rules.{rules}
 use Rattle.glyph_parts.proofs.place_in.Goals as goal
 
 pub place_of-requires : goal.place_of-requires

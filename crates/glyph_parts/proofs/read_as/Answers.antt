@@ -1,6 +1,5 @@
 -- `glyph_parts::read_as` meets its contract: each kind by its own reader. Assumes nothing.
 use mathlib.Core.Path.{◌∙◌, sym, ap}
-use borrow.Author.Rules.{rules}
 use Rattle.glyph_parts.specs.declared.PartKind.{PartKind}
 use Rattle.glyph_parts.specs.Parts.{read_as}
 use Rattle.glyph_parts.proofs.read_as.Goals as goal

@@ -1,5 +1,4 @@
 -- `glyph_set::clear_byte` meets its contract: one byte is stored. Assumes nothing.
-use borrow.Author.Rules.{rules}
 use mathlib.Core.Path.{refl}
 use Rattle.glyph_set.specs.GlyphSet.{blank}
 use Rattle.glyph_set.proofs.clear_byte.Goals as goal

@@ -1,5 +1,4 @@
 -- `glyph_set::contains` meets its contract: the byte is shifted down and masked to one bit. Assumes nothing.
-use borrow.Author.Rules.{rules}
 use Prim.Native.Nat.{ℕ, ◌/◌, ◌%◌, ◌^◌}
 use mathlib.Core.Path.{ap}
 use lib.Dec.{eqb}

@@ -1,5 +1,4 @@
 -- `glyph_set::insert` meets its contract: a one is shifted up to the glyph's bit and or-ed to its byte. Assumes nothing.
-use borrow.Author.Rules.{rules}
 use Rattle.glyph_set.proofs.Marks.{mark_shifted}
 use Rattle.glyph_set.proofs.insert.Goals as goal
 

@@ -1,5 +1,4 @@
 -- `glyph_set::joined` meets its contract: one neighbour and the other. Assumes nothing.
-use borrow.Author.Rules.{rules}
 use Prim.Native.Nat.{ℕ, ◌+◌}
 use mathlib.Core.Path.{ap₂}
 use native.Mathlib.Omega.{arith}

@@ -1,5 +1,4 @@
 -- `glyph_set::present_before` meets its contract: 0 has none before it, and any other glyph the one that is one less. Assumes nothing.
-use borrow.Author.Rules.{rules}
 use mathlib.Core.Path.{sym, ◌∙◌}
 use native.Mathlib.Omega.{arith}
 use Rattle.glyph_set.proofs.Neighbours.{before-first, before_at}

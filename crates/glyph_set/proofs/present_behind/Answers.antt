@@ -1,5 +1,4 @@
 -- `glyph_set::present_behind` meets its contract: 65,535 has none behind it, and any other glyph the one that is one more. Assumes nothing.
-use borrow.Author.Rules.{rules}
 use mathlib.Core.Path.{sym, ◌∙◌}
 use native.Mathlib.Omega.{arith}
 use Rattle.glyph_set.proofs.Neighbours.{behind_at, behind_last}

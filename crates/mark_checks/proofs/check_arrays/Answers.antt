@@ -1,6 +1,5 @@
 -- `mark_checks::check_arrays` meets its contract: an array that is missing decides, and with both the count of glyphs does. Assumes nothing.
 use mathlib.Core.Path.{refl}
-use borrow.Author.Rules.{rules}
 use Rattle.ot_markbasepos.specs.declared.ArrayKind.TheVariants.{Marks, Bases}
 use Rattle.store_rules.specs.Store.{lent}
 use Rattle.glyph_parts.proofs.Parts.{part_read}

@@ -1,5 +1,4 @@
 -- `mark_checks::check_parts` meets its contract: a coverage that is missing decides, and with both the arrays do. Assumes nothing.
-use borrow.Author.Rules.{rules}
 use Rattle.store_rules.specs.Store.{lent}
 use Rattle.glyph_parts.proofs.Parts.{linked_part_lem}
 use Rattle.mark_checks.proofs.Parts.{no_cover, no_base_cover}

@@ -1,5 +1,4 @@
 -- `mark_checks::check_table` meets its contract: 1 to 3 are asked in their order, and then the parts. Assumes nothing.
-use borrow.Author.Rules.{rules}
 use Rattle.store_rules.specs.Store.{lent}
 use Rattle.mark_checks.proofs.Deciding.{is_unsound, is_unused, table_inside, is_short_lem, is_other, is_long, is_known}
 use mathlib.Core.Path.{ap}

@@ -1,5 +1,4 @@
 -- `mark_checks::linked_array` meets its contract: by the link, and then by the array's bytes. Assumes nothing.
-use borrow.Author.Rules.{rules}
 use Rattle.store_rules.specs.Store.{lent}
 use Rattle.store_reader.proofs.Rows.{rows_in_order}
 use Rattle.mark_checks.proofs.Arrays.{no_array, array_inside, array_unread, array_long, array_read}

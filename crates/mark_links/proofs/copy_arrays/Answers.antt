@@ -1,7 +1,6 @@
 -- `mark_links::copy_arrays` meets its contract: the marks' links, and then the bases'. Assumes nothing.
 use native.Mathlib.Omega.{arith}
 use Rattle.mark_links.proofs.Tables.{marks_room, bases_room, bases_source, arrays_copied}
-use borrow.Author.Rules.{rules}
 use Rattle.mark_links.proofs.copy_arrays.Goals as goal
 
 pub copy_marks-middle-requires : goal.copy_marks-middle-requires

@@ -1,6 +1,5 @@
 -- `mark_links::copy_links` meets its contract: the new rows stand behind the old ones, of which the kept table's then lead to its new objects. Assumes nothing.
 use Rattle.mark_links.proofs.Finishing.{ready, split_done}
-use borrow.Author.Rules.{rules}
 use Rattle.mark_links.proofs.copy_links.Goals as goal
 
 pub copy_new-count-requires : goal.copy_new-count-requires

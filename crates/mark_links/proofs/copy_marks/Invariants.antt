@@ -1,11 +1,7 @@
 -- `mark_links::copy_marks` meets its contract: the slots of the marks before k are copied. Assumes nothing.
-use Prim.Native.Nat.{◌-◌, ◌<◌}
-use native.Mathlib.Omega.{arith}
-use lib.ListN.{length, get_or}
-use borrow.Author.Rules.{rules}
-use Rattle.store_rules.specs.SlotLinks.{slot_links}
-use Rattle.mark_links.specs.Copies.{mark_copies}
-use Rattle.store_link_rows.proofs.Copying.{Turns, turns_start, turns_source, turns_room, turns_turn, turns_stop}
+use Prim.Native.Nat.{◌-◌}
+use lib.ListN.{length}
+use Rattle.store_link_rows.proofs.Copying.{Turns}
 use Rattle.mark_links.proofs.Slots.{mark_turn}
 use Rattle.mark_links.proofs.copy_marks.Given as goal
 

@@ -1,7 +1,6 @@
 -- `mark_links::copy_new` meets its contract: the links of the new tables, and then those of the kept table's arrays. Assumes nothing.
 use native.Mathlib.Omega.{arith}
 use Rattle.mark_links.proofs.Whole.{all_sources, tables_room, kept_many, kept_inside, kept_sources, kept_room, all_copied}
-use borrow.Author.Rules.{rules}
 use Rattle.mark_links.proofs.copy_new.Goals as goal
 
 pub copy_tables-at-requires : goal.copy_tables-at-requires

@@ -3,7 +3,6 @@ use Rattle.mark_links.proofs.Slots.{nowhere_copied, room_for_one, one_copied}
 use Rattle.store_reader.proofs.Rows.{among-parent}
 use mathlib.Core.List.{[]}
 use native.Mathlib.Omega.{arith}
-use borrow.Author.Rules.{rules}
 use Rattle.mark_links.proofs.copy_slot.Goals as goal
 
 pub row_near-row-requires : goal.row_near-row-requires

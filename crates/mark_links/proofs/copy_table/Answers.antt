@@ -1,7 +1,6 @@
 -- `mark_links::copy_table` meets its contract: the header's links, and then those of the arrays. Assumes nothing.
 use native.Mathlib.Omega.{arith}
 use Rattle.mark_links.proofs.Tables.{header_room, arrays_room, arrays_sources, table_copied}
-use borrow.Author.Rules.{rules}
 use Rattle.mark_links.proofs.copy_table.Goals as goal
 
 pub put_header-requires : goal.put_header-requires

@@ -1,11 +1,9 @@
 -- `mark_links::copy_tables` meets its contract: the links of the tables before j are written. Assumes nothing.
 use Prim.Native.Nat.{◌-◌}
 use native.Mathlib.Omega.{arith}
-use lib.ListN.{length}
-use borrow.Author.Rules.{rules}
 use Rattle.mark_links.specs.Splitting.{tables_copies}
 use Rattle.store_link_rows.proofs.Copying.{turns_stop}
-use Rattle.mark_links.proofs.NewTables.{NewTables, tables_start, turn_sources, turn_many, turn_range, turn_room, tables_turn}
+use Rattle.mark_links.proofs.NewTables.{tables_start, turn_sources, turn_many, turn_range, turn_room, tables_turn}
 use Rattle.mark_links.proofs.copy_tables.Goals as goal
 
 pub loop-j-init : goal.loop-j-init

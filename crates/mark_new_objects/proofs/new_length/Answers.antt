@@ -1,10 +1,8 @@
 -- `mark_new_objects::new_length` meets its contract: the kept table's parts and the objects of the first i new tables are summed. Assumes nothing.
-use borrow.Author.Rules.{rules}
 use native.Mathlib.Omega.{arith}
 use Prim.Native.Nat.{◌-◌}
 use mathlib.Core.Path.{refl}
-use lib.ListN.{length}
-use Rattle.mark_new_objects.proofs.Lengths.{Total, first_few, total_start, total_turn, total_stop, next_few, turn_few, turn_rises, turn_fits}
+use Rattle.mark_new_objects.proofs.Lengths.{first_few, total_start, total_turn, total_stop, next_few, turn_few, turn_rises, turn_fits}
 use Rattle.mark_new_objects.proofs.new_length.Goals as goal
 
 pub parts_length-total-requires : goal.parts_length-total-requires

@@ -2,7 +2,6 @@
 use native.Mathlib.Omega.{arith}
 use Rattle.ot_layouts.proofs.CoverageLength.{cover_length}
 use Rattle.mark_new_objects.proofs.Lengths.{slots_small}
-use borrow.Author.Rules.{rules}
 use Rattle.mark_new_objects.proofs.parts_length.Goals as goal
 
 pub overflow_mul-slots : goal.overflow_mul-slots

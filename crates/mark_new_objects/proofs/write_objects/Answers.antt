@@ -1,7 +1,6 @@
 -- `mark_new_objects::write_objects` meets its contract: the new tables' objects, and behind them the kept table's parts. Assumes nothing.
 use native.Mathlib.Omega.{arith}
 use Rattle.mark_new_objects.proofs.Looping.{tables_room, tables_small, first_marked, last_room, all_done}
-use borrow.Author.Rules.{rules}
 use Rattle.mark_new_objects.proofs.write_objects.Goals as goal
 
 pub overflow_add-row : goal.overflow_add-row

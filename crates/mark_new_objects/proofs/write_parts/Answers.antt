@@ -1,7 +1,6 @@
 -- `mark_new_objects::write_parts` meets its contract: the coverage, and behind it the arrays. Assumes nothing.
 use native.Mathlib.Omega.{arith}
 use Rattle.store_object_rows.proofs.Writing.{one_fits, one_small, rest_room, rest_done}
-use borrow.Author.Rules.{rules}
 use Rattle.mark_new_objects.proofs.write_parts.Goals as goal
 
 pub write_coverage-end-requires : goal.write_coverage-end-requires

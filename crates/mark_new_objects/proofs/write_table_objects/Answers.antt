@@ -2,7 +2,6 @@
 use native.Mathlib.Omega.{arith}
 use Rattle.store_object_rows.proofs.Writing.{one_fits, one_small, rest_room, rest_done}
 use Rattle.mark_new_table.proofs.Bytes.{table_long}
-use borrow.Author.Rules.{rules}
 use Rattle.mark_new_objects.proofs.write_table_objects.Goals as goal
 
 pub write_table-end-requires : goal.write_table-end-requires

@@ -1,10 +1,8 @@
 -- `mark_new_objects::write_tables` meets its contract: the objects of the first j new tables are written. Assumes nothing.
-use borrow.Author.Rules.{rules}
 use native.Mathlib.Omega.{arith}
 use Prim.Native.Nat.{◌-◌}
 use mathlib.Core.Path.{refl}
-use lib.ListN.{length}
-use Rattle.mark_new_objects.proofs.Looping.{Tables, tables_start, tables_stop, row_small, next_few, turn_marked, turn_room, tables_turn}
+use Rattle.mark_new_objects.proofs.Looping.{tables_start, tables_stop, row_small, next_few, turn_marked, turn_room, tables_turn}
 use Rattle.mark_new_objects.proofs.write_tables.Goals as goal
 
 pub loop-j-init : goal.loop-j-init

@@ -1,7 +1,6 @@
 -- `mark_new_table::write_arrays` meets its contract: the mark array, and behind it the base array. Assumes nothing.
 use native.Mathlib.Omega.{arith}
 use Rattle.mark_new_table.proofs.Arrays.{marks_fit, middle_small, base_fits, end_small, arrays_done}
-use borrow.Author.Rules.{rules}
 use Rattle.mark_new_table.proofs.write_arrays.Goals as goal
 
 pub write_mark_array-middle-requires : goal.write_mark_array-middle-requires

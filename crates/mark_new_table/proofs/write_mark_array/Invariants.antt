@@ -1,10 +1,7 @@
 -- `mark_new_table::write_mark_array` meets its contract: in the loop the first k marks stand behind the count. Assumes nothing.
-use borrow.Author.Rules.{rules}
-use native.Mathlib.Omega.{arith}
 use Prim.Native.Nat.{◌-◌}
-use mathlib.Core.Path.{refl}
 use lib.ListN.{length}
-use Rattle.mark_new_table.proofs.Bytes.{Marking, marking_start, marking_turn, marking_stop}
+use Rattle.mark_new_table.proofs.Bytes.{Marking}
 use Rattle.mark_new_table.proofs.write_mark_array.Given as goal
 
 abbrev pub invariant-loop-k : goal.invariant-loop-k

@@ -1,8 +1,7 @@
 -- `mark_order::classes_into` meets its contract: one class is written a turn. Assumes nothing.
 use Prim.Native.Nat.{◌-◌}
 use lib.ListN.{length}
-use borrow.Author.Rules.{rules}
-use Rattle.buffers.proofs.Filling.{Filling, fill_start, fill_turn, fill_stop}
+use Rattle.buffers.proofs.Filling.{Filling}
 use Rattle.ot_layouts.specs.MarkBasePos.{mark_class}
 use Rattle.mark_order.proofs.classes_into.Given as goal
 

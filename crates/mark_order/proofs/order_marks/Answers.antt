@@ -1,6 +1,5 @@
 -- `mark_order::order_marks` meets its contract: the classes are written, and both lists put in order. Assumes nothing.
 use mathlib.Core.Path.{ap, ◌∙◌}
-use borrow.Author.Rules.{rules}
 use Rattle.folds.specs.Folds.{upto}
 use Rattle.ot_layouts.specs.MarkBasePos.{mark_class}
 use Rattle.mark_order.proofs.Entries.{in_class_order}

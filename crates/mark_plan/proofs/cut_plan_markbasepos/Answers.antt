@@ -4,7 +4,6 @@ use native.Mathlib.Omega.{arith}
 use Rattle.store_rules.specs.Store.{lent}
 use Rattle.call_rules.specs.Scratch.{scratch_of}
 use Rattle.mark_plan.proofs.Planning.{can_hand_out, plan_called}
-use borrow.Author.Rules.{rules}
 use Rattle.mark_plan.proofs.cut_plan_markbasepos.Goals as goal
 
 pub hand_out-answer-requires : goal.hand_out-answer-requires

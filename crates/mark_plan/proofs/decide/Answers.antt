@@ -2,7 +2,6 @@
 use Rattle.call_rules.specs.Scratch.{scratch_of}
 use Rattle.mark_plan.proofs.Deciding.{decided_settled, decided_unknown}
 use Rattle.call_rules.proofs.KnownSettings.{tested_known}
-use borrow.Author.Rules.{rules}
 use mathlib.Core.Path.{ap}
 use mathlib.Core.Bool.{not}
 use Rattle.mark_plan.proofs.decide.Goals as goal

@@ -2,7 +2,6 @@
 use native.Mathlib.Omega.{arith}
 use Rattle.call_rules.specs.Scratch.{Scratch, scratch_of}
 use Rattle.mark_plan.proofs.Deciding.{can_begin, table_marked, can_cut, decided_cycle, decided_cut}
-use borrow.Author.Rules.{rules}
 use Rattle.mark_plan.proofs.decide_cuts.Goals as goal
 
 pub begin_walk-requires : goal.begin_walk-requires

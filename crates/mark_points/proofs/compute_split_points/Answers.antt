@@ -5,7 +5,7 @@ use native.Mathlib.Omega.{arith}
 use borrow.Author.Rules.{rules}
 use Rattle.store_reader.proofs.Rows.{in_order_lem}
 use Rattle.mark_points.proofs.ClassLinks.{described_fits, arrays_used}
-use Rattle.mark_points.proofs.Turns.{Going, columns_start, columns_stop}
+use Rattle.mark_points.proofs.Turns.{columns_start, columns_stop}
 use Rattle.mark_points.proofs.compute_split_points.Goals as goal
 
 pub rows_of-marks-requires : goal.rows_of-marks-requires

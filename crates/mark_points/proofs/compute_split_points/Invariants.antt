@@ -1,11 +1,6 @@
 -- `mark_points::compute_split_points` meets its contract: after each class the code stands where the cut rule does. Assumes nothing.
 use Prim.Native.Nat.{◌-◌}
-use mathlib.Core.Path.{refl}
-use native.Mathlib.Omega.{arith}
-use borrow.Author.Rules.{rules}
-use Rattle.store_reader.proofs.Rows.{in_order_lem}
-use Rattle.mark_points.proofs.ClassLinks.{described_fits, arrays_used}
-use Rattle.mark_points.proofs.Turns.{Going, columns_start, columns_stop}
+use Rattle.mark_points.proofs.Turns.{Going}
 use Rattle.mark_points.proofs.compute_split_points.Given as goal
 
 abbrev pub invariant-loop-class : goal.invariant-loop-class

@@ -1,6 +1,5 @@
 -- `mark_reading::anchors_at` meets its contract: the mark's anchor, and then the base's. Assumes nothing.
 use native.Mathlib.Omega.{arith}
-use borrow.Author.Rules.{rules}
 use Rattle.mark_checks.proofs.Opened.{marks_inside}
 use Rattle.mark_reading.proofs.Spots.{spot_in_order, mark_most, mark_in, base_most, no_mark_anchor, no_base_anchor, both_anchors, anchors_small, nothing_small}
 use Rattle.mark_reading.proofs.anchors_at.Goals as goal

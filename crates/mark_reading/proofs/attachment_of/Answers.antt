@@ -1,5 +1,4 @@
 -- `mark_reading::attachment_of` meets its contract: the two places, and then the anchors. Assumes nothing.
-use borrow.Author.Rules.{rules}
 use Rattle.glyph_parts.proofs.Parts.{part_read}
 use Rattle.mark_reading.proofs.Spots.{nothing_small}
 use Rattle.mark_reading.proofs.Attaching.{no_mark_place, no_base_place, places_low, both_places}

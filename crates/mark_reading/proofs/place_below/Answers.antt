@@ -1,5 +1,4 @@
 -- `mark_reading::place_below` meets its contract: by the place that is found, and by the count. Assumes nothing.
-use borrow.Author.Rules.{rules}
 use Rattle.mark_reading.proofs.Places.{none_covered, past_count, below_count}
 use Rattle.mark_reading.proofs.place_below.Goals as goal
 

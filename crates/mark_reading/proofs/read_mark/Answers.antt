@@ -1,5 +1,4 @@
 -- `mark_reading::read_mark` meets its contract: by what the checks say, and then by the two glyphs. Assumes nothing.
-use borrow.Author.Rules.{rules}
 use Rattle.store_rules.specs.Store.{lent}
 use Rattle.mark_reading.proofs.Spots.{nothing_small}
 use Rattle.mark_reading.proofs.Calling.{refused, told}

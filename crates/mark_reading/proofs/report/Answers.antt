@@ -1,6 +1,5 @@
 -- `mark_reading::report` meets its contract: by the attachment. Assumes nothing.
 use native.Mathlib.Omega.{arith}
-use borrow.Author.Rules.{rules}
 use Rattle.mark_rules.specs.Calls.{reported}
 use Rattle.mark_reading.proofs.report.Goals as goal
 

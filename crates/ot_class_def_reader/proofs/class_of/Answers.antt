@@ -1,5 +1,4 @@
 -- `ot_class_def_reader::class_of` meets its contract: by its header a class definition is a list of classes or ranges. Assumes nothing.
-use borrow.Author.Rules.{rules}
 use mathlib.Core.Path.{sym, ◌∙◌}
 use Rattle.ot_layouts.proofs.ClassDefRead.{header_list, header_ranges}
 use Rattle.ot_class_def_reader.proofs.class_of.Goals as goal

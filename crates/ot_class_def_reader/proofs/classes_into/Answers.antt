@@ -1,5 +1,4 @@
 -- `ot_class_def_reader::classes_into` meets its contract: by its header a class definition is a list of classes or ranges. Assumes nothing.
-use borrow.Author.Rules.{rules}
 use Prim.Native.Nat.{ℕ}
 use mathlib.Core.Path.{◌≡◌, sym, ap, ◌∙◌}
 use mathlib.Core.List.{List, map}

@@ -1,5 +1,4 @@
 -- `ot_class_def_reader::read_class_def` meets its contract: the format says which reader is asked. Assumes nothing.
-use borrow.Author.Rules.{rules}
 use mathlib.Core.Path.{◌∙◌}
 use Rattle.ot_layouts.proofs.ClassDefRead.{no_format, too_short_lem}
 use Rattle.ot_class_def_reader.proofs.read_class_def.Goals as goal

@@ -1,5 +1,4 @@
 -- `ot_class_def_writer::class_def_length` meets its contract: the outline decides the form, and its length. Assumes nothing.
-use borrow.Author.Rules.{rules}
 use mathlib.Core.Path.{sym, ◌∙◌}
 use Rattle.ot_ranges.proofs.Ascending.{ascends}
 use Rattle.ot_class_def_writer.proofs.Written.{ranges_long, list_long}

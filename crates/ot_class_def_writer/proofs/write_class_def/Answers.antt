@@ -1,5 +1,4 @@
 -- `ot_class_def_writer::write_class_def` meets its contract: the outline decides the form that is written. Assumes nothing.
-use borrow.Author.Rules.{rules}
 use mathlib.Core.Path.{sym, ◌∙◌}
 use native.Mathlib.Omega.{arith}
 use Rattle.ot_ranges.proofs.Ascending.{ascends}

@@ -1,5 +1,4 @@
 -- `glyph_count` meets its contract: a list has its count of glyphs, two bytes each, and ranges are counted by their function. Assumes nothing.
-use borrow.Author.Rules.{rules}
 use mathlib.Core.Path.{◌≡◌, sym, ap, ◌∙◌}
 use mathlib.Core.List.{List}
 use Prim.Native.Nat.{ℕ, ◌≤◌, ◌<◌}

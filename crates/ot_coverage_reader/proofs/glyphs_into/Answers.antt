@@ -1,5 +1,4 @@
 -- `glyphs_into` meets its contract: each kind by its function. Assumes nothing.
-use borrow.Author.Rules.{rules}
 use mathlib.Core.Path.{ap}
 use native.Mathlib.Omega.{arith}
 use lib.ListN.{length}

@@ -1,5 +1,4 @@
 -- `place_of` meets its contract: each kind by its function. Assumes nothing.
-use borrow.Author.Rules.{rules}
 use Rattle.ot_coverage_reader.proofs.Headers.{as_list_lem, as_ranges_lem}
 use Rattle.ot_coverage_reader.proofs.place_of.Goals as goal
 

@@ -1,5 +1,4 @@
 -- `read_coverage` meets its contract: the two first numbers say which kind is tested. Assumes nothing.
-use borrow.Author.Rules.{rules}
 use mathlib.Core.Path.{refl, sym, ◌∙◌}
 use mathlib.Core.Bool.{true, false}
 use Rattle.ot_layouts.specs.Coverage.{indexed}

@@ -1,5 +1,4 @@
 -- `write_coverage` meets its contract: the shorter of the two formats is written, and glyphs in ascending order fit its count. Assumes nothing.
-use borrow.Author.Rules.{rules}
 use mathlib.Core.Path.{◌≡◌, sym, ap, ◌∙◌}
 use mathlib.Core.List.{List, ◌++◌}
 use Prim.Native.Nat.{ℕ, ◌+◌, ◌*◌, ◌≤◌, ◌<◌}

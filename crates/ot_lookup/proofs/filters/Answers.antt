@@ -1,5 +1,4 @@
 -- `ot_lookup::filters` meets its contract: bit 0010 hex of the flag. Assumes nothing.
-use borrow.Author.Rules.{rules}
 use Rattle.ot_layouts.specs.Lookup.{filters}
 use Rattle.ot_lookup.proofs.filters.Goals as goal
 

@@ -1,5 +1,4 @@
 -- `ot_lookup::is_of_pairs` meets its contract. Assumes nothing.
-use borrow.Author.Rules.{rules}
 use Rattle.ot_lookup.proofs.is_of_pairs.Goals as goal
 
 pub returns : goal.returns

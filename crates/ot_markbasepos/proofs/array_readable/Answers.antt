@@ -1,6 +1,5 @@
 -- `ot_markbasepos::array_readable` meets its contract: by kind. Assumes nothing.
 use mathlib.Core.Path.{ap, sym, ◌∙◌}
-use borrow.Author.Rules.{rules}
 use Rattle.ot_markbasepos.specs.declared.ArrayKind.{ArrayKind}
 use Rattle.ot_markbasepos.specs.Kinds.{readable_as}
 use Rattle.ot_markbasepos.proofs.array_readable.Goals as goal

@@ -1,7 +1,6 @@
 -- `ot_markbasepos::classes_below` meets its contract: the marks before i have classes below. Assumes nothing.
-use Prim.Native.Nat.{◌-◌}
 use borrow.Author.Rules.{rules}
-use Rattle.ot_markbasepos.proofs.Readable.{Below, none_yet, one_more, one_above, all-below}
+use Rattle.ot_markbasepos.proofs.Readable.{none_yet, one_more, one_above, all-below}
 use Rattle.ot_markbasepos.proofs.classes_below.Goals as goal
 
 pub loop-i-init : goal.loop-i-init

@@ -1,6 +1,5 @@
 -- `ot_markbasepos::is_slot` meets its contract: by holder. Assumes nothing.
 use mathlib.Core.Path.{ap, sym, ◌∙◌}
-use borrow.Author.Rules.{rules}
 use Rattle.ot_markbasepos.specs.declared.Holder.{Holder}
 use Rattle.ot_markbasepos.specs.Kinds.{slot_of}
 use Rattle.ot_markbasepos.proofs.is_slot.Goals as goal

@@ -2,7 +2,6 @@
 use mathlib.Core.Path.{ap, ◌∙◌}
 use native.Mathlib.Omega.{arith}
 use lib.Dec.{ltb}
-use borrow.Author.Rules.{rules}
 use Rattle.folds.specs.Folds.{all}
 use Rattle.ot_layouts.specs.MarkBasePos.{mark_class}
 use Rattle.ot_markbasepos.proofs.Readable.{marks_bad, marks_decided}

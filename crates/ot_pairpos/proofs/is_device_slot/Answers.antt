@@ -5,7 +5,6 @@ use native.Mathlib.Omega.{arith}
 use Rattle.folds.specs.Lists.{among}
 use Rattle.ot_layouts.specs.Values.{devices}
 use Rattle.ot_pairpos.proofs.Slots.{odd_slot, first_slot, second_slot}
-use borrow.Author.Rules.{rules}
 use Rattle.ot_pairpos.proofs.is_device_slot.Goals as goal
 
 pub returns-then-offset-eq1 : goal.returns-then-offset-eq1

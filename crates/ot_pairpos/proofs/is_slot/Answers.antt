@@ -1,6 +1,5 @@
 -- `ot_pairpos::is_slot` meets its contract: by format. Assumes nothing.
 use Rattle.ot_pairpos.proofs.Slots.{slot_of_one, slot_of_two}
-use borrow.Author.Rules.{rules}
 use Rattle.ot_pairpos.proofs.is_slot.Goals as goal
 
 pub returns-then-layout-eq1 : goal.returns-then-layout-eq1

@@ -6,7 +6,6 @@ use Rattle.folds.specs.Lists.{among}
 use Rattle.ot_layouts.specs.PairPos.{device_slots}
 use Rattle.ot_pairpos.specs.Layout.{slots_of}
 use Rattle.ot_pairpos.proofs.Slots.{slot2_head, slot2_empty, slot2_record}
-use borrow.Author.Rules.{rules}
 use Rattle.ot_pairpos.proofs.is_slot2.Goals as goal
 
 pub returns-then-position-lt16 : goal.returns-then-position-lt16

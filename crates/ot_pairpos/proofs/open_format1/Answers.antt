@@ -1,7 +1,6 @@
 -- `ot_pairpos::open_format1` meets its contract: the length is what the count asks for, or it is not. Assumes nothing.
 use native.Mathlib.Omega.{arith}
 use Rattle.ot_pairpos.proofs.Opening.{bad_format1, opened_format1}
-use borrow.Author.Rules.{rules}
 use Rattle.ot_pairpos.proofs.open_format1.Goals as goal
 
 pub returns-then-table-lt10 : goal.returns-then-table-lt10

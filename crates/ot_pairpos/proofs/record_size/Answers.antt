@@ -2,7 +2,6 @@
 use Prim.Native.Nat.{◌+◌, ◌≤◌}
 use native.Mathlib.Omega.{arith}
 use Rattle.ot_layouts.proofs.Values.{field_count_le}
-use borrow.Author.Rules.{rules}
 use Rattle.ot_pairpos.proofs.record_size.Goals as goal
 
 pub overflow_add-result : goal.overflow_add-result

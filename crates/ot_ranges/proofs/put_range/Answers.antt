@@ -1,5 +1,4 @@
 -- `ot_ranges::put_range` meets its contract: three numbers are written, one behind the other. Assumes nothing.
-use borrow.Author.Rules.{rules}
 use Prim.Native.Nat.{ℕ, ◌+◌, ◌≤◌}
 use mathlib.Core.Path.{◌≡◌, refl}
 use mathlib.Core.List.{List}

@@ -1,15 +1,9 @@
 -- `ot_ranges::range_of` meets its contract: what halving knows of the ranges on either side decides where the glyph is. Assumes nothing.
-use borrow.Author.Rules.{rules}
-use Prim.Native.Nat.{ℕ, ◌-◌, ◌≤◌, ◌<◌}
-use mathlib.Core.Path.{◌≡◌}
+use Prim.Native.Nat.{ℕ, ◌-◌}
 use mathlib.Core.List.{List}
-use native.Mathlib.Omega.{arith}
-use Rattle.folds.proofs.Halving.{Between, begin, up, down, passed, met}
+use Rattle.folds.proofs.Halving.{Between}
 use Rattle.ot_layouts.specs.Coverage.{start_at, end_at}
-use Rattle.ot_layouts.proofs.RangesRead.{RangesRead, ranges_read}
-use Rattle.ot_ranges.specs.Ranges.{range_found, range_of}
-use Rattle.ot_ranges.proofs.Place.{range_at_lem, range_none}
-use Rattle.ot_ranges.specs.declared.Found.TheVariants.{At, Nowhere}
+use Rattle.ot_layouts.proofs.RangesRead.{RangesRead}
 use Rattle.ot_ranges.proofs.range_of.Given as goal
 
 pub record Inv (part : List ℕ) (count glyph lo hi : ℕ) : Type 0 where

@@ -1,14 +1,11 @@
 -- `ot_ranges::ranges_fit` meets its contract: the ranges passed rise, and the first that does not decides. Assumes nothing.
-use borrow.Author.Rules.{rules}
-use Prim.Native.Nat.{ℕ, ◌+◌, ◌*◌, ◌-◌, ◌≤◌, ◌<◌}
+use Prim.Native.Nat.{ℕ, ◌+◌, ◌≤◌, ◌<◌}
 use mathlib.Core.Path.{◌≡◌, sym, ap, ◌∙◌}
 use mathlib.Core.Bool.{true, false}
 use mathlib.Core.List.{List}
 use native.Mathlib.Omega.{arith}
-use lib.ListN.{length}
-use Rattle.folds.specs.Folds.{before}
-use Rattle.folds.proofs.Folds.{before_none, before_more}
-use Rattle.folds.proofs.Halving.{Rising, rising_none, rising_more}
+use Rattle.folds.proofs.Folds.{before_more}
+use Rattle.folds.proofs.Halving.{rising_more}
 use Rattle.ot_layouts.specs.Coverage.{start_at, end_at, ranges_fit}
 use Rattle.ot_layouts.proofs.RangesRead.{ranges_fit_lem, not_long, not-above, not-ordered}
 use Rattle.ot_ranges.proofs.ranges_fit.Invariants.{Inv, start}

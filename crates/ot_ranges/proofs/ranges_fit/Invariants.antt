@@ -1,16 +1,13 @@
 -- `ot_ranges::ranges_fit` meets its contract: the ranges passed rise, and the first that does not decides. Assumes nothing.
-use borrow.Author.Rules.{rules}
-use Prim.Native.Nat.{ℕ, ◌+◌, ◌*◌, ◌-◌, ◌≤◌, ◌<◌}
-use mathlib.Core.Path.{◌≡◌, sym, ap, ◌∙◌}
-use mathlib.Core.Bool.{true, false}
+use Prim.Native.Nat.{ℕ, ◌+◌, ◌*◌, ◌-◌, ◌≤◌}
+use mathlib.Core.Path.{◌≡◌, sym}
 use mathlib.Core.List.{List}
 use native.Mathlib.Omega.{arith}
 use lib.ListN.{length}
 use Rattle.folds.specs.Folds.{before}
-use Rattle.folds.proofs.Folds.{before_none, before_more}
-use Rattle.folds.proofs.Halving.{Rising, rising_none, rising_more}
-use Rattle.ot_layouts.specs.Coverage.{start_at, end_at, ranges_fit}
-use Rattle.ot_layouts.proofs.RangesRead.{ranges_fit_lem, not_long, not-above, not-ordered}
+use Rattle.folds.proofs.Folds.{before_none}
+use Rattle.folds.proofs.Halving.{Rising, rising_none}
+use Rattle.ot_layouts.specs.Coverage.{start_at, end_at}
 use Rattle.ot_ranges.proofs.ranges_fit.Given as goal
 
 -- the ranges before k rise, and the next may start at `next`

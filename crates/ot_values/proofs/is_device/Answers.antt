@@ -1,5 +1,4 @@
 -- `ot_values::is_device` meets its contract: the device positions are those from the plain fields' end on. Assumes nothing.
-use borrow.Author.Rules.{rules}
 use borrow.Author.Tests.{le-leb, lt-leb}
 use Rattle.ot_values.proofs.Devices.{devices_between}
 use Rattle.ot_values.proofs.is_device.Goals as goal

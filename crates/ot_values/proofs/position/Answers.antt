@@ -1,7 +1,6 @@
 -- `ot_values::position` meets its contract: the row's mask is one bit, and the ones below it are the fields before. Assumes nothing.
 use mathlib.Core.Path.{◌≡◌, ap, ◌∙◌}
 use Prim.Native.Nat.{◌^◌, ◌≤◌}
-use borrow.Author.Rules.{rules}
 use native.Mathlib.Omega.{arith}
 use lib.Pow.{pow_pos}
 use Rattle.ot_layouts.specs.declared.Field.{Field}

@@ -1,5 +1,4 @@
 -- `ot_wire::u16_at` meets its contract: two bytes make a number that fits sixteen bits. Assumes nothing.
-use borrow.Author.Rules.{rules}
 use mathlib.Core.Path.{refl}
 use Prim.Native.Nat.{◌+◌}
 use native.Mathlib.Omega.{arith}

@@ -2,7 +2,6 @@
 use Rattle.store_rules.specs.Store.{lent}
 use Rattle.glyph_parts.proofs.Parts.{linked_part_lem, part_read}
 use Rattle.pair_checks.proofs.Deciding.{no_coverage, as_sets, as_rows}
-use borrow.Author.Rules.{rules}
 use Rattle.pair_checks.proofs.check_parts.Goals as goal
 
 pub returns-in_default : goal.returns-in_default

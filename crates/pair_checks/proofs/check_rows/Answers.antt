@@ -1,7 +1,6 @@
 -- `pair_checks::check_rows` meets its contract: by the two class definitions. Assumes nothing.
 use Rattle.store_rules.specs.Store.{lent}
 use Rattle.pair_checks.proofs.Deciding.{no_first, no_second, both_there}
-use borrow.Author.Rules.{rules}
 use Rattle.pair_checks.proofs.check_rows.Goals as goal
 
 pub returns-in_default : goal.returns-in_default

@@ -1,6 +1,5 @@
 -- `pair_checks::check_sets` meets its contract: the glyphs are counted. Assumes nothing.
 use Rattle.pair_checks.proofs.Deciding.{too_few, enough}
-use borrow.Author.Rules.{rules}
 use Rattle.pair_checks.proofs.check_sets.Goals as goal
 
 pub returns-then-glyphs-layout : goal.returns-then-glyphs-layout

@@ -2,7 +2,6 @@
 use mathlib.Core.Path.{refl}
 use Rattle.store_rules.specs.Store.{lent}
 use Rattle.pair_checks.proofs.Deciding.{no_table_lem, table_inside, by_opened}
-use borrow.Author.Rules.{rules}
 use Rattle.pair_checks.proofs.check_sound_table.Goals as goal
 
 pub returns-then-counts-table : goal.returns-then-counts-table

@@ -1,7 +1,6 @@
 -- `pair_checks::check_table` meets its contract: 1, and then the checks of a sound store's table. Assumes nothing.
 use Rattle.store_rules.specs.Store.{lent}
 use Rattle.pair_checks.proofs.Deciding.{not_sound, tested}
-use borrow.Author.Rules.{rules}
 use mathlib.Core.Path.{ap}
 use mathlib.Core.Bool.{not}
 use Rattle.pair_checks.proofs.check_table.Goals as goal

@@ -8,7 +8,6 @@ use Rattle.folds.specs.Lists.{put}
 use Rattle.ot_pairpos.proofs.Layouts.{few_heads}
 use Rattle.store_link_rows.specs.Rows.{segment, kept_row}
 use Rattle.pair_new_rows.proofs.Spreading.{own_positions}
-use borrow.Author.Rules.{rules}
 use Rattle.pair_links.proofs.keep_table.Goals as goal
 
 pub slice_bounds-keep_rows-end : goal.slice_bounds-keep_rows-end

@@ -3,7 +3,6 @@
 use native.Mathlib.Omega.{arith}
 use Rattle.pair_links.proofs.Parting.{ready}
 use Rattle.pair_links.proofs.Finishing.{parted_call}
-use borrow.Author.Rules.{rules}
 use Rattle.pair_links.proofs.part_between.Goals as goal
 
 pub overflow_add-first_kept : goal.overflow_add-first_kept

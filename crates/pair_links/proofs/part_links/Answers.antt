@@ -1,7 +1,6 @@
 -- `pair_links::part_links` meets its contract: the rows of the items that are cut off are found by two searches. Assumes nothing.
 use native.Mathlib.Omega.{arith}
 use Rattle.pair_links.proofs.Parting.{start_short, between}
-use borrow.Author.Rules.{rules}
 use Rattle.pair_links.proofs.part_links.Goals as goal
 
 pub overflow_cast-start : goal.overflow_cast-start

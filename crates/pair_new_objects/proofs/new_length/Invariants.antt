@@ -1,12 +1,7 @@
 -- `pair_new_objects::new_length` meets its contract: the kept table's parts and the objects of the first i new tables are summed. Assumes nothing.
-use borrow.Author.Rules.{rules}
-use native.Mathlib.Omega.{arith}
 use Prim.Native.Nat.{◌-◌}
-use mathlib.Core.Path.{refl}
 use lib.ListN.{length}
-use Rattle.cut_parts.proofs.TableParts.{same_part}
-use Rattle.pair_new_objects.proofs.Planning.{kept_beside}
-use Rattle.pair_new_objects.proofs.Lengths.{Total, total_start, total_turn, total_stop, next_few, turn_ready, turn_items, rows_small, turn_small, turn_fits}
+use Rattle.pair_new_objects.proofs.Lengths.{Total}
 use Rattle.pair_new_objects.proofs.new_length.Given as goal
 
 abbrev pub invariant-loop-i : goal.invariant-loop-i

@@ -1,7 +1,6 @@
 -- `pair_new_objects::parts_length` meets its contract: coverage, and in format 2 class definition 1. Assumes nothing.
 use native.Mathlib.Omega.{arith}
 use Rattle.pair_new_objects.proofs.Parts.{one_length, two_length, glyphs_ascend, both_small}
-use borrow.Author.Rules.{rules}
 use Rattle.pair_new_objects.proofs.parts_length.Goals as goal
 
 pub returns-then-format-eq1 : goal.returns-then-format-eq1

@@ -2,7 +2,6 @@
 use native.Mathlib.Omega.{arith}
 use mathlib.Core.Path.{refl}
 use Rattle.pair_new_objects.proofs.Looping.{own_few, tables_room, tables_small, first_same, first_beside, last_room, all_done}
-use borrow.Author.Rules.{rules}
 use Rattle.pair_new_objects.proofs.write_objects.Goals as goal
 
 pub overflow_add-row : goal.overflow_add-row

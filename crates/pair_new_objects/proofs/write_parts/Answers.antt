@@ -1,7 +1,6 @@
 -- `pair_new_objects::write_parts` meets its contract: the coverage, and behind it in format 2 the class definition. Assumes nothing.
 use native.Mathlib.Omega.{arith}
 use Rattle.pair_new_objects.proofs.Parts.{cover_ready, middle_small, row_inside, one_done, class_ready, end_small, next_inside, two_done}
-use borrow.Author.Rules.{rules}
 use Rattle.pair_new_objects.proofs.write_parts.Goals as goal
 
 pub write_coverage-middle-requires : goal.write_coverage-middle-requires

@@ -1,6 +1,5 @@
 -- `pair_new_objects::write_table` meets its contract: each format by its own writer. Assumes nothing.
 use Rattle.pair_new_objects.proofs.Tables.{room1, room2, cloned_one, cloned_two}
-use borrow.Author.Rules.{rules}
 use Rattle.pair_new_objects.proofs.write_table.Goals as goal
 
 pub write_format1-requires : goal.write_format1-requires

@@ -1,7 +1,6 @@
 -- `pair_new_objects::write_table_objects` meets its contract: the table, and behind it what stands beside it. Assumes nothing.
 use native.Mathlib.Omega.{arith}
 use Rattle.store_object_rows.proofs.Writing.{one_fits, one_row, one_small, rest_room, rest_done}
-use borrow.Author.Rules.{rules}
 use Rattle.pair_new_objects.proofs.write_table_objects.Goals as goal
 
 pub write_table-end-requires : goal.write_table-end-requires

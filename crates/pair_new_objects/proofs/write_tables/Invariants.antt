@@ -1,10 +1,7 @@
 -- `pair_new_objects::write_tables` meets its contract: the objects of the first j new tables are written. Assumes nothing.
-use borrow.Author.Rules.{rules}
-use native.Mathlib.Omega.{arith}
 use Prim.Native.Nat.{◌-◌}
-use mathlib.Core.Path.{refl}
 use lib.ListN.{length}
-use Rattle.pair_new_objects.proofs.Looping.{Tables, tables_start, tables_stop, row_small, next_few, old_now, turn_same, turn_beside, turn_items, turn_room, tables_turn}
+use Rattle.pair_new_objects.proofs.Looping.{Tables}
 use Rattle.pair_new_objects.proofs.write_tables.Given as goal
 
 abbrev pub invariant-loop-j : goal.invariant-loop-j

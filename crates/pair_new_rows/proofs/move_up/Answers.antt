@@ -1,10 +1,9 @@
 -- `pair_new_rows::move_up` meets its contract: rows move from the last on, so that none is written over before it is read. Assumes nothing.
 use Rattle.store_rules.specs.Store.{per_link, row_position}
-use borrow.Author.Rules.{rules}
 use Prim.Native.Nat.{◌+◌, ◌-◌, ◌*◌}
 use native.Mathlib.Omega.{arith}
 use Rattle.pair_new_rows.specs.Blocks.{moved_row}
-use Rattle.pair_new_rows.proofs.Moving.{Up, up_start, up_turn, up_stop, up_all}
+use Rattle.pair_new_rows.proofs.Moving.{up_start, up_turn, up_stop, up_all}
 use Rattle.pair_new_rows.proofs.move_up.Goals as goal
 
 pub loop-left-init : goal.loop-left-init

@@ -4,7 +4,6 @@ use lib.ListN.{length}
 use native.Mathlib.Omega.{arith}
 use Rattle.store_rules.specs.Store.{per_link}
 use Rattle.pair_new_rows.proofs.Joining.{ordered_there, floor_there, parted_done}
-use borrow.Author.Rules.{rules}
 use Rattle.pair_new_rows.proofs.part_rows.Goals as goal
 
 pub spread-requires : goal.spread-requires

@@ -11,7 +11,6 @@ use Rattle.store_rules.specs.Header.{header_links}
 use Rattle.ot_pairpos.proofs.Layouts.{few_heads}
 use Rattle.pair_new_rows.specs.Blocks.{head_rows}
 use Rattle.pair_new_rows.proofs.Spreading.{own_positions, head_positions, some_own}
-use borrow.Author.Rules.{rules}
 use Rattle.pair_new_rows.proofs.put_heads.Goals as goal
 
 pub slice_bounds-put_header-end : goal.slice_bounds-put_header-end

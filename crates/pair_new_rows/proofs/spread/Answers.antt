@@ -1,11 +1,10 @@
 -- `pair_new_rows::spread` meets its contract: from the last table on, the rows from `at` on are those of the tables from j on. Assumes nothing.
-use borrow.Author.Rules.{rules}
 use mathlib.Core.Path.{◌∙◌}
 use Prim.Native.Nat.{◌-◌}
 use native.Mathlib.Omega.{arith}
 use Rattle.ot_pairpos.proofs.Layouts.{few_heads}
 use Rattle.pair_new_rows.specs.Blocks.{plan}
-use Rattle.pair_new_rows.proofs.Spreading.{At, at_start, at_done, at_turn, Numbers, numbers}
+use Rattle.pair_new_rows.proofs.Spreading.{at_start, at_done, at_turn, Numbers, numbers}
 use Rattle.pair_new_rows.proofs.spread.Goals as goal
 
 pub overflow_add-table : goal.overflow_add-table

@@ -1,11 +1,7 @@
 -- `pair_new_rows::spread` meets its contract: from the last table on, the rows from `at` on are those of the tables from j on. Assumes nothing.
-use borrow.Author.Rules.{rules}
-use mathlib.Core.Path.{◌∙◌}
 use Prim.Native.Nat.{◌-◌}
-use native.Mathlib.Omega.{arith}
-use Rattle.ot_pairpos.proofs.Layouts.{few_heads}
 use Rattle.pair_new_rows.specs.Blocks.{plan}
-use Rattle.pair_new_rows.proofs.Spreading.{At, at_start, at_done, at_turn, Numbers, numbers}
+use Rattle.pair_new_rows.proofs.Spreading.{At}
 use Rattle.pair_new_rows.proofs.spread.Given as goal
 
 abbrev pub invariant-loop-j : goal.invariant-loop-j

@@ -1,6 +1,5 @@
 -- `pair_new_table::write_counts` meets its contract: what is copied lies below what is written. Assumes nothing.
 use Rattle.pair_new_table.proofs.Cloning.{counts_written}
-use borrow.Author.Rules.{rules}
 use Rattle.pair_new_table.proofs.write_counts.Goals as goal
 
 pub returns : goal.returns

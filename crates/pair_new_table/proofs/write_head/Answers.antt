@@ -1,6 +1,5 @@
 -- `pair_new_table::write_head` meets its contract: what is copied lies below what is written. Assumes nothing.
 use Rattle.pair_new_table.proofs.Cloning.{head_written}
-use borrow.Author.Rules.{rules}
 use Rattle.pair_new_table.proofs.write_head.Goals as goal
 
 pub returns : goal.returns

@@ -4,7 +4,6 @@ use Rattle.store_rules.specs.Store.{lent}
 use Rattle.call_rules.specs.Scratch.{scratch_of}
 use Rattle.pair_plan.proofs.Counting.{can_hand_out}
 use Rattle.pair_plan.proofs.Planning.{plan_called}
-use borrow.Author.Rules.{rules}
 use Rattle.pair_plan.proofs.cut_plan.Goals as goal
 
 pub hand_out-answer-requires : goal.hand_out-answer-requires

@@ -8,7 +8,6 @@ use Rattle.pair_checks.specs.declared.Checked.TheVariants as Checked
 use Rattle.call_rules.specs.declared.Answer.TheVariants.{Unsound}
 use Rattle.pair_plan.proofs.Deciding.{decided_unknown, decided_settled}
 use Rattle.call_rules.proofs.KnownSettings.{tested_known}
-use borrow.Author.Rules.{rules}
 use mathlib.Core.Path.{ap}
 use mathlib.Core.Bool.{not}
 use Rattle.pair_plan.proofs.decide.Goals as goal

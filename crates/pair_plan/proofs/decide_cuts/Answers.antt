@@ -2,7 +2,6 @@
 use native.Mathlib.Omega.{arith}
 use Rattle.call_rules.specs.Scratch.{Scratch, scratch_of}
 use Rattle.pair_plan.proofs.Deciding.{can_begin, header_fits, table_marked, is_open, can_cut, decided_cut}
-use borrow.Author.Rules.{rules}
 use Rattle.pair_plan.proofs.decide_cuts.Goals as goal
 
 pub overflow_cast-layout : goal.overflow_cast-layout

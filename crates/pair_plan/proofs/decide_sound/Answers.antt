@@ -4,7 +4,6 @@ use Rattle.store_rules.specs.Store.{lent}
 use Rattle.call_rules.specs.Scratch.{scratch_of}
 use Rattle.pair_checks.specs.Checked.{checked_as}
 use Rattle.pair_plan.proofs.Deciding.{decided_settled}
-use borrow.Author.Rules.{rules}
 use Rattle.pair_plan.proofs.decide_sound.Goals as goal
 
 pub decide_cuts-requires : goal.decide_cuts-requires

@@ -2,7 +2,6 @@
 use native.Mathlib.Omega.{arith}
 use Rattle.folds.proofs.Parts.{length_part}
 use Rattle.pair_plan.proofs.Planning.{out_settled, out_places}
-use borrow.Author.Rules.{rules}
 use Rattle.pair_plan.proofs.hand_out.Goals as goal
 
 pub slice_bounds-list_places-end : goal.slice_bounds-list_places-end

@@ -2,7 +2,6 @@
 use native.Mathlib.Omega.{arith}
 use Rattle.store_rules.specs.Store.{lent}
 use Rattle.pair_plan.proofs.Deciding.{settled_cycle, settled_unsorted, settled_plan}
-use borrow.Author.Rules.{rules}
 use mathlib.Core.Path.{ap}
 use mathlib.Core.Bool.{not}
 use Rattle.pair_plan.proofs.settle_cuts.Goals as goal

@@ -1,12 +1,11 @@
 -- `pair_reading::both` meets its contract: the numbers before `j` are those of the first list, and then of the second. Assumes nothing.
 use Prim.Native.Nat.{◌-◌}
 use mathlib.Core.Path.{◌≡◌, refl, ◌∙◌}
-use mathlib.Core.List.{◌++◌}
 use lib.IntN.{pos}
 use lib.ListN.{get_or, length}
 use mir.Syntax.{w32}
 use mir.ValLaws.{to_z-of_z}
-use Rattle.pair_values.proofs.Filled.{Filled, unfilled, fill, full, of_first, of_second, both_full}
+use Rattle.pair_values.proofs.Filled.{unfilled, fill, full, of_first, of_second, both_full}
 use borrow.Author.Rules.{rules}
 use Rattle.pair_reading.proofs.both.Goals as goal
 

@@ -1,13 +1,9 @@
 -- `pair_reading::both` meets its contract: the numbers before `j` are those of the first list, and then of the second. Assumes nothing.
 use Prim.Native.Nat.{◌-◌}
-use mathlib.Core.Path.{◌≡◌, refl, ◌∙◌}
 use mathlib.Core.List.{◌++◌}
 use lib.IntN.{pos}
-use lib.ListN.{get_or, length}
-use mir.Syntax.{w32}
-use mir.ValLaws.{to_z-of_z}
-use Rattle.pair_values.proofs.Filled.{Filled, unfilled, fill, full, of_first, of_second, both_full}
-use borrow.Author.Rules.{rules}
+use lib.ListN.{get_or}
+use Rattle.pair_values.proofs.Filled.{Filled}
 use Rattle.pair_reading.proofs.both.Given as goal
 
 abbrev pub invariant-loop-j : goal.invariant-loop-j

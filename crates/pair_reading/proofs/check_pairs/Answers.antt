@@ -3,7 +3,6 @@ use mathlib.Core.Path.{sym, ap, ◌∙◌}
 use Rattle.store_rules.specs.Store.{lent}
 use Rattle.pair_checks.specs.Checked.{checked_as}
 use Rattle.pair_reading.proofs.Checking.{still_settled}
-use borrow.Author.Rules.{rules}
 use Rattle.pair_reading.proofs.check_pairs.Goals as goal
 
 pub check_sorted-requires : goal.check_sorted-requires

@@ -3,7 +3,6 @@ use native.Mathlib.Omega.{arith}
 use Rattle.store_rules.specs.Store.{lent}
 use Rattle.pair_checks.proofs.Refusals.{opens}
 use Rattle.pair_reading.proofs.Checking.{not_sorted, all_sorted}
-use borrow.Author.Rules.{rules}
 use mathlib.Core.Path.{ap}
 use mathlib.Core.Bool.{not}
 use Rattle.pair_reading.proofs.check_sorted.Goals as goal

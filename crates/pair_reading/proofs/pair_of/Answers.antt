@@ -2,7 +2,6 @@
 use Rattle.store_rules.specs.Store.{lent}
 use Rattle.pair_checks.proofs.Refusals.{opens}
 use Rattle.pair_reading.proofs.Answering.{no_spot, first_record_lem, second_record, at_spot}
-use borrow.Author.Rules.{rules}
 use Rattle.pair_reading.proofs.pair_of.Goals as goal
 
 pub returns-in_default : goal.returns-in_default

@@ -4,7 +4,6 @@ use Rattle.store_rules.specs.Store.{lent}
 use Rattle.pair_checks.specs.Checked.{checked_as}
 use Rattle.pair_reading.proofs.Checking.{is_open}
 use Rattle.pair_reading.proofs.Answering.{settled_call, open_call}
-use borrow.Author.Rules.{rules}
 use Rattle.pair_reading.proofs.read_pair.Goals as goal
 
 pub pair_of-pair-requires : goal.pair_of-pair-requires

@@ -1,6 +1,5 @@
 -- `pair_reading::report` meets its contract: by the flag. Assumes nothing.
 use Rattle.pair_reading.proofs.Answering.{found_reported, none_reported}
-use borrow.Author.Rules.{rules}
 use Rattle.pair_reading.proofs.report.Goals as goal
 
 pub returns-then-pair : goal.returns-then-pair

@@ -5,7 +5,7 @@ use native.Mathlib.Omega.{arith}
 use borrow.Author.Rules.{rules}
 use Rattle.store_rules.proofs.Sound.{sound_fits}
 use Rattle.store_reader.proofs.Rows.{in_order_lem}
-use Rattle.pair_row_points.proofs.ClassRows.{Going2, rows_start, rows_stop, rows_back}
+use Rattle.pair_row_points.proofs.ClassRows.{rows_start, rows_stop, rows_back}
 use Rattle.pair_row_points.proofs.compute_format2_split_points.Goals as goal
 
 pub overflow_cast-count : goal.overflow_cast-count

@@ -1,11 +1,6 @@
 -- `pair_row_points::compute_format2_split_points` meets its contract: after each row the code stands where the cut rule does. Assumes nothing.
 use Prim.Native.Nat.{◌-◌}
-use mathlib.Core.Path.{refl}
-use native.Mathlib.Omega.{arith}
-use borrow.Author.Rules.{rules}
-use Rattle.store_rules.proofs.Sound.{sound_fits}
-use Rattle.store_reader.proofs.Rows.{in_order_lem}
-use Rattle.pair_row_points.proofs.ClassRows.{Going2, rows_start, rows_stop, rows_back}
+use Rattle.pair_row_points.proofs.ClassRows.{Going2}
 use Rattle.pair_row_points.proofs.compute_format2_split_points.Given as goal
 
 abbrev pub invariant-loop-i : goal.invariant-loop-i

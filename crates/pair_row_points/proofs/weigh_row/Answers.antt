@@ -3,7 +3,6 @@
 use Prim.Native.Nat.{◌≤◌, ◌<◌, ◌+◌}
 use mathlib.Core.Path.{◌∙◌}
 use native.Mathlib.Omega.{arith}
-use borrow.Author.Rules.{rules}
 use Rattle.pair_row_classes.proofs.ClassesHeld.{held_small}
 use Rattle.pair_items.proofs.Turns.{cut_room}
 use Rattle.pair_items.proofs.ItemSizes.{at_cut}

@@ -5,7 +5,7 @@ use native.Mathlib.Omega.{arith}
 use borrow.Author.Rules.{rules}
 use Rattle.store_rules.proofs.Sound.{sound_fits}
 use Rattle.store_reader.proofs.Rows.{in_order_lem}
-use Rattle.pair_set_points.proofs.PairSets.{Going1, sets_start, sets_stop, sets_back}
+use Rattle.pair_set_points.proofs.PairSets.{sets_start, sets_stop, sets_back}
 use Rattle.pair_set_points.proofs.compute_format1_split_points.Goals as goal
 
 pub overflow_cast-count : goal.overflow_cast-count

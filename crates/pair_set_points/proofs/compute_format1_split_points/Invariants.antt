@@ -1,11 +1,6 @@
 -- `pair_set_points::compute_format1_split_points` meets its contract: after each pair set the code stands where the cut rule does. Assumes nothing.
 use Prim.Native.Nat.{◌-◌}
-use mathlib.Core.Path.{refl}
-use native.Mathlib.Omega.{arith}
-use borrow.Author.Rules.{rules}
-use Rattle.store_rules.proofs.Sound.{sound_fits}
-use Rattle.store_reader.proofs.Rows.{in_order_lem}
-use Rattle.pair_set_points.proofs.PairSets.{Going1, sets_start, sets_stop, sets_back}
+use Rattle.pair_set_points.proofs.PairSets.{Going1}
 use Rattle.pair_set_points.proofs.compute_format1_split_points.Given as goal
 
 abbrev pub invariant-loop-i : goal.invariant-loop-i

@@ -3,7 +3,6 @@
 use Prim.Native.Nat.{◌≤◌, ◌<◌, ◌+◌}
 use mathlib.Core.Path.{◌∙◌}
 use native.Mathlib.Omega.{arith}
-use borrow.Author.Rules.{rules}
 use borrow.Author.Tests.{not-true, not-false}
 use Rattle.pair_items.proofs.Turns.{cut_room}
 use Rattle.pair_items.proofs.ItemSizes.{at_cut}

@@ -1,12 +1,8 @@
 -- `pair_sets::few_rise` meets its contract: behind the first record `k` rise, and `last` is the glyph of the last of them. Assumes nothing.
-use borrow.Author.Rules.{rules}
-use Prim.Native.Nat.{ℕ, ◌+◌, ◌-◌, ◌<◌}
-use mathlib.Core.Path.{◌≡◌, refl, sym, ap, ◌∙◌}
+use Prim.Native.Nat.{◌-◌, ◌<◌}
+use mathlib.Core.Path.{◌≡◌}
 use mathlib.Core.Bool.{true}
-use native.Mathlib.Omega.{arith}
 use Rattle.pair_sets.specs.Rising.{second_at, rises}
-use Rattle.pair_sets.proofs.Widths.{record_within}
-use Rattle.pair_sets.proofs.Ascending.{rises_none, rises_not, rises_more}
 use Rattle.pair_sets.proofs.few_rise.Given as goal
 
 abbrev pub invariant-loop-k : goal.invariant-loop-k

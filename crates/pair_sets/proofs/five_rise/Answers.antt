@@ -1,5 +1,4 @@
 -- `pair_sets::five_rise` meets its contract: each glyph is compared with the one before. Assumes nothing.
-use borrow.Author.Rules.{rules}
 use Prim.Native.Nat.{ℕ, ◌+◌, ◌*◌}
 use mathlib.Core.Path.{◌≡◌, refl}
 use mathlib.Core.Bool.{true}

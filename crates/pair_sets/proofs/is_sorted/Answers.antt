@@ -1,5 +1,4 @@
 -- `pair_sets::is_sorted` meets its contract: a set of exact length is sorted where its glyphs rise. Assumes nothing.
-use borrow.Author.Rules.{rules}
 use mathlib.Core.Path.{◌∙◌}
 use native.Mathlib.Omega.{arith}
 use Rattle.pair_sets.proofs.Widths.{records_fit}

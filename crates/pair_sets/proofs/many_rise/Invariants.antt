@@ -1,11 +1,7 @@
 -- `pair_sets::many_rise` meets its contract: `at` is the place of a record behind which nothing was looked at. Assumes nothing.
-use borrow.Author.Rules.{rules}
-use Prim.Native.Nat.{◌+◌, ◌-◌}
-use mathlib.Core.Path.{refl}
-use native.Mathlib.Nat.{mul-le-mul_left}
-use native.Mathlib.Omega.{arith}
+use Prim.Native.Nat.{◌-◌}
 use lib.ListN.{length}
-use Rattle.pair_sets.proofs.Windows.{Passed, none_passed, within, fails, ends, goes_on}
+use Rattle.pair_sets.proofs.Windows.{Passed}
 use Rattle.pair_sets.proofs.many_rise.Given as goal
 
 abbrev pub invariant-loop-size : goal.invariant-loop-size

@@ -1,9 +1,8 @@
 -- `pair_sets::record_in_set` meets its contract. Between `lo` and `hi` is what halving has left of the rising glyphs. Assumes nothing.
-use borrow.Author.Rules.{rules}
 use Prim.Native.Nat.{ℕ, ◌+◌, ◌-◌, ◌/◌}
 use native.Mathlib.Omega.{arith}
 use Rattle.pair_sets.proofs.Ascending.{sorted}
-use Rattle.pair_sets.proofs.Halved.{Halved, start, glyph_within, higher, lower, hit, miss}
+use Rattle.pair_sets.proofs.Halved.{start, glyph_within, higher, lower, hit, miss}
 use Rattle.pair_sets.proofs.record_in_set.Goals as goal
 
 pub u16_at-hi-requires : goal.u16_at-hi-requires

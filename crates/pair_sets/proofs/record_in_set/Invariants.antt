@@ -1,9 +1,6 @@
 -- `pair_sets::record_in_set` meets its contract. Between `lo` and `hi` is what halving has left of the rising glyphs. Assumes nothing.
-use borrow.Author.Rules.{rules}
-use Prim.Native.Nat.{ℕ, ◌+◌, ◌-◌, ◌/◌}
-use native.Mathlib.Omega.{arith}
-use Rattle.pair_sets.proofs.Ascending.{sorted}
-use Rattle.pair_sets.proofs.Halved.{Halved, start, glyph_within, higher, lower, hit, miss}
+use Prim.Native.Nat.{◌-◌}
+use Rattle.pair_sets.proofs.Halved.{Halved}
 use Rattle.pair_sets.proofs.record_in_set.Given as goal
 
 abbrev pub invariant-loop-lo : goal.invariant-loop-lo

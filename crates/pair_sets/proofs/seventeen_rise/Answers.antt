@@ -1,5 +1,4 @@
 -- `pair_sets::seventeen_rise` meets its contract: the glyphs rise where those of each five do. Assumes nothing.
-use borrow.Author.Rules.{rules}
 use Prim.Native.Nat.{ℕ, ◌+◌, ◌*◌}
 use mathlib.Core.Path.{◌≡◌, sym, ◌∙◌}
 use mathlib.Core.Bool.{true}

@@ -1,7 +1,6 @@
 -- `pair_spots::spot_by_classes` meets its contract: by the row, then by the column. Assumes nothing.
 use Rattle.store_rules.specs.Store.{lent}
 use Rattle.pair_spots.proofs.Finding.{no_row, no_column, in_column}
-use borrow.Author.Rules.{rules}
 use Rattle.pair_spots.proofs.spot_by_classes.Goals as goal
 
 pub returns-then-layout-row : goal.returns-then-layout-row

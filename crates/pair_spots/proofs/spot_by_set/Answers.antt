@@ -2,7 +2,6 @@
 use Rattle.store_reader.proofs.Rows.{rows_in_order}
 use Rattle.store_rules.specs.Store.{lent}
 use Rattle.pair_spots.proofs.Finding.{no_set, no_link_lem, set-inside, set_is_sorted, in_linked_set}
-use borrow.Author.Rules.{rules}
 use Rattle.pair_spots.proofs.spot_by_set.Goals as goal
 
 pub returns-then-layout-k : goal.returns-then-layout-k

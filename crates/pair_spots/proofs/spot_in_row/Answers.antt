@@ -1,7 +1,6 @@
 -- `pair_spots::spot_in_row` meets its contract: nothing wraps. Assumes nothing.
 use native.Mathlib.Omega.{arith}
 use Rattle.pair_spots.proofs.Widths.{row_fits, place_fits, behind_fits}
-use borrow.Author.Rules.{rules}
 use Rattle.pair_spots.proofs.spot_in_row.Goals as goal
 
 pub overflow_mul-record : goal.overflow_mul-record

@@ -3,7 +3,6 @@ use mathlib.Core.List.{[]}
 use native.Mathlib.Omega.{arith}
 use Rattle.store_rules.specs.Store.{lent}
 use Rattle.pair_spots.proofs.Finding.{record_in, no_record_in, record_place}
-use borrow.Author.Rules.{rules}
 use Rattle.pair_spots.proofs.spot_in_set.Goals as goal
 
 pub record_in_set-found-requires : goal.record_in_set-found-requires

@@ -2,7 +2,6 @@
 use Rattle.store_rules.specs.Store.{lent}
 use Rattle.pair_checks.proofs.Refusals.{opens}
 use Rattle.pair_spots.proofs.Finding.{coverage_part, class1_part, class2_part, unit_small, not_covered, slot_sorted_lem, by_its_set, by_its_classes}
-use borrow.Author.Rules.{rules}
 use Rattle.pair_spots.proofs.spot_of.Goals as goal
 
 pub place_in-place-requires : goal.place_in-place-requires

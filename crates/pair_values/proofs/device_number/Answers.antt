@@ -3,7 +3,6 @@ use mathlib.Core.List.{[]}
 use native.Mathlib.Omega.{arith}
 use Rattle.store_rules.specs.Store.{lent}
 use Rattle.pair_values.proofs.Fields.{child_small, device_linked, device_none}
-use borrow.Author.Rules.{rules}
 use Rattle.pair_values.proofs.device_number.Goals as goal
 
 pub overflow_add-result : goal.overflow_add-result

@@ -8,7 +8,6 @@ use Rattle.store_rules.specs.Store.{lent}
 use Rattle.pair_rules.specs.Pairs.{number_of}
 use Rattle.pair_values.specs.Values.{ValueRecord}
 use Rattle.pair_values.proofs.Fields.{object_small}
-use borrow.Author.Rules.{rules}
 use Rattle.pair_values.proofs.pair_at.Goals as goal
 
 pub overflow_mul-behind : goal.overflow_mul-behind

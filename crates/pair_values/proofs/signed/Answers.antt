@@ -1,7 +1,6 @@
 -- `pair_values::signed` meets its contract: from 32,768 on, 65,536 is taken off. Assumes nothing.
 use native.Mathlib.Omega.{arith}
 use Rattle.pair_values.proofs.Fields.{small_signed, difference_fits, large_signed}
-use borrow.Author.Rules.{rules}
 use Rattle.pair_values.proofs.signed.Goals as goal
 
 pub returns-then-v-lt32768 : goal.returns-then-v-lt32768

@@ -1,6 +1,5 @@
 -- `store_link_rows::keep_row` meets its contract: the child is the only number that changes. Assumes nothing.
 use native.Mathlib.Omega.{arith}
-use borrow.Author.Rules.{rules}
 use Rattle.store_link_rows.proofs.Keeping.{kept_own, kept_other, kept_order}
 use Rattle.store_link_rows.proofs.keep_row.Goals as goal
 

@@ -1,8 +1,7 @@
 -- `store_link_rows::keep_rows` meets its contract: the rows before k are done. Assumes nothing.
-use borrow.Author.Rules.{rules}
 use Prim.Native.Nat.{◌-◌}
 use Rattle.store_rules.specs.Header.{kept}
-use Rattle.store_link_rows.proofs.Changing.{Changed, changed_start, changed_turn, changed_done}
+use Rattle.store_link_rows.proofs.Changing.{Changed}
 use Rattle.store_link_rows.proofs.keep_rows.Given as goal
 
 abbrev pub invariant-loop-k : goal.invariant-loop-k

@@ -1,5 +1,4 @@
 -- `store_link_rows::move_row` meets its contract: what is written is what was read, in another place. Assumes nothing.
-use borrow.Author.Rules.{rules}
 use Rattle.store_link_rows.proofs.RowLaws.{row_moved}
 use Rattle.store_link_rows.proofs.move_row.Goals as goal
 

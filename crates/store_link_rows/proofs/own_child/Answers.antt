@@ -1,8 +1,6 @@
 -- `store_link_rows::own_child` meets its contract: none of the positions before i is the link's. Assumes nothing.
 use Prim.Native.Nat.{◌-◌}
-use lib.ListN.{length}
-use borrow.Author.Rules.{rules}
-use Rattle.store_link_rows.proofs.Header.{Sought, sought_start, sought_turn, sought_found, sought_none}
+use Rattle.store_link_rows.proofs.Header.{sought_start, sought_turn, sought_found, sought_none}
 use Rattle.store_link_rows.proofs.own_child.Goals as goal
 
 pub loop-i-init : goal.loop-i-init

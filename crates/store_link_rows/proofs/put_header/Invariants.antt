@@ -1,8 +1,7 @@
 -- `store_link_rows::put_header` meets its contract: the rows of the first i positions are written. Assumes nothing.
 use Prim.Native.Nat.{◌-◌}
 use lib.ListN.{length}
-use borrow.Author.Rules.{rules}
-use Rattle.store_link_rows.proofs.Header.{Headed, headed_start, headed_turn, headed_done}
+use Rattle.store_link_rows.proofs.Header.{Headed}
 use Rattle.store_link_rows.proofs.put_header.Given as goal
 
 abbrev pub invariant-loop-i : goal.invariant-loop-i

@@ -1,7 +1,6 @@
 -- `store_link_rows::put_row` meets its contract: a row's numbers are written, one behind the other. Assumes nothing.
 use native.Mathlib.Omega.{arith}
 use lib.ListN.{length-set}
-use borrow.Author.Rules.{rules}
 use Rattle.store_link_rows.specs.Rows.{link_of}
 use Rattle.store_link_rows.proofs.RowLaws.{put-numbers}
 use Rattle.store_link_rows.proofs.put_row.Goals as goal

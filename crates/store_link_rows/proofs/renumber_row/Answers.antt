@@ -1,5 +1,4 @@
 -- `store_link_rows::renumber_row` meets its contract: what is written is what was read, between other ends. Assumes nothing.
-use borrow.Author.Rules.{rules}
 use Rattle.store_rules.specs.Store.{joining}
 use Rattle.store_link_rows.proofs.RowLaws.{row_changed}
 use Rattle.store_link_rows.proofs.renumber_row.Goals as goal

@@ -1,8 +1,7 @@
 -- `store_link_rows::reverse_rows` meets its contract: the rows before i and from j on are reversed, those between are as they were. Assumes nothing.
-use borrow.Author.Rules.{rules}
 use Prim.Native.Nat.{◌-◌}
 use native.Mathlib.Omega.{arith}
-use Rattle.store_link_rows.proofs.Reversing.{Ends, ends_start, ends_turn, ends_done}
+use Rattle.store_link_rows.proofs.Reversing.{ends_start, ends_turn, ends_done}
 use Rattle.store_link_rows.proofs.reverse_rows.Goals as goal
 
 pub loop-i-init : goal.loop-i-init

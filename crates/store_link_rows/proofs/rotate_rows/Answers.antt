@@ -1,6 +1,5 @@
 -- `store_link_rows::rotate_rows` meets its contract: three reversals. Assumes nothing.
 use Rattle.store_link_rows.proofs.Reversing.{turned, none_move, none_behind}
-use borrow.Author.Rules.{rules}
 use Rattle.store_link_rows.proofs.rotate_rows.Goals as goal
 
 pub returns-then-a-b : goal.returns-then-a-b

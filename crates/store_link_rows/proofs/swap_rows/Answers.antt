@@ -1,5 +1,4 @@
 -- `store_link_rows::swap_rows` meets its contract: one row is written after the other, as they were read before. Assumes nothing.
-use borrow.Author.Rules.{rules}
 use Rattle.store_link_rows.proofs.RowLaws.{rows_swapped}
 use Rattle.store_link_rows.proofs.swap_rows.Goals as goal
 

@@ -1,6 +1,5 @@
 -- `store_reader::bytes_of` meets its contract: from head to tail is the part that the definition takes. Assumes nothing.
 use mathlib.Core.Path.{refl}
-use borrow.Author.Rules.{rules}
 use Rattle.store_rules.specs.Store.{bytes_of}
 use Rattle.store_reader.proofs.bytes_of.Goals as goal
 

@@ -1,7 +1,6 @@
 -- `store_reader::child_in` meets its contract: no row but the first at or past the position can stand at it. Assumes nothing.
 use Rattle.store_rules.specs.Store.{lent}
 use Rattle.store_reader.proofs.Children.{child_past, child_other_parent, child_order_only, child_other_place, child_found_lem}
-use borrow.Author.Rules.{rules}
 use Rattle.store_reader.proofs.child_in.Goals as goal
 
 pub returns-then-counts-row : goal.returns-then-counts-row

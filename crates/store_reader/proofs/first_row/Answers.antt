@@ -1,7 +1,6 @@
 -- `store_reader::first_row` meets its contract: at first all rows are left. Assumes nothing.
 use Prim.Native.Nat.{ℕ}
 use mathlib.Core.Path.{subst}
-use borrow.Author.Rules.{rules}
 use Rattle.store_reader.specs.Rows.{FirstRow}
 use Rattle.store_reader.proofs.Rows.{whole}
 use Rattle.store_reader.proofs.first_row.Goals as goal

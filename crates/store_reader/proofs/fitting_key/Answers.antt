@@ -1,7 +1,6 @@
 -- `store_reader::fitting_key` meets its contract: parent and child are in use, and then the shape decides. Assumes nothing.
 use mathlib.Core.Path.{refl, ◌∙◌}
 use native.Mathlib.Omega.{arith}
-use borrow.Author.Rules.{rules}
 use Rattle.store_rules.specs.Store.{lent}
 use Rattle.store_reader.proofs.Rows.{place_is_child}
 use Rattle.store_reader.proofs.Keys.{parent_out, child_out, both_in}

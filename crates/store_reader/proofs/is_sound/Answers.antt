@@ -3,7 +3,6 @@ use Prim.Native.Nat.{◌/◌, min}
 use mathlib.Core.Path.{sym, ◌∙◌}
 use native.Mathlib.Omega.{arith}
 use lib.ListN.{length, get_or}
-use borrow.Author.Rules.{rules}
 use borrow.Author.Tests.{not-false}
 use Rattle.store_rules.specs.Store.{lent, per_link, byte_room, object_room, link_room}
 use Rattle.store_reader.proofs.Checks.{count_in, objects_short, bytes_over, objects_over, links_over, objects_unfit, links_decide}

@@ -1,10 +1,6 @@
 -- `store_reader::links_fit` meets its contract: the rows below `k` fit, and `before` is one more than the key of the last of them. Assumes nothing.
-use Prim.Native.Nat.{ℕ, ◌-◌}
-use mathlib.Core.List.{List}
-use lib.ListN.{get_or}
-use borrow.Author.Rules.{rules}
-use Rattle.store_rules.specs.Store.{lent}
-use Rattle.store_reader.proofs.Keys.{Climbing, climbing_start, climbing_turn, climbing_fails, climbing_stop}
+use Prim.Native.Nat.{◌-◌}
+use Rattle.store_reader.proofs.Keys.{climbing_start, climbing_turn, climbing_fails, climbing_stop}
 use Rattle.store_reader.proofs.links_fit.Goals as goal
 
 pub loop-k-init : goal.loop-k-init

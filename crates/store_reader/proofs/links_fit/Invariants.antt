@@ -2,9 +2,8 @@
 use Prim.Native.Nat.{ℕ, ◌-◌}
 use mathlib.Core.List.{List}
 use lib.ListN.{get_or}
-use borrow.Author.Rules.{rules}
 use Rattle.store_rules.specs.Store.{lent}
-use Rattle.store_reader.proofs.Keys.{Climbing, climbing_start, climbing_turn, climbing_fails, climbing_stop}
+use Rattle.store_reader.proofs.Keys.{Climbing}
 use Rattle.store_reader.proofs.links_fit.Given as goal
 
 abbrev pub invariant-loop-k : goal.invariant-loop-k

@@ -1,9 +1,6 @@
 -- `store_reader::next_row` meets its contract: the rows before `row` are below the key. Assumes nothing.
 use Prim.Native.Nat.{◌-◌}
-use native.Mathlib.Omega.{arith}
-use borrow.Author.Rules.{rules}
 use Rattle.store_reader.specs.Rows.{key_of, Bracket}
-use Rattle.store_reader.proofs.Rows.{key_asks, rest, up, down, found}
 use Rattle.store_reader.proofs.next_row.Given as goal
 
 abbrev pub invariant-loop-row : goal.invariant-loop-row

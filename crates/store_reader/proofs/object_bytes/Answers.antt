@@ -1,6 +1,5 @@
 -- `store_reader::object_bytes` meets its contract: an object of a sound store lies within its bytes. Assumes nothing.
 use mathlib.Core.Path.{◌∙◌}
-use borrow.Author.Rules.{rules}
 use Rattle.store_rules.specs.Store.{lent}
 use Rattle.store_reader.proofs.Bytes.{fits_tested, inside, handed_unsound, handed_unused, handed}
 use mathlib.Core.Path.{ap}

@@ -1,6 +1,5 @@
 -- `store_reader::object_fits` meets its contract: its tests are those of the definition, in the same order. Assumes nothing.
 use native.Mathlib.Omega.{arith}
-use borrow.Author.Rules.{rules}
 use Rattle.store_rules.specs.Store.{lent}
 use Rattle.store_reader.proofs.Checks.{object_early, object_turned, object_ends}
 use Rattle.store_reader.proofs.object_fits.Goals as goal

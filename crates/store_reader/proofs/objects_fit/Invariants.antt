@@ -1,13 +1,11 @@
 -- `store_reader::objects_fit` meets its contract: the rows below `i` fit, and `least` is the tail of the last of them. Assumes nothing.
-use Prim.Native.Nat.{ℕ, ◌+◌, ◌-◌, ◌*◌}
+use Prim.Native.Nat.{ℕ, ◌-◌}
 use mathlib.Core.List.{List}
-use mathlib.Core.Path.{◌≡◌, sym}
+use mathlib.Core.Path.{◌≡◌}
 use lib.ListN.{get_or}
-use borrow.Author.Rules.{rules}
-use Rattle.folds.proofs.Folds.{before_none, before_more}
 use Rattle.store_rules.specs.Store.{lent, object_fits}
 use Rattle.store_reader.specs.Rows.{least_head}
-use Rattle.store_reader.proofs.Checks.{Passed, start, turn, stop, fail}
+use Rattle.store_reader.proofs.Checks.{Passed}
 use Rattle.store_reader.proofs.objects_fit.Given as goal
 
 abbrev pub invariant-loop-i : goal.invariant-loop-i

@@ -3,7 +3,6 @@ use Prim.Native.Nat.{ℕ, ◌+◌, ◌*◌}
 use mathlib.Core.Path.{ap, ◌∙◌}
 use native.Mathlib.Omega.{arith}
 use lib.Dec.{leb}
-use borrow.Author.Rules.{rules}
 use Rattle.store_rules.specs.Store.{lent, per_link, row_position, size_of, position_of}
 use Rattle.store_reader.proofs.Keys.{offset_narrow, offset_outside, offset_inside_key}
 use mathlib.Core.Bool.{not}

@@ -1,5 +1,4 @@
 -- `store_reader::place_at` meets its contract: an offset stands at its position, an order-only link behind all bytes. Assumes nothing.
-use borrow.Author.Rules.{rules}
 use native.Mathlib.Omega.{arith}
 use Rattle.store_reader.proofs.Rows.{place_is_position, place_is_child}
 use Rattle.store_reader.proofs.place_at.Goals as goal

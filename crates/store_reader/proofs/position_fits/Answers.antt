@@ -2,7 +2,6 @@
 use Prim.Native.Nat.{◌+◌, ◌*◌}
 use native.Mathlib.Omega.{arith}
 use lib.ListN.{get_or}
-use borrow.Author.Rules.{rules}
 use Rattle.store_reader.proofs.Checks.{position_within}
 use Rattle.store_reader.proofs.position_fits.Goals as goal
 

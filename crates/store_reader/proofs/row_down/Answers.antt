@@ -1,8 +1,6 @@
 -- `store_reader::row_down` meets its contract: the rows from `to` on are not below the key. Assumes nothing.
-use Prim.Native.Nat.{◌-◌, ◌<◌}
+use Prim.Native.Nat.{◌-◌}
 use native.Mathlib.Omega.{arith}
-use borrow.Author.Rules.{rules}
-use Rattle.store_reader.specs.Rows.{Bracket}
 use Rattle.store_reader.proofs.Rows.{key_asks, up, down}
 use Rattle.store_reader.proofs.row_down.Goals as goal
 

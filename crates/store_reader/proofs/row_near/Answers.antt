@@ -2,7 +2,6 @@
 use Prim.Native.Nat.{ℕ}
 use mathlib.Core.Path.{sym, subst}
 use native.Mathlib.Omega.{arith}
-use borrow.Author.Rules.{rules}
 use Rattle.store_reader.specs.Rows.{key_of, FirstRow, Bracket}
 use Rattle.store_reader.proofs.Rows.{key_asks, up, down, hit}
 use Rattle.store_reader.proofs.row_near.Goals as goal

@@ -1,9 +1,6 @@
 -- `store_reader::row_up` meets its contract: the rows before `from` are below the key. Assumes nothing.
-use Prim.Native.Nat.{◌+◌, ◌-◌, ◌<◌}
-use native.Mathlib.Omega.{arith}
-use borrow.Author.Rules.{rules}
+use Prim.Native.Nat.{◌-◌, ◌<◌}
 use Rattle.store_reader.specs.Rows.{Bracket}
-use Rattle.store_reader.proofs.Rows.{key_asks, up, down}
 use Rattle.store_reader.proofs.row_up.Given as goal
 
 abbrev pub invariant-loop-step : goal.invariant-loop-step

@@ -1,6 +1,5 @@
 -- `store_reader::rows_of` meets its contract: its order-only links start where its offsets end. Assumes nothing.
 use native.Mathlib.Omega.{arith}
-use borrow.Author.Rules.{rules}
 use Rattle.store_reader.proofs.Rows.{rows_rise}
 use Rattle.store_reader.proofs.rows_of.Goals as goal
 

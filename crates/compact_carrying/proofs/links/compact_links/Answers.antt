@@ -1,7 +1,6 @@
 -- `links::compact_links` meets its contract: the links that stay are written, and what lies behind them is zero. Assumes nothing.
 use mathlib.Core.List.{[]}
 use native.Mathlib.Omega.{arith}
-use borrow.Author.Rules.{rules}
 use Rattle.store_rules.specs.Store.{lent}
 use Rattle.compact_carrying.proofs.Sifting.{Linked, linked}
 use Rattle.compact_carrying.proofs.Wiping.{links_left_lem, links_asked}

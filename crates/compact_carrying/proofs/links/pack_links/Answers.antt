@@ -2,11 +2,8 @@
 use Prim.Native.Nat.{◌-◌}
 use mathlib.Core.List.{[]}
 use native.Mathlib.Omega.{arith}
-use lib.ListN.{get_or}
-use borrow.Author.Rules.{rules}
 use Rattle.store_rules.specs.Store.{lent}
-use Rattle.compact_rules.specs.Marks.{has_mark}
-use Rattle.compact_carrying.proofs.Sifting.{Sifting, Linked, linked, sifting_start, sifting_stop, links_long, parent_used_lem, child_used_lem, row_inside, turn_kept, turn_dropped}
+use Rattle.compact_carrying.proofs.Sifting.{Linked, linked, sifting_start, sifting_stop, links_long, parent_used_lem, child_used_lem, row_inside, turn_kept, turn_dropped}
 use Rattle.compact_carrying.proofs.links.pack_links.Goals as goal
 
 pub loop-k-init : goal.loop-k-init

@@ -1,12 +1,10 @@
 -- `links::pack_links` meets its contract: the links of the rows before k that stay are written, and all rows from k on are as they came. Assumes nothing.
 use Prim.Native.Nat.{◌-◌}
 use mathlib.Core.List.{[]}
-use native.Mathlib.Omega.{arith}
 use lib.ListN.{get_or}
-use borrow.Author.Rules.{rules}
 use Rattle.store_rules.specs.Store.{lent}
 use Rattle.compact_rules.specs.Marks.{has_mark}
-use Rattle.compact_carrying.proofs.Sifting.{Sifting, Linked, linked, sifting_start, sifting_stop, links_long, parent_used_lem, child_used_lem, row_inside, turn_kept, turn_dropped}
+use Rattle.compact_carrying.proofs.Sifting.{Sifting}
 use Rattle.compact_carrying.proofs.links.pack_links.Given as goal
 
 abbrev pub invariant-loop-k : goal.invariant-loop-k

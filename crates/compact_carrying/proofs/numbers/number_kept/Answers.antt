@@ -2,9 +2,8 @@
 use Prim.Native.Nat.{◌-◌}
 use native.Mathlib.Omega.{arith}
 use lib.ListN.{length-set}
-use borrow.Author.Rules.{rules}
 use borrow.Author.Tests.{lt-ltb, le-ltb}
-use Rattle.compact_carrying.proofs.Numbering.{Numbering, numbering_start, numbering_kept, numbering_dropped, numbering_stop}
+use Rattle.compact_carrying.proofs.Numbering.{numbering_start, numbering_kept, numbering_dropped, numbering_stop}
 use Rattle.compact_carrying.proofs.numbers.number_kept.Goals as goal
 
 pub loop-i-init : goal.loop-i-init

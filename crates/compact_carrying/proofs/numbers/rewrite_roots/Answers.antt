@@ -2,9 +2,7 @@
 use Prim.Native.Nat.{◌-◌, ◌<◌}
 use native.Mathlib.Omega.{arith}
 use lib.ListN.{length, get_or}
-use borrow.Author.Rules.{rules}
-use Rattle.compact_carrying.specs.Packing.{number_in}
-use Rattle.compact_carrying.proofs.Roots.{Rewriting, rewriting_start, rewriting_turn, rewriting_stop, root_still}
+use Rattle.compact_carrying.proofs.Roots.{rewriting_start, rewriting_turn, rewriting_stop, root_still}
 use Rattle.compact_carrying.proofs.numbers.rewrite_roots.Goals as goal
 
 pub loop-k-init : goal.loop-k-init

@@ -1,10 +1,8 @@
 -- `numbers::rewrite_roots` meets its contract: the roots before k have their new numbers, and all from k on are as they came. Assumes nothing.
-use Prim.Native.Nat.{◌-◌, ◌<◌}
-use native.Mathlib.Omega.{arith}
-use lib.ListN.{length, get_or}
-use borrow.Author.Rules.{rules}
+use Prim.Native.Nat.{◌-◌}
+use lib.ListN.{length}
 use Rattle.compact_carrying.specs.Packing.{number_in}
-use Rattle.compact_carrying.proofs.Roots.{Rewriting, rewriting_start, rewriting_turn, rewriting_stop, root_still}
+use Rattle.compact_carrying.proofs.Roots.{Rewriting}
 use Rattle.compact_carrying.proofs.numbers.rewrite_roots.Given as goal
 
 abbrev pub invariant-loop-k : goal.invariant-loop-k

@@ -1,7 +1,6 @@
 -- `objects::compact_objects` meets its contract: the kept objects are packed, and what lies behind them is zero. Assumes nothing.
 use mathlib.Core.List.{[]}
 use native.Mathlib.Omega.{arith}
-use borrow.Author.Rules.{rules}
 use Rattle.store_rules.specs.Store.{lent}
 use Rattle.compact_carrying.proofs.Packing.{Lying, lying}
 use Rattle.compact_carrying.proofs.Wiping.{objects_left_lem, rest_asked}

@@ -1,13 +1,10 @@
 -- `objects::pack_objects` meets its contract: the kept objects before i are packed, and all from i on are as they came. Assumes nothing.
 use Prim.Native.Nat.{◌-◌}
 use mathlib.Core.List.{[]}
-use native.Mathlib.Omega.{arith}
 use lib.ListN.{get_or}
-use borrow.Author.Rules.{rules}
-use borrow.Author.Tests.{lt-ltb, le-ltb}
 use Rattle.store_rules.specs.Store.{lent}
 use Rattle.compact_rules.specs.Marks.{has_mark}
-use Rattle.compact_carrying.proofs.Packing.{Packing, Lying, lying, packing_start, may_place, packing_kept, packing_dropped, packing_stop, end_small, many_small, bytes_long, objects_long}
+use Rattle.compact_carrying.proofs.Packing.{Packing}
 use Rattle.compact_carrying.proofs.objects.pack_objects.Given as goal
 
 abbrev pub invariant-loop-i : goal.invariant-loop-i

@@ -1,5 +1,4 @@
 -- `objects::place` meets its contract: the row is written, and the bytes are copied where they are not there already. Assumes nothing.
-use borrow.Author.Rules.{rules}
 use Rattle.compact_carrying.proofs.Placing.{placed_still, placed_moved}
 use Rattle.compact_carrying.proofs.objects.place.Goals as goal
 

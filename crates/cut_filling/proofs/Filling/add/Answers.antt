@@ -1,5 +1,4 @@
 -- `cut_filling::Filling::add` meets its contract: the sum goes on. Assumes nothing.
-use borrow.Author.Rules.{rules}
 use Rattle.cut_filling.proofs.Weighing.{adding}
 use Rattle.cut_filling.proofs.Filling.add.Goals as goal
 

@@ -1,8 +1,6 @@
 -- `glyph_estimator::Estimator::add_by_glyph` meets its contract: after each turn the glyphs passed are added. The measure is what is left. Assumes nothing.
-use borrow.Author.Rules.{rules}
 use Prim.Native.Nat.{◌-◌}
-use lib.ListN.{length}
-use Rattle.glyph_estimator.proofs.Taking.{Adding, start, set-length, takes, turn, stop}
+use Rattle.glyph_estimator.proofs.Taking.{start, set-length, takes, turn, stop}
 use Rattle.glyph_estimator.proofs.Estimator.add_by_glyph.Goals as goal
 
 pub loop-k-init : goal.loop-k-init

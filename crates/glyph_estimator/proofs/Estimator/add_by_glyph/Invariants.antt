@@ -1,8 +1,7 @@
 -- `glyph_estimator::Estimator::add_by_glyph` meets its contract: after each turn the glyphs passed are added. The measure is what is left. Assumes nothing.
-use borrow.Author.Rules.{rules}
 use Prim.Native.Nat.{◌-◌}
 use lib.ListN.{length}
-use Rattle.glyph_estimator.proofs.Taking.{Adding, start, set-length, takes, turn, stop}
+use Rattle.glyph_estimator.proofs.Taking.{Adding}
 use Rattle.glyph_estimator.proofs.Estimator.add_by_glyph.Given as goal
 
 abbrev pub invariant-loop-k : goal.invariant-loop-k

@@ -2,9 +2,7 @@
 -- are in. The measure is what is left. Assumes nothing.
 use borrow.Author.Rules.{rules}
 use Prim.Native.Nat.{◌-◌}
-use lib.ListN.{length}
-use Rattle.glyph_estimator.specs.States.{counted}
-use Rattle.glyph_estimator.proofs.Taking.{Adding, start, set-length, takes, turn}
+use Rattle.glyph_estimator.proofs.Taking.{start, set-length, takes, turn}
 use Rattle.glyph_estimator.proofs.Recounting.{long, spans, added_counted}
 use Rattle.glyph_estimator.proofs.Estimator.add_by_word.Goals as goal
 

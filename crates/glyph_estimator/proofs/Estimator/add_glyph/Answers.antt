@@ -2,7 +2,6 @@
 use native.Mathlib.Omega.{arith}
 use Rattle.glyph_estimator.proofs.Counting.{members_le, runs_le, joined_le}
 use Rattle.glyph_estimator.proofs.Recounting.{taken_joined}
-use borrow.Author.Rules.{rules}
 use Rattle.glyph_estimator.proofs.Estimator.add_glyph.Goals as goal
 
 pub overflow_add-self : goal.overflow_add-self

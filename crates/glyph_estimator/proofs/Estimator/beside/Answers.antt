@@ -1,6 +1,5 @@
 -- `glyph_estimator::Estimator::beside` meets its contract: the three sizes without the largest. Assumes nothing.
 use Rattle.glyph_rules.specs.Estimates.{beside_rows}
-use borrow.Author.Rules.{rules}
 use Rattle.glyph_estimator.proofs.Estimator.beside.Goals as goal
 
 pub returns : goal.returns

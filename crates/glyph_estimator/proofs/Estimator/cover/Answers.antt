@@ -2,7 +2,6 @@
 use native.Mathlib.Omega.{arith}
 use mathlib.Core.Path.{refl}
 use Rattle.glyph_estimator.proofs.Counting.{members_le, first_le, last_ge, covered}
-use borrow.Author.Rules.{rules}
 use Rattle.glyph_estimator.proofs.Estimator.cover.Goals as goal
 
 pub overflow_add-self : goal.overflow_add-self

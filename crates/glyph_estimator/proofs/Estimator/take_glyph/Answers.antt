@@ -2,7 +2,6 @@
 use native.Mathlib.Omega.{arith}
 use Rattle.glyph_estimator.proofs.Counting.{members_le}
 use Rattle.glyph_estimator.proofs.Taking.{starts_le, taken_none, taken_some}
-use borrow.Author.Rules.{rules}
 use Rattle.glyph_estimator.proofs.Estimator.take_glyph.Goals as goal
 
 pub returns-then-class-eq0 : goal.returns-then-class-eq0

@@ -2,7 +2,7 @@
 use borrow.Author.Rules.{rules}
 use Prim.Native.Nat.{◌-◌}
 use native.Mathlib.Omega.{arith}
-use Rattle.glyph_set.proofs.WordRuns.{Counting, start_counting, fits, small, turn_counting, stop_counting}
+use Rattle.glyph_set.proofs.WordRuns.{start_counting, fits, small, turn_counting, stop_counting}
 use Rattle.glyph_set.proofs.words.run_count.Goals as goal
 
 pub loop-at-init : goal.loop-at-init

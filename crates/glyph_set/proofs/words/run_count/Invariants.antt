@@ -1,8 +1,6 @@
 -- `glyph_set::words::run_count` meets its contract: the words below `at` are counted. The measure is what is left of the span. Assumes nothing.
-use borrow.Author.Rules.{rules}
 use Prim.Native.Nat.{◌-◌}
-use native.Mathlib.Omega.{arith}
-use Rattle.glyph_set.proofs.WordRuns.{Counting, start_counting, fits, small, turn_counting, stop_counting}
+use Rattle.glyph_set.proofs.WordRuns.{Counting}
 use Rattle.glyph_set.proofs.words.run_count.Given as goal
 
 abbrev pub invariant-loop-at : goal.invariant-loop-at

@@ -1,5 +1,4 @@
 -- `glyph_set::words::word_at` meets its contract: the sum of the eight bytes, each times its power, is their number. Assumes nothing.
-use borrow.Author.Rules.{rules}
 use Prim.Native.Nat.{ℕ, ◌*◌}
 use mathlib.Core.Path.{sym, subst}
 use Rattle.glyph_set.specs.Words.{WordOf}

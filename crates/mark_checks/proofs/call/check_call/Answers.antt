@@ -1,5 +1,4 @@
 -- `mark_checks::call::check_call` meets its contract: 1 to 5, and then what is lent. Assumes nothing.
-use borrow.Author.Rules.{rules}
 use Rattle.mark_checks.proofs.Calling.{call_settled}
 use Rattle.mark_checks.proofs.call.check_call.Goals as goal
 

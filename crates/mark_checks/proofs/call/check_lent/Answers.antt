@@ -1,5 +1,4 @@
 -- `mark_checks::call::check_lent` meets its contract: the lengths, and then the slots. Assumes nothing.
-use borrow.Author.Rules.{rules}
 use Rattle.mark_checks.proofs.Calling.{call_short, call_slots, call_passed}
 use mathlib.Core.Path.{ap}
 use mathlib.Core.Bool.{not}

@@ -1,7 +1,6 @@
 -- `mark_checks::slots::all_at` meets its contract: the rows of the object's own links decide. Assumes nothing.
 use mathlib.Core.Path.{◌∙◌}
 use native.Mathlib.Omega.{arith}
-use borrow.Author.Rules.{rules}
 use Rattle.store_rules.specs.Store.{lent}
 use Rattle.store_rules.proofs.Sound.{sound_fits}
 use Rattle.store_reader.proofs.AtSlots.{own_rows_at}

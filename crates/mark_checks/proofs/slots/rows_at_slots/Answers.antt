@@ -1,8 +1,6 @@
 -- `mark_checks::slots::rows_at_slots` meets its contract: the rows before i stand at slots. Assumes nothing.
 use Prim.Native.Nat.{◌-◌}
-use borrow.Author.Rules.{rules}
-use Rattle.store_reader.proofs.Checks.{Passed, start, turn, stop, fail}
-use Rattle.mark_checks.proofs.AtSlots.{slot_at}
+use Rattle.store_reader.proofs.Checks.{start, turn, stop, fail}
 use mathlib.Core.Path.{ap}
 use mathlib.Core.Bool.{not}
 use Rattle.mark_checks.proofs.slots.rows_at_slots.Goals as goal

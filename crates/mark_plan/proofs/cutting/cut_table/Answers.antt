@@ -3,7 +3,6 @@ use native.Mathlib.Omega.{arith}
 use Rattle.folds.specs.Lists.{Bytes}
 use Rattle.mark_checks.proofs.Opened.{marks_inside, marks_bits, classes_bits}
 use Rattle.mark_plan.proofs.Looking.{cover_inside, glyphs_room, classes_room, places_ready, points_ready}
-use borrow.Author.Rules.{rules}
 use Rattle.mark_plan.proofs.cutting.cut_table.Goals as goal
 
 pub bytes_of-array-requires : goal.bytes_of-array-requires

@@ -1,6 +1,5 @@
 -- `mark_plan::cutting::info_of` meets its contract: the length is what `size_of` answers. Assumes nothing.
 use native.Mathlib.Omega.{arith}
-use borrow.Author.Rules.{rules}
 use Rattle.mark_plan.proofs.cutting.info_of.Goals as goal
 
 pub size_of-requires : goal.size_of-requires

@@ -1,6 +1,5 @@
 -- `mark_points::anchors::class_size` meets its contract: the column, and then the marks. Assumes nothing.
 use native.Mathlib.Omega.{arith}
-use borrow.Author.Rules.{rules}
 use Rattle.store_walk.proofs.Grown.{grown_more}
 use Rattle.mark_points.proofs.Walking.{walks_on, walks_most}
 use Rattle.mark_points.proofs.anchors.class_size.Goals as goal

@@ -1,6 +1,5 @@
 -- `mark_points::anchors::class_size_at_cut` meets its contract: only edition 2 walks the class's rows again. Assumes nothing.
 use mathlib.Core.Path.{refl, sym, ◌∙◌}
-use borrow.Author.Rules.{rules}
 use borrow.Author.Tests.{eq-eqb, eqb-true}
 use Rattle.folds.proofs.Tests.{true_false}
 use Rattle.mark_points.proofs.anchors.class_size_at_cut.Goals as goal

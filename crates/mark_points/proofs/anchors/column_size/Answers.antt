@@ -3,8 +3,7 @@ use Prim.Native.Nat.{◌+◌, ◌-◌, ◌*◌, ◌<◌}
 use native.Mathlib.Omega.{arith}
 use lib.Arith.{digits_lt}
 use borrow.Author.Rules.{rules}
-use Rattle.ot_layouts.specs.MarkBasePos.{base_slot}
-use Rattle.mark_points.proofs.Walking.{Walking, walking_start, walking_turn, walking_stop, walks_on, walks_most, goes_few}
+use Rattle.mark_points.proofs.Walking.{walking_start, walking_turn, walking_stop, walks_on, walks_most, goes_few}
 use Rattle.mark_points.proofs.anchors.column_size.Goals as goal
 
 pub loop-base-init : goal.loop-base-init

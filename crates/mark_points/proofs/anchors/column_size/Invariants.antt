@@ -1,10 +1,7 @@
 -- `mark_points::anchors::column_size` meets its contract: one base's slot after another. Assumes nothing.
-use Prim.Native.Nat.{◌+◌, ◌-◌, ◌*◌, ◌<◌}
-use native.Mathlib.Omega.{arith}
-use lib.Arith.{digits_lt}
-use borrow.Author.Rules.{rules}
+use Prim.Native.Nat.{◌+◌, ◌-◌, ◌*◌}
 use Rattle.ot_layouts.specs.MarkBasePos.{base_slot}
-use Rattle.mark_points.proofs.Walking.{Walking, walking_start, walking_turn, walking_stop, walks_on, walks_most, goes_few}
+use Rattle.mark_points.proofs.Walking.{Walking}
 use Rattle.mark_points.proofs.anchors.column_size.Given as goal
 
 abbrev pub invariant-loop-base : goal.invariant-loop-base

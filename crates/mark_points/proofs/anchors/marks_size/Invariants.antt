@@ -1,10 +1,8 @@
 -- `mark_points::anchors::marks_size` meets its contract: one mark's slot after another. Assumes nothing.
-use Prim.Native.Nat.{◌-◌, ◌<◌}
-use native.Mathlib.Omega.{arith}
+use Prim.Native.Nat.{◌-◌}
 use lib.ListN.{length, get_or}
-use borrow.Author.Rules.{rules}
 use Rattle.ot_layouts.specs.MarkBasePos.{mark_slot}
-use Rattle.mark_points.proofs.Walking.{Walking, walking_start, walking_turn, walking_all, walks_on, walks_most, goes_few}
+use Rattle.mark_points.proofs.Walking.{Walking}
 use Rattle.mark_points.proofs.anchors.marks_size.Given as goal
 
 abbrev pub invariant-loop-i : goal.invariant-loop-i

@@ -1,7 +1,6 @@
 -- `mark_points::anchors::slot_size` meets its contract: the rows up to the first past the position are the one that stands there, if there is one.
 -- Assumes nothing.
 use native.Mathlib.Omega.{arith}
-use borrow.Author.Rules.{rules}
 use Rattle.store_rules.proofs.Sound.{sound_fits}
 use Rattle.store_reader.proofs.Rows.{in_order_lem, among-parent}
 use Rattle.mark_points.proofs.Walking.{slot_offsets, slot_grown}

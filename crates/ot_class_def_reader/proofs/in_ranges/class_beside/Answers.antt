@@ -1,5 +1,4 @@
 -- `ot_class_def_reader::in_ranges::class_beside` meets its contract, test by test. Assumes nothing.
-use borrow.Author.Rules.{rules}
 use Prim.Native.Nat.{ℕ, ◌≤◌, ◌<◌}
 use mathlib.Core.Path.{◌≡◌, ◌∙◌}
 use mathlib.Core.Bool.{cond, ◌&&◌}

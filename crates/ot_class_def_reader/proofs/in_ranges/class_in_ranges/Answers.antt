@@ -1,5 +1,4 @@
 -- `ot_class_def_reader::in_ranges::class_in_ranges` meets its contract: the class beside the range that has the glyph. Assumes nothing.
-use borrow.Author.Rules.{rules}
 use Prim.Native.Nat.{ℕ, ◌+◌, ◌*◌, ◌<◌}
 use mathlib.Core.Path.{◌≡◌, sym, ap, ◌∙◌}
 use mathlib.Core.Bool.{true}

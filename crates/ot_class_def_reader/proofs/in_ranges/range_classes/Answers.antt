@@ -1,5 +1,4 @@
 -- `ot_class_def_reader::in_ranges::range_classes` meets its contract: the ranges passed end below the glyph, and the next decides its class. Assumes nothing.
-use borrow.Author.Rules.{rules}
 use Prim.Native.Nat.{ℕ, ◌+◌, ◌-◌, ◌≤◌, ◌<◌}
 use mathlib.Core.Path.{◌≡◌, sym, ◌∙◌}
 use mathlib.Core.Bool.{Bool, true, false, cond, ◌&&◌}
@@ -18,7 +17,7 @@ use Rattle.ot_layouts.proofs.RangesRead.{RangesRead, ranges_read}
 use Rattle.ot_ranges.specs.Ascending.{Ascending}
 use Rattle.ot_ranges.proofs.Place.{range_at_lem, range_none}
 use Rattle.ot_class_def_reader.specs.Lookup.{range_class}
-use Rattle.ot_class_def_reader.proofs.Filled.{Filled, filled_none, filled_more, filled_all}
+use Rattle.ot_class_def_reader.proofs.Filled.{filled_none, filled_more, filled_all}
 use Rattle.ot_class_def_reader.proofs.in_ranges.range_classes.Invariants.{Inv}
 use Rattle.ot_class_def_reader.proofs.in_ranges.range_classes.Goals as goal
 

@@ -1,24 +1,12 @@
 -- `ot_class_def_reader::in_ranges::range_classes` meets its contract: the ranges passed end below the glyph, and the next decides its class. Assumes nothing.
-use borrow.Author.Rules.{rules}
 use Prim.Native.Nat.{ℕ, ◌+◌, ◌-◌, ◌≤◌, ◌<◌}
-use mathlib.Core.Path.{◌≡◌, sym, ◌∙◌}
-use mathlib.Core.Bool.{Bool, true, false, cond, ◌&&◌}
 use mathlib.Core.List.{List}
-use mathlib.Core.Logic.{◌⊎◌, inl, inr, ⊎_elim}
-use native.Mathlib.Nat.{le_of_suc-le-suc, eq-or-lt_of_le}
-use native.Mathlib.Numerals.{add-one}
-use native.Mathlib.Omega.{arith}
-use lib.ListN.{length, get_or, set}
-use lib.Dec.{leb, ltb}
-use borrow.Author.Tests.{ltb-true, ltb-false, lt-ltb, le-ltb, le-leb, lt-leb}
-use Rattle.folds.proofs.Tests.{and_both, either}
-use Rattle.folds.proofs.Halving.{rises}
-use Rattle.ot_layouts.specs.Coverage.{start_at, end_at, beside_at}
-use Rattle.ot_layouts.proofs.RangesRead.{RangesRead, ranges_read}
+use lib.ListN.{length, get_or}
+use Rattle.ot_layouts.specs.Coverage.{end_at}
+use Rattle.ot_layouts.proofs.RangesRead.{RangesRead}
 use Rattle.ot_ranges.specs.Ascending.{Ascending}
-use Rattle.ot_ranges.proofs.Place.{range_at_lem, range_none}
 use Rattle.ot_class_def_reader.specs.Lookup.{range_class}
-use Rattle.ot_class_def_reader.proofs.Filled.{Filled, filled_none, filled_more, filled_all}
+use Rattle.ot_class_def_reader.proofs.Filled.{Filled}
 use Rattle.ot_class_def_reader.proofs.in_ranges.range_classes.Given as goal
 
 pub record Inv (part : List ℕ) (count : ℕ) (gs out₀ out : List ℕ) (k i : ℕ) : Type 0 where

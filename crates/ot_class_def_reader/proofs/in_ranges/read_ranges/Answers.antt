@@ -1,5 +1,4 @@
 -- `ot_class_def_reader::in_ranges::read_ranges` meets its contract: ranges that fit are readable. Assumes nothing.
-use borrow.Author.Rules.{rules}
 use Prim.Native.Nat.{ℕ}
 use mathlib.Core.Path.{◌≡◌}
 use mathlib.Core.Bool.{Bool, cond}

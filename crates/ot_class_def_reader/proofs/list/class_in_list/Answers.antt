@@ -1,5 +1,4 @@
 -- `ot_class_def_reader::list::class_in_list` meets its contract: the class at the glyph's place, 0 outside. Assumes nothing.
-use borrow.Author.Rules.{rules}
 use Prim.Native.Nat.{ℕ, ◌+◌, ◌*◌, ◌-◌, ◌≤◌, ◌<◌}
 use mathlib.Core.Path.{◌≡◌, ◌∙◌}
 use mathlib.Core.List.{List}

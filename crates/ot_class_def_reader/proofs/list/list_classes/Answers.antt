@@ -1,9 +1,6 @@
 -- `ot_class_def_reader::list::list_classes` meets its contract: one glyph's class after another. Assumes nothing.
-use borrow.Author.Rules.{rules}
 use Prim.Native.Nat.{◌-◌}
-use lib.ListN.{length}
-use Rattle.ot_class_def_reader.specs.Lookup.{list_class}
-use Rattle.ot_class_def_reader.proofs.Filled.{Filled, filled_none, filled_more, filled_all}
+use Rattle.ot_class_def_reader.proofs.Filled.{filled_none, filled_more, filled_all}
 use Rattle.ot_class_def_reader.proofs.list.list_classes.Goals as goal
 
 pub loop-i-init : goal.loop-i-init

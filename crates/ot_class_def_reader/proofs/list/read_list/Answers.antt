@@ -1,5 +1,4 @@
 -- `ot_class_def_reader::list::read_list` meets its contract: a list is readable by its length and its last glyph. Assumes nothing.
-use borrow.Author.Rules.{rules}
 use Prim.Native.Nat.{ℕ, ◌+◌, ◌*◌, ◌≤◌}
 use mathlib.Core.Path.{◌≡◌}
 use mathlib.Core.List.{List}

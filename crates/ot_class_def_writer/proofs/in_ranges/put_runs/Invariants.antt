@@ -1,21 +1,12 @@
 -- `ot_class_def_writer::in_ranges::put_runs` meets its contract: the ranges written, and those of the entries left, are all ranges. Assumes nothing.
-use borrow.Author.Rules.{rules}
-use Prim.Native.Nat.{ℕ, ◌+◌, ◌-◌, ◌*◌, ◌≤◌, ◌<◌}
-use mathlib.Core.Path.{◌≡◌, refl, sym, ap, ◌∙◌}
-use mathlib.Core.List.{List, [], ◌++◌, append_assoc, append-nil}
-use native.Mathlib.Omega.{arith}
-use lib.ListN.{length, get_or, drop, length-append}
+use Prim.Native.Nat.{ℕ, ◌+◌, ◌-◌, ◌*◌, ◌≤◌}
+use mathlib.Core.Path.{◌≡◌}
+use mathlib.Core.List.{List, ◌++◌}
+use lib.ListN.{length, drop}
 use Rattle.folds.specs.Lists.{put}
-use Rattle.folds.proofs.Put.{put-nil, put_then}
-use Rattle.ot_layouts.specs.Numbers.{be16}
-use Rattle.ot_layouts.specs.Coverage.{Entry, Run, runs, plain, Ascends}
+use Rattle.ot_layouts.specs.Coverage.{Entry, runs, plain, Ascends}
 use Rattle.ot_layouts.specs.ClassDef.{named, class_ranges}
-use Rattle.ot_layouts.proofs.Runs.{runs_none}
-use Rattle.ot_layouts.proofs.RangeBytes.{length-class_ranges}
-use Rattle.ot_layouts.proofs.Named.{named_none}
-use Rattle.ot_ranges.specs.Ranges.{range_bytes}
-use Rattle.ot_class_def_writer.specs.Entries.{reduced_entries, RunTo}
-use Rattle.ot_class_def_writer.proofs.Entries.{rest_none, rest_skip, rest_run}
+use Rattle.ot_class_def_writer.specs.Entries.{reduced_entries}
 use Rattle.ot_class_def_writer.proofs.in_ranges.put_runs.Given as goal
 
 -- the ranges of those entries that are named

@@ -1,5 +1,4 @@
 -- `ot_class_def_writer::in_ranges::write_ranges` meets its contract: format and count, and the ranges behind them. Assumes nothing.
-use borrow.Author.Rules.{rules}
 use native.Mathlib.Omega.{arith}
 use Rattle.ot_class_def_writer.proofs.Heads.{two_then}
 use Rattle.ot_class_def_writer.proofs.in_ranges.write_ranges.Goals as goal

@@ -1,7 +1,6 @@
 -- `ot_class_def_writer::list::put_classes` meets its contract: each glyph's class is that of the entries left, the first of which is no lower. Assumes nothing.
-use borrow.Author.Rules.{rules}
 use Prim.Native.Nat.{ℕ, ◌+◌, ◌-◌, ◌*◌, ◌≤◌, ◌<◌}
-use mathlib.Core.Path.{◌≡◌, refl, sym, ap, ◌∙◌}
+use mathlib.Core.Path.{◌≡◌, sym, ap, ◌∙◌}
 use mathlib.Core.Bool.{Bool, true, false, ◌&&◌}
 use mathlib.Core.List.{List, ◌∷◌, ◌++◌}
 use mathlib.Core.Logic.{⊎_elim}
@@ -11,21 +10,19 @@ use lib.Dec.{ltb, eqb}
 use borrow.Author.Tests.{ltb-true, eqb-true, eqb-false, lt-ltb, eq-eqb, ne_eqb}
 use Rattle.folds.specs.Lists.{put}
 use Rattle.folds.proofs.Tests.{and_both, either}
-use Rattle.folds.proofs.Folds.{flat_none, flat-more}
+use Rattle.folds.proofs.Folds.{flat-more}
 use Rattle.folds.proofs.FromTheFront.{length_even}
-use Rattle.folds.proofs.Put.{put-nil, put_then}
+use Rattle.folds.proofs.Put.{put_then}
 use Rattle.ot_layouts.specs.Numbers.{be16}
-use Rattle.ot_layouts.specs.Coverage.{Entry, plain, Ascends}
+use Rattle.ot_layouts.specs.Coverage.{Entry, Ascends}
 use Rattle.ot_layouts.specs.ClassDef.{named, class_in}
 use Rattle.ot_layouts.proofs.Numbers.{length-be16}
 use Rattle.ot_layouts.proofs.Runs.{ascends_lower}
-use Rattle.ot_layouts.proofs.Classes.{class_below, class_named}
-use Rattle.ot_class_def_writer.specs.Entries.{reduced_entries, Outlines}
+use Rattle.ot_layouts.proofs.Classes.{class_below}
+use Rattle.ot_class_def_writer.specs.Entries.{reduced_entries}
 use Rattle.ot_class_def_writer.specs.Written.{class_row}
-use Rattle.ot_class_def_writer.specs.declared.named.Outline.{Outline}
-use Rattle.ot_class_def_writer.proofs.Entries.{entry_at, ascends_entries, ascends_drop, rest_cons, rest_none}
-use Rattle.ot_class_def_writer.proofs.Ends.{named_from, start_is}
-use Rattle.ot_class_def_writer.proofs.list.put_classes.Invariants.{Inv, first-lower, start}
+use Rattle.ot_class_def_writer.proofs.Entries.{entry_at, rest_cons, rest_none}
+use Rattle.ot_class_def_writer.proofs.list.put_classes.Invariants.{Inv, start}
 use Rattle.ot_class_def_writer.proofs.list.put_classes.Goals as goal
 
 -- entry k is that of glyph g

@@ -1,5 +1,4 @@
 -- `ot_class_def_writer::list::stands` meets its contract, test by test. Assumes nothing.
-use borrow.Author.Rules.{rules}
 use native.Mathlib.Omega.{arith}
 use borrow.Author.Tests.{lt-ltb, le-ltb}
 use Rattle.ot_class_def_writer.proofs.list.stands.Goals as goal

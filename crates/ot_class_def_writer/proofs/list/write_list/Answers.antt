@@ -1,5 +1,4 @@
 -- `ot_class_def_writer::list::write_list` meets its contract: format, start glyph and count, and the classes behind them. Assumes nothing.
-use borrow.Author.Rules.{rules}
 use native.Mathlib.Omega.{arith}
 use Rattle.ot_class_def_writer.proofs.Heads.{three_then}
 use Rattle.ot_class_def_writer.proofs.list.write_list.Goals as goal

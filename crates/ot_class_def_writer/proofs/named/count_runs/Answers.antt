@@ -1,12 +1,10 @@
 -- `ot_class_def_writer::named::count_runs` meets its contract: the runs counted and the runs of the entries left are all runs. Assumes nothing.
-use borrow.Author.Rules.{rules}
 use Prim.Native.Nat.{ℕ, ◌+◌, ◌-◌, ◌≤◌, ◌<◌}
 use mathlib.Core.Path.{◌≡◌, ap, ◌∙◌}
 use mathlib.Core.List.{List}
 use native.Mathlib.Omega.{arith}
 use lib.ListN.{length, get_or, drop}
 use Rattle.ot_layouts.specs.Coverage.{Entry, runs, plain, Ascends}
-use Rattle.ot_layouts.specs.ClassDef.{named}
 use Rattle.ot_layouts.proofs.Runs.{runs_none}
 use Rattle.ot_layouts.proofs.Named.{named_none}
 use Rattle.ot_class_def_writer.specs.Entries.{reduced_entries, RunTo}

@@ -1,16 +1,11 @@
 -- `ot_class_def_writer::named::count_runs` meets its contract: the runs counted and the runs of the entries left are all runs. Assumes nothing.
-use borrow.Author.Rules.{rules}
-use Prim.Native.Nat.{ℕ, ◌+◌, ◌-◌, ◌≤◌, ◌<◌}
-use mathlib.Core.Path.{◌≡◌, ap, ◌∙◌}
+use Prim.Native.Nat.{ℕ, ◌+◌, ◌-◌, ◌≤◌}
+use mathlib.Core.Path.{◌≡◌}
 use mathlib.Core.List.{List}
-use native.Mathlib.Omega.{arith}
-use lib.ListN.{length, get_or, drop}
+use lib.ListN.{length, drop}
 use Rattle.ot_layouts.specs.Coverage.{Entry, runs, plain, Ascends}
 use Rattle.ot_layouts.specs.ClassDef.{named}
-use Rattle.ot_layouts.proofs.Runs.{runs_none}
-use Rattle.ot_layouts.proofs.Named.{named_none}
-use Rattle.ot_class_def_writer.specs.Entries.{reduced_entries, RunTo}
-use Rattle.ot_class_def_writer.proofs.Entries.{rest_none, rest_skip, rest_run}
+use Rattle.ot_class_def_writer.specs.Entries.{reduced_entries}
 use Rattle.ot_class_def_writer.proofs.named.count_runs.Given as goal
 
 -- how many runs the named ones make

@@ -1,5 +1,4 @@
 -- `ot_class_def_writer::named::first_named` meets its contract: no class passed is named. Assumes nothing.
-use borrow.Author.Rules.{rules}
 use Prim.Native.Nat.{ℕ, ◌+◌, ◌-◌, ◌≤◌, ◌<◌}
 use mathlib.Core.List.{List}
 use mathlib.Core.Logic.{⊎_elim}

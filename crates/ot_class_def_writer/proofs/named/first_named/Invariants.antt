@@ -1,13 +1,7 @@
 -- `ot_class_def_writer::named::first_named` meets its contract: no class passed is named. Assumes nothing.
-use borrow.Author.Rules.{rules}
-use Prim.Native.Nat.{ℕ, ◌+◌, ◌-◌, ◌≤◌, ◌<◌}
+use Prim.Native.Nat.{ℕ, ◌-◌, ◌≤◌, ◌<◌}
 use mathlib.Core.List.{List}
-use mathlib.Core.Logic.{⊎_elim}
-use native.Mathlib.Nat.{le_of_suc-le-suc, eq-or-lt_of_le}
-use native.Mathlib.Numerals.{add-one}
-use native.Mathlib.Omega.{arith}
 use lib.ListN.{length, get_or}
-use Rattle.ot_class_def_writer.specs.Entries.{FirstNamed}
 use Rattle.ot_class_def_writer.proofs.named.first_named.Given as goal
 
 pub record Inv (cs : List ℕ) (first k : ℕ) : Type 0 where

@@ -1,5 +1,4 @@
 -- `ot_class_def_writer::named::last_named` meets its contract: no class passed from the end on is named. Assumes nothing.
-use borrow.Author.Rules.{rules}
 use Prim.Native.Nat.{ℕ, ◌-◌, ◌≤◌, ◌<◌}
 use mathlib.Core.Path.{◌≡◌}
 use mathlib.Core.List.{List}

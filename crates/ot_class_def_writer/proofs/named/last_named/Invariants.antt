@@ -1,13 +1,7 @@
 -- `ot_class_def_writer::named::last_named` meets its contract: no class passed from the end on is named. Assumes nothing.
-use borrow.Author.Rules.{rules}
 use Prim.Native.Nat.{ℕ, ◌-◌, ◌≤◌, ◌<◌}
-use mathlib.Core.Path.{◌≡◌}
 use mathlib.Core.List.{List}
-use mathlib.Core.Logic.{⊎_elim}
-use native.Mathlib.Nat.{eq-or-lt_of_le}
-use native.Mathlib.Omega.{arith}
 use lib.ListN.{length, get_or}
-use Rattle.ot_class_def_writer.specs.Entries.{LastNamed}
 use Rattle.ot_class_def_writer.proofs.named.last_named.Given as goal
 
 pub record Inv (cs : List ℕ) (first end : ℕ) : Type 0 where

@@ -1,5 +1,4 @@
 -- `ot_class_def_writer::named::outline_of` meets its contract: the named entries span from the first of them to the last. Assumes nothing.
-use borrow.Author.Rules.{rules}
 use Prim.Native.Nat.{ℕ, ◌+◌, ◌-◌, ◌≤◌, ◌<◌}
 use mathlib.Core.Path.{◌≡◌}
 use mathlib.Core.List.{List}

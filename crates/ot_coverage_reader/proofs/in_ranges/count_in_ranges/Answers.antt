@@ -1,5 +1,4 @@
 -- `in_ranges::count_in_ranges` meets its contract: the last range is numbered by the glyphs before it, and rising ranges end within sixteen bits. Assumes nothing.
-use borrow.Author.Rules.{rules}
 use mathlib.Core.Path.{◌≡◌, refl, ap, ◌∙◌}
 use mathlib.Core.List.{List}
 use Prim.Native.Nat.{ℕ, ◌+◌, ◌-◌, ◌≤◌, ◌<◌}

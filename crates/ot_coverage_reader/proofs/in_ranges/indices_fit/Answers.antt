@@ -1,5 +1,4 @@
 -- `in_ranges::indices_fit` meets its contract. In the loop `total` is how many glyphs the ranges passed have, and those are numbered right. Assumes nothing.
-use borrow.Author.Rules.{rules}
 use mathlib.Core.Path.{◌≡◌, sym, ◌∙◌}
 use mathlib.Core.Bool.{true, false}
 use mathlib.Core.List.{List}
@@ -10,8 +9,8 @@ use Rattle.folds.specs.Folds.{sum}
 use Rattle.folds.proofs.Folds.{before_more, sum_none, sum_more}
 use Rattle.folds.proofs.Halving.{Rising}
 use Rattle.ot_layouts.specs.Coverage.{start_at, end_at, beside_at, size_at, ranges_fit, indexed}
-use Rattle.ot_layouts.proofs.RangesRead.{RangesRead, ranges_read}
-use Rattle.ot_layouts.proofs.CoverageRead.{Indexed, index_fits, index_more, not-counts, sizes_under}
+use Rattle.ot_layouts.proofs.RangesRead.{ranges_read}
+use Rattle.ot_layouts.proofs.CoverageRead.{index_fits, index_more, not-counts, sizes_under}
 use Rattle.ot_coverage_reader.proofs.in_ranges.indices_fit.Invariants.{Inv}
 use Rattle.ot_coverage_reader.proofs.in_ranges.indices_fit.Goals as goal
 

@@ -1,17 +1,11 @@
 -- `in_ranges::indices_fit` meets its contract. In the loop `total` is how many glyphs the ranges passed have, and those are numbered right. Assumes nothing.
-use borrow.Author.Rules.{rules}
-use mathlib.Core.Path.{◌≡◌, sym, ◌∙◌}
-use mathlib.Core.Bool.{true, false}
+use mathlib.Core.Path.{◌≡◌}
 use mathlib.Core.List.{List}
-use Prim.Native.Nat.{ℕ, ◌+◌, ◌-◌, ◌≤◌, ◌<◌}
-use native.Mathlib.Nat.{not-suc-le-zero}
-use native.Mathlib.Omega.{arith}
+use Prim.Native.Nat.{ℕ, ◌-◌, ◌≤◌}
 use Rattle.folds.specs.Folds.{sum}
-use Rattle.folds.proofs.Folds.{before_more, sum_none, sum_more}
-use Rattle.folds.proofs.Halving.{Rising}
-use Rattle.ot_layouts.specs.Coverage.{start_at, end_at, beside_at, size_at, ranges_fit, indexed}
-use Rattle.ot_layouts.proofs.RangesRead.{RangesRead, ranges_read}
-use Rattle.ot_layouts.proofs.CoverageRead.{Indexed, index_fits, index_more, not-counts, sizes_under}
+use Rattle.ot_layouts.specs.Coverage.{size_at}
+use Rattle.ot_layouts.proofs.RangesRead.{RangesRead}
+use Rattle.ot_layouts.proofs.CoverageRead.{Indexed}
 use Rattle.ot_coverage_reader.proofs.in_ranges.indices_fit.Given as goal
 
 pub record Inv (part : List ℕ) (count total k : ℕ) : Type 0 where

@@ -1,5 +1,4 @@
 -- `in_ranges::place_in_ranges` meets its contract: the range that has the glyph is numbered by the glyphs before it. Assumes nothing.
-use borrow.Author.Rules.{rules}
 use mathlib.Core.Path.{◌≡◌, refl, sym, ap, ◌∙◌}
 use mathlib.Core.Bool.{true}
 use mathlib.Core.List.{List}

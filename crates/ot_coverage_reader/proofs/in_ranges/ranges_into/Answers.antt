@@ -1,16 +1,15 @@
 -- `in_ranges::ranges_into` meets its contract. In the loop the glyphs of the first `k` ranges stand at the front of `out`, up to `at`. Assumes nothing.
-use borrow.Author.Rules.{rules}
 use mathlib.Core.Path.{◌≡◌, refl, sym, ap, ap₂, ◌∙◌}
 use mathlib.Core.List.{List}
 use Prim.Native.Nat.{ℕ, ◌+◌, ◌-◌, ◌≤◌, ◌<◌}
 use native.Mathlib.Omega.{arith}
 use lib.ListN.{length}
-use Rattle.folds.specs.Folds.{flat, sum, run}
+use Rattle.folds.specs.Folds.{flat, run}
 use Rattle.folds.specs.Lists.{put}
 use Rattle.folds.proofs.Folds.{flat-more, sum_none, sum_more, sum_le}
 use Rattle.folds.proofs.Put.{put-nil, put-put}
 use Rattle.ot_layouts.specs.Coverage.{start_at, end_at, size_at, cover_glyphs}
-use Rattle.ot_layouts.proofs.CoverageRead.{range_at, Ranged, header_ranges, length_ranges}
+use Rattle.ot_layouts.proofs.CoverageRead.{range_at, header_ranges, length_ranges}
 use Rattle.ot_coverage_reader.specs.Coverage.{AsRanges}
 use Rattle.ot_coverage_reader.proofs.in_ranges.ranges_into.Invariants.{Inv}
 use Rattle.ot_coverage_reader.proofs.in_ranges.ranges_into.Goals as goal

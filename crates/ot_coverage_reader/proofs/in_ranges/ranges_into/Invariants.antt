@@ -1,17 +1,12 @@
 -- `in_ranges::ranges_into` meets its contract. In the loop the glyphs of the first `k` ranges stand at the front of `out`, up to `at`. Assumes nothing.
-use borrow.Author.Rules.{rules}
-use mathlib.Core.Path.{◌≡◌, refl, sym, ap, ap₂, ◌∙◌}
+use mathlib.Core.Path.{◌≡◌}
 use mathlib.Core.List.{List}
-use Prim.Native.Nat.{ℕ, ◌+◌, ◌-◌, ◌≤◌, ◌<◌}
-use native.Mathlib.Omega.{arith}
+use Prim.Native.Nat.{ℕ, ◌-◌, ◌≤◌}
 use lib.ListN.{length}
-use Rattle.folds.specs.Folds.{flat, sum, run}
+use Rattle.folds.specs.Folds.{flat, sum}
 use Rattle.folds.specs.Lists.{put}
-use Rattle.folds.proofs.Folds.{flat-more, sum_none, sum_more, sum_le}
-use Rattle.folds.proofs.Put.{put-nil, put-put}
-use Rattle.ot_layouts.specs.Coverage.{start_at, end_at, size_at, cover_glyphs}
-use Rattle.ot_layouts.proofs.CoverageRead.{range_at, Ranged, header_ranges, length_ranges}
-use Rattle.ot_coverage_reader.specs.Coverage.{AsRanges}
+use Rattle.ot_layouts.specs.Coverage.{size_at}
+use Rattle.ot_layouts.proofs.CoverageRead.{range_at, Ranged}
 use Rattle.ot_coverage_reader.proofs.in_ranges.ranges_into.Given as goal
 
 pub record Inv (part : List ℕ) (count : ℕ) (out₀ out : List ℕ) (at k : ℕ) : Type 0 where

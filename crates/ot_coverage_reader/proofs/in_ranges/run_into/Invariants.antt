@@ -1,7 +1,6 @@
 -- `in_ranges::run_into` meets its contract: one number is written a turn. Assumes nothing.
-use borrow.Author.Rules.{rules}
 use Prim.Native.Nat.{◌+◌, ◌-◌}
-use Rattle.folds.proofs.Writing.{Writing, write_start, write_turn, write_stop}
+use Rattle.folds.proofs.Writing.{Writing}
 use Rattle.ot_coverage_reader.proofs.in_ranges.run_into.Given as goal
 
 abbrev pub invariant-loop-j : goal.invariant-loop-j

@@ -1,5 +1,4 @@
 -- `list::list_into` meets its contract: one glyph is written a turn. Assumes nothing.
-use borrow.Author.Rules.{rules}
 use mathlib.Core.Path.{◌≡◌, refl, sym, ap₂, subst}
 use mathlib.Core.List.{List}
 use Prim.Native.Nat.{ℕ, ◌+◌, ◌-◌, ◌≤◌, ◌<◌}
@@ -8,7 +7,7 @@ use lib.ListN.{length, set}
 use Rattle.folds.specs.Lists.{put}
 use Rattle.folds.proofs.Writing.{Writing, write_start, write_turn, write_stop}
 use Rattle.ot_layouts.specs.Coverage.{glyph_at, cover_glyphs}
-use Rattle.ot_layouts.proofs.CoverageRead.{Listed, header_list}
+use Rattle.ot_layouts.proofs.CoverageRead.{header_list}
 use Rattle.ot_coverage_reader.specs.Coverage.{AsList}
 use Rattle.ot_coverage_reader.proofs.list.list_into.Invariants.{Inv}
 use Rattle.ot_coverage_reader.proofs.list.list_into.Goals as goal

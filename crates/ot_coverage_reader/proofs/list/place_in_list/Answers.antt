@@ -1,5 +1,4 @@
 -- `list::place_in_list` meets its contract. Between `lo` and `hi` is what halving has left of the rising glyphs. Assumes nothing.
-use borrow.Author.Rules.{rules}
 use mathlib.Core.Path.{◌≡◌, refl}
 use mathlib.Core.List.{List, [], ◌∷◌}
 use mathlib.Core.Logic.{⊎_elim}
@@ -11,9 +10,9 @@ use Rattle.folds.specs.Folds.{upto}
 use Rattle.folds.specs.Lists.{find}
 use Rattle.folds.proofs.Folds.{length-upto}
 use Rattle.folds.proofs.Find.{find_at, find_no, find-one, find-other}
-use Rattle.folds.proofs.Halving.{Between, begin, up, down, passed, met}
+use Rattle.folds.proofs.Halving.{begin, up, down, passed, met}
 use Rattle.ot_layouts.specs.Coverage.{glyph_at, cover_place}
-use Rattle.ot_layouts.proofs.CoverageRead.{Listed, header_list}
+use Rattle.ot_layouts.proofs.CoverageRead.{header_list}
 use Rattle.ot_coverage_reader.specs.Coverage.{AsList, place_found}
 use Rattle.ot_coverage_reader.specs.declared.Place.TheVariants.{At, Nowhere}
 use Rattle.ot_coverage_reader.proofs.list.place_in_list.Invariants.{Inv}

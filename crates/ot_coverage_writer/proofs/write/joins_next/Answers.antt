@@ -1,5 +1,4 @@
 -- `write::joins_next` meets its contract: past the end no glyph joins. Assumes nothing.
-use borrow.Author.Rules.{rules}
 use mathlib.Core.Path.{◌≡◌, ap₂}
 use mathlib.Core.Bool.{false}
 use mathlib.Core.List.{List}

@@ -1,5 +1,4 @@
 -- `write::run_count` meets its contract. In the loop the runs counted and those from glyph `k` on are all. Assumes nothing.
-use borrow.Author.Rules.{rules}
 use mathlib.Core.Path.{◌≡◌, sym, ap, ◌∙◌}
 use mathlib.Core.Bool.{true, false}
 use mathlib.Core.List.{List}

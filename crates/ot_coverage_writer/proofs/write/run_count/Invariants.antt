@@ -1,15 +1,10 @@
 -- `write::run_count` meets its contract. In the loop the runs counted and those from glyph `k` on are all. Assumes nothing.
-use borrow.Author.Rules.{rules}
-use mathlib.Core.Path.{◌≡◌, sym, ap, ◌∙◌}
-use mathlib.Core.Bool.{true, false}
+use mathlib.Core.Path.{◌≡◌}
 use mathlib.Core.List.{List}
-use Prim.Native.Nat.{ℕ, ◌+◌, ◌-◌, ◌≤◌, ◌<◌}
-use native.Mathlib.Omega.{arith}
-use lib.ListN.{length, get_or}
+use Prim.Native.Nat.{ℕ, ◌+◌, ◌-◌, ◌≤◌}
+use lib.ListN.{length}
 use Rattle.ot_layouts.specs.Coverage.{runs, plain}
-use Rattle.ot_layouts.proofs.RunCount.{starting_length}
-use Rattle.ot_coverage_writer.specs.Joins.{joins_next}
-use Rattle.ot_coverage_writer.proofs.Tails.{tail, tail_none, tail_join, tail_part}
+use Rattle.ot_coverage_writer.proofs.Tails.{tail}
 use Rattle.ot_coverage_writer.proofs.write.run_count.Given as goal
 
 pub record Inv (g : List ℕ) (count k : ℕ) : Type 0 where

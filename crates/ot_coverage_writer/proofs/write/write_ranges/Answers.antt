@@ -1,5 +1,4 @@
 -- `write::write_ranges` meets its contract. In the loop the ranges written and those of the glyphs from `from` on are all, and the glyphs from `from` to `k` follow one another. Assumes nothing.
-use borrow.Author.Rules.{rules}
 use mathlib.Core.Path.{◌≡◌, refl, sym, ap, ◌∙◌}
 use mathlib.Core.Bool.{true, false}
 use mathlib.Core.List.{List, [], ◌++◌, append_assoc, append-nil}

@@ -1,19 +1,12 @@
 -- `write::write_ranges` meets its contract. In the loop the ranges written and those of the glyphs from `from` on are all, and the glyphs from `from` to `k` follow one another. Assumes nothing.
-use borrow.Author.Rules.{rules}
-use mathlib.Core.Path.{◌≡◌, refl, sym, ap, ◌∙◌}
-use mathlib.Core.Bool.{true, false}
-use mathlib.Core.List.{List, [], ◌++◌, append_assoc, append-nil}
+use mathlib.Core.Path.{◌≡◌}
+use mathlib.Core.List.{List, ◌++◌}
 use Prim.Native.Nat.{ℕ, ◌+◌, ◌-◌, ◌*◌, ◌≤◌, ◌<◌}
-use native.Mathlib.Omega.{arith}
-use lib.ListN.{length, get_or, length-append}
+use lib.ListN.{length, get_or}
 use Rattle.folds.specs.Lists.{put}
-use Rattle.folds.proofs.Put.{put-nil, put_then}
-use Rattle.ot_layouts.specs.Numbers.{be16}
-use Rattle.ot_layouts.specs.Coverage.{Run, runs, plain, cover_ranges}
-use Rattle.ot_layouts.proofs.Runs.{starting_at, starting_again}
-use Rattle.ot_layouts.proofs.CoverageLength.{length_cover_ranges}
-use Rattle.ot_coverage_writer.specs.Joins.{joins_next}
-use Rattle.ot_coverage_writer.proofs.Tails.{tail, tail_none, tail_own, joins_next_lem, tail_join, tail_part}
+use Rattle.ot_layouts.specs.Coverage.{runs, plain, cover_ranges}
+use Rattle.ot_layouts.proofs.Runs.{starting_at}
+use Rattle.ot_coverage_writer.proofs.Tails.{tail}
 use Rattle.ot_coverage_writer.proofs.write.write_ranges.Given as goal
 
 pub record Inv (g out₀ out : List ℕ) (at end from k : ℕ) : Type 0 where

@@ -1,5 +1,4 @@
 -- `arranging::arrange` meets its contract: by format, places are numbered, or the glyphs of each table are put in order. Assumes nothing.
-use borrow.Author.Rules.{rules}
 use Rattle.pair_carrying.proofs.ByTable.{coverage_inside, cover_ready, few_places, by_place, by_class_lem, by_parts}
 use Rattle.pair_carrying.proofs.arranging.arrange.Goals as goal
 

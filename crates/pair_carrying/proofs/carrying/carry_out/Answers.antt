@@ -1,5 +1,4 @@
 -- `carrying::carry_out` meets its contract: bytes, object rows, link rows and list are those after the split, and then the counts. Assumes nothing.
-use borrow.Author.Rules.{rules}
 use native.Mathlib.Omega.{arith}
 use Rattle.pair_carrying.proofs.StoreAfter.{own_few, bytes_asked, links_asked, links_then, list_asked, bytes_fit, objects_fit_lem, links_fit_lem, carried}
 use Rattle.pair_carrying.proofs.carrying.carry_out.Goals as goal

@@ -1,5 +1,4 @@
 -- `carrying::keep_items` meets its contract: the count is set, and the table shortened. Assumes nothing.
-use borrow.Author.Rules.{rules}
 use Rattle.pair_carrying.proofs.carrying.keep_items.Goals as goal
 
 pub returns : goal.returns

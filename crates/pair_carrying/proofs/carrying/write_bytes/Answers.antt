@@ -1,6 +1,5 @@
 -- `carrying::write_bytes` meets its contract: the new objects come behind those in use, and the table is then shortened. Assumes nothing.
 use mathlib.Core.Path.{◌∙◌}
-use borrow.Author.Rules.{rules}
 use Prim.Native.Nat.{◌*◌}
 use native.Mathlib.Omega.{arith}
 use Rattle.pair_carrying.proofs.Keeping.{write_asked, keep_ready, keep_wrote}

@@ -1,5 +1,4 @@
 -- `measuring::measure_needs` meets its contract: the glyphs are arranged, and the new objects counted from them. Assumes nothing.
-use borrow.Author.Rules.{rules}
 use Rattle.pair_carrying.proofs.Counting.{planned, needs_asked, measured}
 use Rattle.pair_carrying.proofs.measuring.measure_needs.Goals as goal
 

@@ -1,5 +1,4 @@
 -- `measuring::needs_of` meets its contract. Assumes nothing.
-use borrow.Author.Rules.{rules}
 use native.Mathlib.Omega.{arith}
 use Rattle.pair_carrying.proofs.Counting.{few_objects, few_links, counted}
 use Rattle.pair_carrying.proofs.measuring.needs_of.Goals as goal

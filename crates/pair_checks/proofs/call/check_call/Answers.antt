@@ -1,7 +1,6 @@
 -- `call::check_call` meets its contract: by what the checks 1 to 5 decide. Assumes nothing.
 use Rattle.store_rules.specs.Store.{lent}
 use Rattle.pair_checks.proofs.Called.{is_open, call_settled, call_open}
-use borrow.Author.Rules.{rules}
 use Rattle.pair_checks.proofs.call.check_call.Goals as goal
 
 pub check_lent-requires : goal.check_lent-requires

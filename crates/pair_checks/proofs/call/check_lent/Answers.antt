@@ -2,7 +2,6 @@
 use Rattle.store_rules.specs.Store.{lent}
 use Rattle.pair_checks.proofs.Refusals.{opens}
 use Rattle.pair_checks.proofs.Called.{lent_short, lent_unslotted, lent_open, can_ask_slots}
-use borrow.Author.Rules.{rules}
 use mathlib.Core.Path.{ap}
 use mathlib.Core.Bool.{not}
 use Rattle.pair_checks.proofs.call.check_lent.Goals as goal

@@ -6,7 +6,6 @@ use Rattle.ot_layouts.specs.PairPos.{shape_of, is_slot}
 use Rattle.store_rules.specs.Store.{lent, bytes_of}
 use Rattle.store_rules.proofs.Sound.{sound_fits}
 use Rattle.pair_rules.specs.Table.{all_at_slots}
-use borrow.Author.Rules.{rules}
 use Rattle.pair_checks.proofs.slots.links_at_slots.Goals as goal
 
 pub rows_at_slots-requires : goal.rows_at_slots-requires

@@ -1,13 +1,8 @@
 -- `pair_checks::slots::rows_at_slots` meets its contract: all rows passed stand at slots. Assumes nothing.
-use Prim.Native.Nat.{ℕ, ◌+◌, ◌-◌, ◌*◌}
-use mathlib.Core.Path.{◌≡◌}
-use mathlib.Core.List.{List}
+use Prim.Native.Nat.{◌+◌, ◌-◌, ◌*◌}
 use native.Mathlib.Omega.{arith}
-use borrow.Author.Rules.{rules}
-use Rattle.ot_pairpos.specs.Layout.{layout_of}
-use Rattle.store_reader.proofs.Checks.{Passed, start, turn, stop, fail}
+use Rattle.store_reader.proofs.Checks.{start, turn, stop, fail}
 use Rattle.store_rules.specs.Store.{per_link, row_position}
-use Rattle.pair_checks.proofs.AtSlots.{slot_at}
 use mathlib.Core.Path.{ap}
 use mathlib.Core.Bool.{not}
 use Rattle.pair_checks.proofs.slots.rows_at_slots.Goals as goal

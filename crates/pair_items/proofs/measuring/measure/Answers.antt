@@ -1,6 +1,5 @@
 -- `measuring::measure` meets its contract: the rows up to the item's end are the item's, so that the walk adds its S. Assumes nothing.
 use native.Mathlib.Omega.{arith}
-use borrow.Author.Rules.{rules}
 use Rattle.pair_items.proofs.ItemSizes.{at_fits, at_in_order, rows_before, measured_offsets, measured}
 use Rattle.pair_items.proofs.measuring.measure.Goals as goal
 

@@ -1,5 +1,4 @@
 -- `measuring::measure_at_cut` meets its contract: only edition 2 walks the item's rows again. Assumes nothing.
-use borrow.Author.Rules.{rules}
 use Rattle.pair_items.proofs.ItemSizes.{stays_measured, marks_here, offsets_here, measured_again}
 use Rattle.pair_items.proofs.measuring.measure_at_cut.Goals as goal
 

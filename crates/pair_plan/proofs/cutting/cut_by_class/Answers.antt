@@ -1,6 +1,5 @@
 -- `pair_plan::cutting::cut_by_class` meets its contract: the fronts of the scratch are lent, and back with glyphs and classes. Assumes nothing.
 use native.Mathlib.Omega.{arith}
-use borrow.Author.Rules.{rules}
 use Rattle.pair_plan.proofs.Fronting.{fronts_lent, fronts_looked, fronts_cut}
 use Rattle.pair_plan.proofs.cutting.cut_by_class.Goals as goal
 

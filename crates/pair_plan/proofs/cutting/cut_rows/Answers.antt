@@ -1,5 +1,4 @@
 -- `pair_plan::cutting::cut_rows` meets its contract: what is asked of the table, and of its places, goes by what the checks hold, with the set emptied. Assumes nothing.
-use borrow.Author.Rules.{rules}
 use Rattle.pair_plan.proofs.Looking.{class2_beside, rows_ready, rows_placed, rows_tell}
 use Rattle.pair_plan.proofs.cutting.cut_rows.Goals as goal
 

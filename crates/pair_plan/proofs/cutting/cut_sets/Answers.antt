@@ -1,5 +1,4 @@
 -- `pair_plan::cutting::cut_sets` meets its contract: what is asked of the table, and of its places, goes by what the checks hold. Assumes nothing.
-use borrow.Author.Rules.{rules}
 use Rattle.pair_plan.proofs.Looking.{coverage_beside, sets_ready, sets_placed, sets_tell_lem}
 use Rattle.pair_plan.proofs.cutting.cut_sets.Goals as goal
 

@@ -1,5 +1,4 @@
 -- `pair_plan::cutting::cut_table` meets its contract: the format decides. Assumes nothing.
-use borrow.Author.Rules.{rules}
 use Rattle.pair_plan.specs.Cutting.{Looked1}
 use Rattle.pair_plan.proofs.cutting.cut_table.Goals as goal
 

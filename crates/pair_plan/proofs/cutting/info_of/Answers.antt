@@ -1,5 +1,4 @@
 -- `pair_plan::cutting::info_of` meets its contract: the length is what `size_of` answers. Assumes nothing.
-use borrow.Author.Rules.{rules}
 use Rattle.pair_plan.proofs.cutting.info_of.Goals as goal
 
 pub returns : goal.returns

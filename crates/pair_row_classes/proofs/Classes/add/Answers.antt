@@ -2,7 +2,6 @@
 use Prim.Native.Nat.{◌+◌}
 use native.Mathlib.Omega.{arith}
 use Rattle.pair_row_classes.proofs.ClassesHeld.{part-inside, held_from, held_end, held_ready, held_more}
-use borrow.Author.Rules.{rules}
 use Rattle.pair_row_classes.proofs.Classes.add.Goals as goal
 
 pub class_end-to-requires : goal.class_end-to-requires

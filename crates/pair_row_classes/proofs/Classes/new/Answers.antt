@@ -1,6 +1,5 @@
 -- `pair_row_classes::Classes::new` meets its contract: the estimator has no class. Assumes nothing.
 use Rattle.pair_row_classes.proofs.ClassesHeld.{held_begins}
-use borrow.Author.Rules.{rules}
 use Rattle.pair_row_classes.proofs.Classes.new.Goals as goal
 
 pub returns : goal.returns

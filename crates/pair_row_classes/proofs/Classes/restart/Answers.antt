@@ -3,7 +3,6 @@ use Prim.Native.Nat.{◌+◌}
 use mathlib.Core.Path.{refl}
 use native.Mathlib.Omega.{arith}
 use Rattle.pair_row_classes.proofs.ClassesHeld.{part-inside, held_none, held_ready, held_more}
-use borrow.Author.Rules.{rules}
 use Rattle.pair_row_classes.proofs.Classes.restart.Goals as goal
 
 pub offset_bounds-glyphs-first : goal.offset_bounds-glyphs-first

@@ -1,5 +1,4 @@
 -- `pair_sets::linked::leads_there` meets its contract: each of its tests is one of what it says. Assumes nothing.
-use borrow.Author.Rules.{rules}
 use mathlib.Core.Path.{sym, ◌∙◌}
 use native.Mathlib.Omega.{arith}
 use borrow.Author.Tests.{eqb-true, not-false}

@@ -1,5 +1,4 @@
 -- `pair_sets::linked::place_of` meets its contract: a remainder is below its divisor. Assumes nothing.
-use borrow.Author.Rules.{rules}
 use native.Mathlib.Nat.{mod-lt}
 use Rattle.pair_sets.proofs.linked.place_of.Goals as goal
 

@@ -1,15 +1,12 @@
 -- `pair_sets::linked::rows_sorted` meets its contract: all rows passed lead to sorted sets. Assumes nothing.
-use Prim.Native.Nat.{ℕ, ◌+◌, ◌-◌, ◌<◌}
+use Prim.Native.Nat.{ℕ, ◌+◌, ◌-◌}
 use mathlib.Core.Path.{◌≡◌}
 use mathlib.Core.Bool.{Bool}
 use mathlib.Core.List.{List}
-use native.Mathlib.Omega.{arith}
 use lib.ListN.{length}
-use borrow.Author.Rules.{rules}
 use Rattle.store_rules.specs.Store.{lent}
-use Rattle.store_reader.proofs.Checks.{Passed, start, turn, stop, fail}
+use Rattle.store_reader.proofs.Checks.{Passed}
 use Rattle.pair_sets.specs.Sets.{leads_sorted}
-use Rattle.pair_sets.proofs.Slots.{rows_passed}
 use Rattle.pair_sets.proofs.linked.rows_sorted.Given as goal
 
 -- the row i behind row `first`

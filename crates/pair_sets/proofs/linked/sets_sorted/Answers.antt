@@ -7,7 +7,6 @@ use Rattle.store_rules.specs.Store.{lent}
 use Rattle.store_reader.proofs.Rows.{rows_in_order}
 use Rattle.pair_sets.specs.Marked.{RowLeads}
 use Rattle.pair_sets.proofs.Slots.{table_small, row_inside, row_leads, objects_inside, no_pair_sets, by_rows}
-use borrow.Author.Rules.{rules}
 use Rattle.pair_sets.proofs.linked.sets_sorted.Goals as goal
 
 pub returns-then-layout-ne1 : goal.returns-then-layout-ne1

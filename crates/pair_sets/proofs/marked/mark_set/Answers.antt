@@ -1,5 +1,4 @@
 -- `pair_sets::marked::mark_set` meets its contract. Assumes nothing.
-use borrow.Author.Rules.{rules}
 use mathlib.Core.Path.{refl, sym, ◌∙◌}
 use borrow.Author.Tests.{not-true, not-false}
 use Rattle.pair_sets.proofs.Marks.{marked_more, marked_none}

@@ -1,11 +1,8 @@
 -- `pair_sets::marked::mark_sets` meets its contract: what the rows before `k` lead to has a mark. Assumes nothing.
-use borrow.Author.Rules.{rules}
 use Prim.Native.Nat.{◌-◌, ◌≤◌}
-use mathlib.Core.Path.{◌≡◌, refl}
-use native.Mathlib.Omega.{arith}
+use mathlib.Core.Path.{◌≡◌}
 use lib.ListN.{length}
 use Rattle.pair_sets.specs.Marked.{MarksSets}
-use Rattle.pair_sets.proofs.Marks.{none_marked}
 use Rattle.pair_sets.proofs.marked.mark_sets.Given as goal
 
 abbrev pub invariant-loop-k : goal.invariant-loop-k

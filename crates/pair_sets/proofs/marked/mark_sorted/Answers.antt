@@ -1,5 +1,4 @@
 -- `pair_sets::marked::mark_sorted` meets its contract. Assumes nothing.
-use borrow.Author.Rules.{rules}
 use Rattle.pair_sets.proofs.Marks.{no_mark_lem, mark_there}
 use Rattle.pair_sets.proofs.marked.mark_sorted.Goals as goal
 

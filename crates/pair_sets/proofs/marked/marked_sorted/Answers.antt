@@ -1,10 +1,6 @@
 -- `pair_sets::marked::marked_sorted` meets its contract: the objects below `i` are sorted sets or have no mark. Assumes nothing.
-use Prim.Native.Nat.{ℕ, ◌-◌}
-use mathlib.Core.List.{List}
-use lib.ListN.{length}
-use borrow.Author.Rules.{rules}
-use Rattle.store_rules.specs.Store.{lent}
-use Rattle.store_reader.proofs.Checks.{Passed, start, turn, stop, fail}
+use Prim.Native.Nat.{◌-◌}
+use Rattle.store_reader.proofs.Checks.{start, turn, stop, fail}
 use Rattle.pair_sets.specs.Marked.{mark_sorted}
 use mathlib.Core.Path.{ap}
 use mathlib.Core.Bool.{not}

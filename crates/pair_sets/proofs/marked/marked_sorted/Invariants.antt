@@ -2,9 +2,8 @@
 use Prim.Native.Nat.{ℕ, ◌-◌}
 use mathlib.Core.List.{List}
 use lib.ListN.{length}
-use borrow.Author.Rules.{rules}
 use Rattle.store_rules.specs.Store.{lent}
-use Rattle.store_reader.proofs.Checks.{Passed, start, turn, stop, fail}
+use Rattle.store_reader.proofs.Checks.{Passed}
 use Rattle.pair_sets.specs.Marked.{mark_sorted}
 use Rattle.pair_sets.proofs.marked.marked_sorted.Given as goal
 

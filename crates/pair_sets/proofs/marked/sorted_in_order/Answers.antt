@@ -1,5 +1,4 @@
 -- `pair_sets::marked::sorted_in_order` meets its contract: the marks decide as the rows do. Assumes nothing.
-use borrow.Author.Rules.{rules}
 use Prim.Native.Nat.{ℕ, ◌<◌}
 use mathlib.Core.Path.{sym, ap, subst, ◌∙◌}
 use lib.ListN.{replicate}
