@@ -4,7 +4,7 @@ use std::{
     env, fs,
     os::unix::fs::PermissionsExt,
     path::Path,
-    process::{Command, Output},
+    process::{self, Command, Output},
     sync::Mutex,
 };
 
@@ -53,7 +53,8 @@ enum Clippy {
     IsMissing,
 }
 
-/// Runs the gate in a directory of its own. The kit prints `proofs`; where that is nothing, it breaks.
+/// Runs the gate in a directory of its own, which goes with it and is not in cargo's folder: `rt` refuses a
+/// repository that has other sources than its crates'. The kit prints `proofs`; where that is nothing, it breaks.
 fn gate(name: &str, proofs: &str, tests: &str) -> (bool, String) {
     gate_with(name, [proofs, tests], KIT, Clippy::IsClean)
 }
@@ -66,7 +67,7 @@ fn gate_with(
     clippy: Clippy,
 ) -> (bool, String) {
     let _turn = TURN.lock().unwrap();
-    let top = Path::new(env!("CARGO_TARGET_TMPDIR")).join(name);
+    let top = env::temp_dir().join(format!("gate-{name}-{}", process::id()));
     for (path, text) in SOURCES {
         let path = top.join("crates").join(path);
         fs::create_dir_all(path.parent().unwrap()).unwrap();
@@ -98,6 +99,7 @@ fn gate_with(
 
     let path = format!("{}:{}", top.display(), env::var("PATH").unwrap());
     let run = Command::new(top.join(".ci/run")).env("PATH", path).output();
+    fs::remove_dir_all(&top).unwrap();
     let Output { status, stdout, .. } = run.unwrap();
     (status.success(), String::from_utf8(stdout).unwrap())
 }
