@@ -1,0 +1,6 @@
+-- `promise_callers::pairs::plan` meets its contract: the cut plan's equation gives what is promised. Assumes nothing.
+use Rattle.promise_pairs.proofs.Calls.{plan_keeps}
+use Rattle.promise_callers.proofs.pairs.plan.Goals as goal
+
+pub returns : goal.returns
+returns c = plan_keeps _ _ _ _ _ _ c.cut_plan.ensures
