@@ -3,10 +3,10 @@ use Prim.Native.Nat.{ℕ, ◌+◌, ◌≤◌, ◌<◌}
 use mathlib.Core.Path.{◌≡◌, ◌∙◌}
 use mathlib.Core.List.{List}
 use native.Mathlib.Omega.{arith}
-use lib.ListN.{length, set, replicate}
+use lib.ListN.{length, set}
 use Rattle.folds.specs.Folds.{upto}
 use Rattle.folds.proofs.Folds.{length-upto}
-use Rattle.folds.proofs.Writing.{Writing, write_start, write_turn, write_stop, upto_const, put_whole}
+use Rattle.folds.proofs.Writing.{Writing, write_start, write_turn, write_stop, put_whole}
 
 -- after k turns
 abbrev pub Filling : (ℕ → ℕ) → List ℕ → List ℕ → ℕ → Type 0
@@ -24,7 +24,3 @@ module _ (f : ℕ → ℕ) (d : List ℕ) where
 
     pub fill_stop : length s ≤ k → s ≡ upto f (length d)
     fill_stop l = write_stop f d 0 (length d) (omega arith) s k w (omega (arith, w.long)) ∙ put_whole d (upto f (length d)) (length-upto f (length d))
-
--- zeros
-pub clear_stop : (d s : List ℕ) (k : ℕ) → Filling (λ i. 0) d s k → length s ≤ k → s ≡ replicate (length d) 0
-clear_stop d s k w l = fill_stop (λ i. 0) d s k w l ∙ upto_const 0 (length d)

@@ -1,4 +1,5 @@
 pub mod Copying
+pub mod GivenOut
 pub mod Handing
 mod Numbering
 pub mod Split

@@ -1,9 +1,9 @@
 -- The whole call of a split, whatever it splits: what is asked before, then what is left of it, which is nothing to cut, no room, or the split. Assumes nothing.
+use Rattle.std.specs.Prelude.{Option, Some, None}
 use Prim.Native.Nat.{ℕ}
 use mathlib.Core.Path.{◌≡◌, refl, sym, ap, ◌∙◌}
 use mathlib.Core.Bool.{Bool, true, false}
 use mathlib.Core.List.{List, [], ◌∷◌, ◌++◌}
-use mathlib.Core.Option.{Option, some, none}
 use native.Mathlib.Omega.{arith}
 use lib.ListN.{length}
 use Rattle.folds.specs.Lists.{is_empty}
@@ -82,11 +82,11 @@ module _ (s : Store) (list : List ℕ) (needs : List ℕ → Needs) (after : Lis
   -- ---- the whole call, of which these cases come first
 
   module _ (cases : List Case) (w : Scratch) where
-    pub call_settled : {a : ℕ} → first_case cases ≡ some a → outcome a 0 s list (cleared w) ≡ splits (cases ++ last) w
+    pub call_settled : {a : ℕ} → first_case cases ≡ Some a → outcome a 0 s list (cleared w) ≡ splits (cases ++ last) w
     unfolding settle
     call_settled {a} e = sym (ap (λ (o : Option ℕ). settle o s list w (done (after places) (tables places) list w)) (first_stands cases last a e))
 
-    pub call_goes : first_case cases ≡ none → splits last w ≡ splits (cases ++ last) w
+    pub call_goes : first_case cases ≡ None → splits last w ≡ splits (cases ++ last) w
     call_goes e = sym (ap (λ (o : Option ℕ). settle o s list w (done (after places) (tables places) list w)) (first_skip cases last e))
 
 -- then the scratch is cleared

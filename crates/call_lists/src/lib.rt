@@ -5,35 +5,42 @@ ghost use Rattle.std.specs.Prelude.{◌≡◌, ◌+◌, ◌*◌, ◌≤◌, ◌<
 ghost use Rattle.folds.specs.Folds.{upto};
 ghost use Rattle.folds.specs.Lists.{put};
 ghost use Rattle.folds.specs.Moments.{came, left};
-ghost use Rattle.call_lists.specs.Handed.{handed, places_handed};
+ghost use Rattle.call_rules.specs.Answers.{answer_of, count_of, refusal};
+ghost use Rattle.call_lists.specs.Handed.{handed, places_handed, handed_by, planned_cuts, HandingOut};
 
-use call_rules::{Answer, number_of};
+use call_rules::Answer;
 
-// Copies the places to the front of the list.
-fn copy_places(cuts: &[u16], places: &mut [u16])
-    requires { length cuts.now ≤ length places.old }
-    ensures { left places ≡ put (came places) 0 cuts.now }
-{
-    let mut k: usize = 0;
-    while k < cuts.len() {
-        places[k] = cuts[k];
-        k += 1;
-    }
+// A table that is not refused, and how many cuts it gets; they stand at the front of the scratch.
+#[derive(Clone, Copy)]
+pub struct Plan<T> {
+    pub table: T,
+    pub cuts: usize,
 }
 
-// Hands out the places and their count, if the list is long enough, and answers.
-pub fn list_places(cuts: &[u16], places: &mut [u16], place_count: &mut u32) -> u32
+// Lists the places, if the list is long enough, and says how many they are.
+pub fn list_places(cuts: &[u16], places: &mut [u16]) -> Result<u32, Answer>
     requires { length cuts.now < 65536 }
-    ensures { handed result (left place_count) (left places) ≡ places_handed cuts.now (came places) }
+    ensures { handed (answer_of result) (count_of result) (left places) ≡ places_handed cuts.now (came places) }
 {
     let count = cuts.len();
     if places.len() < count {
-        *place_count = 0;
-        return number_of(Answer::NoRoom);
+        return Err(Answer::NoRoom);
     }
-    copy_places(cuts, places);
-    *place_count = count as u32;
-    0
+    places[..count].copy_from_slice(cuts);
+    Ok(count as u32)
+}
+
+// Lists the cuts of the plan that was decided on, if there is one.
+pub fn hand_out<T: Copy>(
+    decision: Result<Plan<T>, Answer>,
+    cuts: &[u16],
+    places: &mut [u16],
+) -> Result<u32, Answer>
+    requires { HandingOut decision cuts.now }
+    ensures { handed (answer_of result) (count_of result) (left places) ≡ handed_by (refusal decision) (planned_cuts decision cuts.now) (came places) }
+{
+    let plan = decision?;
+    list_places(&cuts[..plan.cuts], places)
 }
 
 // The numbers of the new tables, at the front of the result list.
@@ -41,9 +48,7 @@ pub fn number_tables(new_tables: &mut [u32], first: u32, per_table: usize, count
     requires { (count ≤ length new_tables.old) × (first + per_table * count < 4294967296) }
     ensures { left new_tables ≡ put (came new_tables) 0 (upto (λ j. first + per_table * j) count) }
 {
-    let mut j: usize = 0;
-    while j < count {
+    for j in 0..count {
         new_tables[j] = (first as usize + per_table * j) as u32;
-        j += 1;
     }
 }

@@ -1,9 +1,9 @@
 -- Settings that are known pass, and others are refused; and they are those of one edition or the other. Assumes nothing.
+use Rattle.std.specs.Prelude.{Some, None}
 use Prim.Native.Nat.{ℕ}
 use mathlib.Core.Path.{◌≡◌, sym, subst, ◌∙◌}
 use mathlib.Core.Bool.{Bool, true, false, not}
 use mathlib.Core.Logic.{⊎_elim}
-use mathlib.Core.Option.{some, none}
 use lib.Dec.{eqb}
 use borrow.Author.Tests.{eqb-true, not-false}
 use Rattle.folds.proofs.Joined.{or_either}
@@ -12,11 +12,11 @@ use Rattle.call_rules.specs.Answers.{first_case}
 use Rattle.call_rules.specs.Settings.{settings_of, first_edition, second_edition, known, settings_cases}
 
 module _ (how : Settings) where
-  pub known_pass : known how ≡ true → first_case (settings_cases how) ≡ none
+  pub known_pass : known how ≡ true → first_case (settings_cases how) ≡ None
   unfolding settings_cases first_case
   known_pass h = rw h
 
-  pub unknown_refused : known how ≡ false → first_case (settings_cases how) ≡ some 12
+  pub unknown_refused : known how ≡ false → first_case (settings_cases how) ≡ Some 12
   unfolding settings_cases first_case
   unknown_refused h = rw h
 

@@ -1,9 +1,9 @@
 -- Answers, scratch and outcomes held against small cases, as one check; each line pins what its comment says. Assumes nothing.
+use Rattle.std.specs.Prelude.{Option, Some, None}
 use Prim.Native.Nat.{ℕ, ◌-◌, ◌*◌}
 use mathlib.Core.Path.{◌≡◌, refl}
 use mathlib.Core.Bool.{Bool, true, false, not}
 use mathlib.Core.List.{List, [], ◌∷◌, map}
-use mathlib.Core.Option.{Option, some, none}
 use lib.ListN.{replicate}
 use lib.Dec.{eqb}
 use denote.MutBor.{MutBor}
@@ -42,8 +42,8 @@ use Rattle.call_rules.specs.Outcomes.{Outcome, outcome, done, settle}
 
 -- an answer and its number; 99 where no case applies
 unfoldable pub answered : Option ℕ → ℕ
-answered (some n) = n
-answered none = 99
+answered (Some n) = n
+answered None = 99
 
 -- a store with so many bytes in use
 unfoldable pub store : ℕ → Store
@@ -136,8 +136,8 @@ pins =
     -- `done`: the list starts with what is reported, which is counted
     ∷ leaves (done (store 1) (3 ∷ []) (1 ∷ 2 ∷ []) scratch) 0 1 1 (3 ∷ 2 ∷ [])
     -- `settle`: an answer that stands counts nothing and keeps store and list
-    ∷ leaves (settle (some 7) (store 2) (1 ∷ 2 ∷ []) scratch (done (store 1) (3 ∷ []) (1 ∷ 2 ∷ []) scratch)) 7 0 2 (1 ∷ 2 ∷ [])
-    ∷ leaves (settle none (store 2) (1 ∷ 2 ∷ []) scratch (done (store 1) (3 ∷ []) (1 ∷ 2 ∷ []) scratch)) 0 1 1 (3 ∷ 2 ∷ [])
+    ∷ leaves (settle (Some 7) (store 2) (1 ∷ 2 ∷ []) scratch (done (store 1) (3 ∷ []) (1 ∷ 2 ∷ []) scratch)) 7 0 2 (1 ∷ 2 ∷ [])
+    ∷ leaves (settle None (store 2) (1 ∷ 2 ∷ []) scratch (done (store 1) (3 ∷ []) (1 ∷ 2 ∷ []) scratch)) 0 1 1 (3 ∷ 2 ∷ [])
     ∷ []
 
 pub pinned : every pins ≡ true

@@ -1,6 +1,5 @@
 -- What a split or a cut plan leaves: answer, count and all contents at exit. Assumes nothing.
-use Rattle.std.specs.Prelude.{ℕ, List, length}
-use Rattle.std.proofs.Math.Option.{Option, some, none}
+use Rattle.std.specs.Prelude.{ℕ, List, length, Option, Some, None}
 use Rattle.folds.specs.Lists.{put}
 use Rattle.store_rules.specs.Store.{Store}
 use Rattle.call_rules.specs.Scratch.{Scratch, cleared}
@@ -23,8 +22,8 @@ done s xs list w = record { answer = 0; count = length xs; store = s; list = put
 
 -- "returns a count of 0 new tables and keeps store, counts and result list"
 unfoldable pub settle : Option ℕ → Store → List ℕ → Scratch → Outcome → Outcome
-settle (some n) s list w o = record { answer = n; count = 0; store = s; list = list; scratch = cleared w }
-settle none s list w o = o
+settle (Some n) s list w o = record { answer = n; count = 0; store = s; list = list; scratch = cleared w }
+settle None s list w o = o
 
 -- all of this file's definitions, for checks that compute
 unfoldable pub computes : Unit {0}

@@ -5,26 +5,18 @@ ghost use Rattle.std.specs.Prelude.{◌≡◌};
 ghost use Rattle.call_rules.specs.Scratch.{lengths_short, cleared};
 ghost use Rattle.call_rules.specs.Moments.{scratch_came, scratch_left};
 
-use buffers::{clear_u8, clear_u16, clear_u32};
 use call_rules::Lengths;
 
 // Check 6: whether one is too short for a store of so many objects and a table of so many covered glyphs and items.
+#[tactic(auto, unfolding(call_rules::specs::Scratch::lengths_short))]
 pub fn is_short(lent: Lengths, objects: u32, glyphs: usize, items: u16) -> bool
     ensures { result ≡ lengths_short lent objects glyphs items }
 {
-    if lent.walk < 2 * (objects as usize) {
-        return true;
-    }
-    if lent.glyph_set < 8192 {
-        return true;
-    }
-    if lent.glyphs < glyphs {
-        return true;
-    }
-    if lent.classes < glyphs {
-        return true;
-    }
-    lent.cuts < (items as usize)
+    lent.walk < 2 * (objects as usize)
+        || lent.glyph_set < 8192
+        || lent.glyphs < glyphs
+        || lent.classes < glyphs
+        || lent.cuts < (items as usize)
 }
 
 // Zeroes all of it.
@@ -37,9 +29,9 @@ pub fn clear_scratch(
 )
     ensures { scratch_left walk glyph_set glyphs classes cuts ≡ cleared (scratch_came walk glyph_set glyphs classes cuts) }
 {
-    clear_u32(walk);
-    clear_u8(glyph_set);
-    clear_u16(glyphs);
-    clear_u16(classes);
-    clear_u16(cuts);
+    walk.fill(0);
+    glyph_set.fill(0);
+    glyphs.fill(0);
+    classes.fill(0);
+    cuts.fill(0);
 }

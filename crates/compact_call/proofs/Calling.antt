@@ -1,33 +1,34 @@
 -- The call by what its checks decide, and the roots one by one. Assumes nothing.
-use Prim.Native.Nat.{ℕ, zero, suc, ◌<◌, ◌≤◌}
-use mathlib.Core.Path.{◌≡◌, refl, sym, ap, ◌∙◌}
-use mathlib.Core.Bool.{true, false}
+use Rattle.std.specs.Prelude.{Option, None, Result, Err, ⊤}
+use Rattle.std.specs.Bool.{MatchBool}
+use Rattle.std.specs.List.{AllWithin, HoldsAt}
+use Prim.Native.Nat.{ℕ, ◌<◌, ◌≤◌}
+use mathlib.Core.Path.{◌≡◌, sym, ap, ◌∙◌}
+use mathlib.Core.Bool.{Bool, true, false}
 use mathlib.Core.List.{List}
-use mathlib.Core.Option.{Option, none}
 use native.Mathlib.Omega.{arith}
 use lib.ListN.{length, get_or, replicate}
 use Rattle.folds.proofs.Tests.{by_test}
 use Rattle.folds.proofs.Each.{each_at, each_of}
 use Rattle.store_rules.specs.Store.{Store}
-use Rattle.call_rules.specs.Answers.{first_case}
+use Rattle.call_rules.specs.Answers.{number, first_case, refusal}
+use Rattle.call_rules.specs.declared.Answer.{Answer}
 use Rattle.compact_rules.specs.Kept.{kept}
 use Rattle.compact_rules.specs.Compacted.{compacted, bytes_moved, roots_then}
 use Rattle.compact_rules.specs.Calls.{CompactOutcome, compact_outcome, roots_used, compact_cases, compact_done, settle_compact, compaction_call}
 use Rattle.compact_rules.proofs.Kept.{roots_each, each_used}
-use Rattle.compact_call.specs.Refusals.{refusal_of}
 
 -- ---- the call
 
 module _ (s : Store) (roots walk : List ℕ) where
-  pub refused_call : (n : ℕ) (z : List ℕ) → first_case (compact_cases s roots walk) ≡ refusal_of n → (n ≡ 0 → ⊥) → z ≡ replicate (length walk) 0
-      → compact_outcome n 0 s roots z ≡ compaction_call s roots walk
+  pub refused_call : {r : Result ⊤ Answer} {a : Answer} {n : ℕ} {z : List ℕ} → first_case (compact_cases s roots walk) ≡ refusal r → r ≡ Err a → n ≡ number a
+      → z ≡ replicate (length walk) 0 → compact_outcome n 0 s roots z ≡ compaction_call s roots walk
   unfolding compaction_call settle_compact
-  refused_call zero z e ne h = absurd (ne refl)
-  refused_call (suc n) z e ne h =
-      ap (compact_outcome (suc n) 0 s roots) h
-      ∙ sym (ap (λ (o : Option ℕ). settle_compact o s roots walk (compact_done s (kept s roots) roots walk)) e)
+  refused_call e y i h =
+      (λ k. compact_outcome (i k) 0 s roots (h k))
+      ∙ sym (ap (λ (o : Option ℕ). settle_compact o s roots walk (compact_done s (kept s roots) roots walk)) (e ∙ ap refusal y))
 
-  pub done_call : (w : List ℕ) (o : CompactOutcome) → first_case (compact_cases s roots walk) ≡ none → length w ≡ length walk
+  pub done_call : (w : List ℕ) (o : CompactOutcome) → first_case (compact_cases s roots walk) ≡ None → length w ≡ length walk
       → o ≡ compact_done s (kept s roots) roots w → o ≡ compaction_call s roots walk
   unfolding compaction_call settle_compact compact_done
   done_call w o e n h =
@@ -46,3 +47,9 @@ module _ (n : ℕ) (roots : List ℕ) where
 
   pub one_high : (k : ℕ) → k < length roots → n ≤ get_or roots k 0 → false ≡ roots_used n roots
   one_high k l h = by_test (roots_used n roots) (λ y. absurd (omega (arith, root_low y k l))) (λ no-root. sym no-root)
+
+  -- what the test of each of them says
+  pub roots_told : (r : Bool) → MatchBool r (AllWithin (λ x. x < n) roots 0 (length roots)) ((k : ℕ) × (k < length roots) × HoldsAt (λ x. n ≤ x) roots k)
+      → r ≡ roots_used n roots
+  roots_told true h = all-low (λ k l. h k 0 (omega arith) l)
+  roots_told false (k, l, h) = one_high k l (h 0)

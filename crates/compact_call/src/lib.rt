@@ -4,12 +4,10 @@
 ghost use Rattle.std.specs.Prelude.{◌≡◌};
 ghost use Rattle.folds.specs.Moments.{came, left};
 ghost use Rattle.store_rules.specs.Moments.{store_came, store_came_with, store_left};
-ghost use Rattle.call_rules.specs.Answers.{first_case};
+ghost use Rattle.call_rules.specs.Answers.{first_case, refusal};
 ghost use Rattle.compact_rules.specs.Calls.{roots_used, compact_cases, compact_outcome, compaction_call};
-ghost use Rattle.compact_call.specs.Refusals.{refusal_of};
 
-use buffers::clear_u32;
-use call_rules::{Answer, number_of};
+use call_rules::Answer;
 use compact_carrying::carry_out;
 use compact_marking::mark_kept;
 use store_reader::is_sound;
@@ -18,38 +16,30 @@ use store_reader::is_sound;
 fn roots_used(roots: &[u32], count: u32) -> bool
     ensures { result ≡ roots_used count roots.now }
 {
-    let mut k: usize = 0;
-    while k < roots.len() {
-        if count <= roots[k] {
-            return false;
-        }
-        k += 1;
-    }
-    true
+    roots.iter().all(|&root| root < count)
 }
 
-// The answer of the first check that refuses, 0 where none does.
-fn refusal(
+// The checks, in their order: an error is the answer of the first that refuses.
+fn check(
     data: &[u8],
     objects: &[u32],
     links: &[u32],
     counts: [u32; 3],
     roots: &[u32],
     walk: &[u32],
-) -> u32
-    ensures { first_case (compact_cases (store_came_with «data» objects links counts) roots.now walk.now)
-        ≡ refusal_of result }
+) -> Result<(), Answer>
+    ensures { first_case (compact_cases (store_came_with «data» objects links counts) roots.now walk.now) ≡ refusal result }
 {
     if !is_sound(data, objects, links, counts) {
-        return number_of(Answer::Unsound);
+        return Err(Answer::Unsound);
     }
     if !roots_used(roots, counts[1]) {
-        return number_of(Answer::NoTable);
+        return Err(Answer::NoTable);
     }
     if walk.len() < 2 * (counts[1] as usize) {
-        return number_of(Answer::ShortScratch);
+        return Err(Answer::ShortScratch);
     }
-    0
+    Ok(())
 }
 
 // Compacts any store by its roots: the answer, how many bytes have moved, and the roots under their new numbers. Scratch is zero after it.
@@ -65,11 +55,10 @@ pub fn compact(
     ensures { compact_outcome result (left moved) (store_left «data» objects links counts) (left roots) (left walk)
         ≡ compaction_call (store_came «data» objects links counts) (came roots) (came walk) }
 {
-    let answer = refusal(data, objects, links, *counts, roots, walk);
-    if answer != 0 {
-        clear_u32(walk);
+    if let Err(answer) = check(data, objects, links, *counts, roots, walk) {
+        walk.fill(0);
         *moved = 0;
-        return answer;
+        return u32::from(answer);
     }
     mark_kept(objects, links, *counts, roots, walk);
     *moved = carry_out(data, objects, links, counts, roots, walk);

@@ -12,7 +12,6 @@ ghost use Rattle.compact_carrying.specs.Packing.{Carrying};
 use crate::links::compact_links;
 use crate::numbers::{number_kept, rewrite_roots};
 use crate::objects::compact_objects;
-use buffers::clear_u32;
 
 pub mod links;
 pub mod numbers;
@@ -36,7 +35,7 @@ pub fn carry_out(
     let packed = compact_objects(data, objects, *counts, walk);
     let rows = compact_links(links, *counts, walk);
     rewrite_roots(roots, n, walk);
-    clear_u32(walk);
+    walk.fill(0);
     let bytes = packed.bytes;
     let kept = packed.objects;
     // Stored whole, so that the array's length is known.

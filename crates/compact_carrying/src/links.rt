@@ -5,7 +5,6 @@ ghost use Rattle.store_rules.specs.Store.{lent, sound};
 ghost use Rattle.compact_rules.specs.Marks.{has_mark};
 ghost use Rattle.compact_carrying.specs.Packing.{Numbered, PackedLinks, LinksLeft};
 
-use buffers::zero_numbers;
 use store_link_rows::renumber_row;
 use store_reader::{CHILD, PARENT, PER_LINK};
 
@@ -14,11 +13,7 @@ fn keeps_ends(walk: &[u32], parent: usize, child: usize) -> bool
     requires { (parent < length walk.now) × (child < length walk.now) }
     ensures { result ≡ has_mark walk.now parent && has_mark walk.now child }
 {
-    if 0 < walk[parent] {
-        0 < walk[child]
-    } else {
-        false
-    }
+    0 < walk[parent] && 0 < walk[child]
 }
 
 // Writes the links that keep both ends behind one another, under their ends' new numbers; how many they are.
@@ -28,17 +23,13 @@ fn pack_links(links: &mut [u32], counts: [u32; 3], walk: &[u32]) -> u32
     ensures { PackedLinks (lent [] [] (came links) counts) (has_mark walk.now) (left links) result }
 {
     let mut j: usize = 0;
-    let mut k: usize = 0;
-    while k < (counts[2] as usize) {
+    for k in 0..counts[2] as usize {
         let parent = links[PER_LINK * k + PARENT] as usize;
         let child = links[PER_LINK * k + CHILD] as usize;
         if keeps_ends(walk, parent, child) {
             let n = counts[1] as usize;
             renumber_row(links, k, j, walk[n + parent], walk[n + child]);
             j += 1;
-            k += 1;
-        } else {
-            k += 1;
         }
     }
     j as u32
@@ -51,10 +42,6 @@ pub fn compact_links(links: &mut [u32], counts: [u32; 3], walk: &[u32]) -> u32
     ensures { LinksLeft (lent [] [] (came links) counts) (has_mark walk.now) (left links) result }
 {
     let kept = pack_links(links, counts, walk);
-    zero_numbers(
-        links,
-        PER_LINK * (kept as usize),
-        PER_LINK * ((counts[2] - kept) as usize),
-    );
+    links[PER_LINK * (kept as usize)..PER_LINK * (counts[2] as usize)].fill(0);
     kept
 }

@@ -9,14 +9,10 @@ pub fn number_kept(walk: &mut [u32], n: usize)
     ensures { Numbers (came walk) (left walk) n }
 {
     let mut next: u32 = 0;
-    let mut i: usize = 0;
-    while i < n {
+    for i in 0..n {
         walk[n + i] = next;
         if 0 < walk[i] {
             next += 1;
-            i += 1;
-        } else {
-            i += 1;
         }
     }
 }
@@ -27,10 +23,8 @@ pub fn rewrite_roots(roots: &mut [u32], n: usize, walk: &[u32])
     requires n_in_bounds { (2 * n ≤ length walk.now) × (n ≤ 65536) }
     ensures { left roots ≡ map (number_in walk.now n) (came roots) }
 {
-    let mut k: usize = 0;
-    while k < roots.len() {
+    for k in 0..roots.len() {
         let root = roots[k] as usize;
         roots[k] = walk[n + root];
-        k += 1;
     }
 }

@@ -5,7 +5,7 @@ ghost use Rattle.store_rules.specs.Store.{lent, sound};
 ghost use Rattle.compact_rules.specs.Marks.{has_mark};
 ghost use Rattle.compact_carrying.specs.Packing.{Placing, PlacedAt, PackedObjects, ObjectsLeft};
 
-use buffers::{copy_down, zero_bytes, zero_numbers};
+use buffers::{copy_bytes, zero_bytes};
 use store_object_rows::put_object;
 
 // Where a kept object ends now, and how many of its bytes have moved.
@@ -30,7 +30,7 @@ fn place(data: &mut [u8], objects: &mut [u32], i: usize, j: usize, at: u32) -> P
             moved: 0,
         };
     }
-    copy_down(data, head as usize, at as usize, size as usize);
+    copy_bytes(data, head as usize, at as usize, size as usize);
     Placed {
         end: at + size,
         moved: size,
@@ -54,16 +54,12 @@ fn pack_objects(data: &mut [u8], objects: &mut [u32], counts: [u32; 3], walk: &[
     let mut at: u32 = 0;
     let mut j: usize = 0;
     let mut moved: u32 = 0;
-    let mut i: usize = 0;
-    while i < (counts[1] as usize) {
+    for i in 0..counts[1] as usize {
         if 0 < walk[i] {
             let p = place(data, objects, i, j, at);
             at = p.end;
             moved += p.moved;
             j += 1;
-            i += 1;
-        } else {
-            i += 1;
         }
     }
     Packed {
@@ -88,10 +84,6 @@ pub fn compact_objects(
     let bytes = packed.bytes;
     let kept = packed.objects;
     zero_bytes(data, bytes as usize, (counts[0] - bytes) as usize);
-    zero_numbers(
-        objects,
-        2 * (kept as usize),
-        2 * ((counts[1] - kept) as usize),
-    );
+    objects[2 * (kept as usize)..2 * (counts[1] as usize)].fill(0);
     packed
 }

@@ -35,9 +35,7 @@ fn mark_root(objects: &[u32], links: &[u32], counts: [u32; 3], root: u32, walk: 
     if walk[r] == 0 {
         walk[r] = 1;
         let rows = offsets_of(links, counts, root, walk);
-        let first = rows.first;
-        let after = rows.after;
-        subgraph_size(objects, links, counts, first, after, 2, walk);
+        subgraph_size(objects, links, counts, rows.first, rows.after, 2, walk);
     }
 }
 
@@ -49,9 +47,7 @@ pub fn mark_kept(objects: &[u32], links: &[u32], counts: [u32; 3], roots: &[u32]
     ensures { Rooting objects.now links.now counts roots.now (left walk) }
 {
     prepare(links, counts, walk);
-    let mut k: usize = 0;
-    while k < roots.len() {
-        mark_root(objects, links, counts, roots[k], walk);
-        k += 1;
+    for root in roots {
+        mark_root(objects, links, counts, *root, walk);
     }
 }

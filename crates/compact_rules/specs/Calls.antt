@@ -1,6 +1,5 @@
 -- The call that compacts a store: "Refusals: 1, then 2 for a root not in use, then 6 (walk only); nothing is then changed." Assumes nothing.
-use Rattle.std.specs.Prelude.{ℕ, ◌*◌, Bool, true, not, ◌&&◌, List, [], ◌∷◌, length, replicate, ltb}
-use Rattle.std.proofs.Math.Option.{Option, some, none}
+use Rattle.std.specs.Prelude.{ℕ, ◌*◌, Bool, true, not, ◌&&◌, List, [], ◌∷◌, length, replicate, ltb, Option, Some, None}
 use Rattle.store_rules.specs.Store.{Store, sound}
 use Rattle.call_rules.specs.declared.Answer.TheVariants.{Unsound, NoTable, ShortScratch}
 use Rattle.call_rules.specs.Answers.{Case, case, first_case}
@@ -42,8 +41,8 @@ compact_done s keep roots walk = compact_outcome 0 (bytes_moved s keep) (compact
 
 -- "nothing is then changed"
 unfoldable pub settle_compact : Option ℕ → Store → List ℕ → List ℕ → CompactOutcome → CompactOutcome
-settle_compact (some n) s roots walk o = compact_outcome n 0 s roots (walk_left walk)
-settle_compact none s roots walk o = o
+settle_compact (Some n) s roots walk o = compact_outcome n 0 s roots (walk_left walk)
+settle_compact None s roots walk o = o
 
 -- the outcome of a compaction
 unfoldable pub compaction_call : Store → List ℕ → List ℕ → CompactOutcome

@@ -1,7 +1,8 @@
 // The parts of a table's covered glyphs that its new tables have: where each ends, and each in order by glyph.
 #![tactic(auto)]
 
-ghost use Rattle.std.specs.Prelude.{◌≡◌, ◌+◌, ◌≤◌, ◌<◌, length, get_or};
+ghost use Rattle.std.specs.Prelude.{◌≡◌, ◌+◌, ◌≤◌, ◌<◌, length, get_or, ltb};
+ghost use Rattle.std.specs.List.{take_while};
 ghost use Rattle.folds.specs.Lists.{put};
 ghost use Rattle.folds.specs.Moments.{came, left};
 ghost use Rattle.cut_parts.specs.Tables.{PartEnd};
@@ -9,19 +10,19 @@ ghost use Rattle.cut_parts.specs.Order.{glyph_order, item_order, Sorted, PartsOr
 
 use glyph_sort::sort_pairs;
 
+// How many classes at the front lie below `hi`.
+fn count_front(classes: &[u16], hi: u16) -> usize
+    ensures { result ≡ length (take_while (λ k. ltb k hi) classes.now) }
+{
+    classes.iter().take_while(|k| **k < hi).count()
+}
+
 // Where the part of the classes from `from` on that lie below `hi` ends.
 pub fn part_end(classes: &[u16], from: usize, hi: u16) -> usize
     requires { from ≤ length classes.now }
     ensures { PartEnd classes.now from hi result }
 {
-    let mut at = from;
-    while at < classes.len() {
-        if hi <= classes[at] {
-            return at;
-        }
-        at += 1;
-    }
-    at
+    from + count_front(&classes[from..], hi)
 }
 
 // The cut behind cut j, or the count of items where j is the last.
@@ -50,12 +51,10 @@ pub fn order_parts(glyphs: &mut [u16], classes: &mut [u16], cuts: &[u16], count:
     ensures { PartsOrdered (came glyphs) (came classes) cuts.now count (left glyphs) (left classes) }
 {
     let mut at = 0;
-    let mut k = 0;
-    while k < cuts.len() {
-        let end = part_end(classes, at, cuts[k]);
+    for cut in cuts {
+        let end = part_end(classes, at, *cut);
         order_part(glyphs, classes, at, end);
         at = end;
-        k += 1;
     }
     let end = part_end(classes, at, count);
     order_part(glyphs, classes, at, end);

@@ -1,9 +1,9 @@
 -- The combinators held against small lists, as one check; each line pins what its comment says. Assumes nothing.
+use Rattle.std.specs.Prelude.{Option, Some, None}
 use Prim.Native.Nat.{ℕ, zero, suc, ◌+◌, ◌*◌}
 use mathlib.Core.Path.{◌≡◌, refl}
 use mathlib.Core.Bool.{Bool, true, false, not}
 use mathlib.Core.List.{List, [], ◌∷◌}
-use mathlib.Core.Option.{Option, some, none}
 use native.Mathlib.Omega.{arith}
 use lib.ListN.{replicate}
 use lib.Dec.{leb, ltb, eqb}
@@ -20,8 +20,8 @@ use Rattle.folds.proofs.Compared.{same, every}
 
 -- a number that was found; 99 where there is none
 unfoldable pub answered : Option ℕ → ℕ
-answered (some n) = n
-answered none = 99
+answered (Some n) = n
+answered None = 99
 
 -- a reference to these numbers
 abbrev to : List ℕ → MutBor (List ℕ)
@@ -39,7 +39,7 @@ pins =
     -- `before`
     ∷ eqb (before (λ k. 7 + k) 3) 9 ∷ eqb (before (λ k. 7) 0) 0
     -- `or_else`, `first_at`: the first of several, below the count
-    ∷ eqb (answered (or_else (some 1) (some 2))) 1 ∷ eqb (answered (or_else none (some 2))) 2
+    ∷ eqb (answered (or_else (Some 1) (Some 2))) 1 ∷ eqb (answered (or_else None (Some 2))) 2
     ∷ eqb (answered (first_at (λ k. leb 2 k) 5)) 2 ∷ eqb (answered (first_at (λ k. leb 2 k) 2)) 99
     -- `flat`, `upto`, `run`: in order
     ∷ same (flat (λ k. replicate (1 + k) k) 3) (0 ∷ 1 ∷ 1 ∷ 2 ∷ 2 ∷ 2 ∷ []) ∷ same (upto (λ k. 2 * k) 3) (0 ∷ 2 ∷ 4 ∷ []) ∷ same (run 5 3) (5 ∷ 6 ∷ 7 ∷ [])
@@ -51,8 +51,8 @@ pins =
     ∷ same (part (1 ∷ 2 ∷ 3 ∷ 4 ∷ 5 ∷ []) 1 3) (2 ∷ 3 ∷ [])
     -- `sift`, `is_empty`, `given`, `is_some`, `and_then`
     ∷ same (sift (λ x. ltb 2 x) (3 ∷ 1 ∷ 4 ∷ 2 ∷ [])) (3 ∷ 4 ∷ []) ∷ is_empty {A = ℕ} [] ∷ not (is_empty {A = ℕ} (1 ∷ []))
-    ∷ eqb (answered (given true 5)) 5 ∷ eqb (answered (given false 5)) 99 ∷ is_some (some 0) ∷ not (is_some none)
-    ∷ eqb (answered (and_then (some 3) (λ (n : ℕ). some (n + 1)))) 4 ∷ eqb (answered (and_then {A = ℕ} none (λ n. some n))) 99
+    ∷ eqb (answered (given true 5)) 5 ∷ eqb (answered (given false 5)) 99 ∷ is_some (Some 0) ∷ not (is_some None)
+    ∷ eqb (answered (and_then (Some 3) (λ (n : ℕ). Some (n + 1)))) 4 ∷ eqb (answered (and_then {A = ℕ} None (λ n. Some n))) 99
     -- `ascending`: equal numbers stay as many
     ∷ same (ascending (3 ∷ 1 ∷ 4 ∷ 1 ∷ [])) (1 ∷ 1 ∷ 3 ∷ 4 ∷ []) ∷ same (ascending []) []
     -- `came`, `left`

@@ -1,2 +1,1 @@
 pub mod ClassParts
-pub mod Scanning

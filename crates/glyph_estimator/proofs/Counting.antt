@@ -11,7 +11,7 @@ use Rattle.folds.specs.Folds.{upto}
 use Rattle.folds.specs.Lists.{sift}
 use Rattle.folds.proofs.Tests.{cond_has}
 use Rattle.folds.proofs.Folds.{length-upto}
-use Rattle.ot_layouts.specs.Coverage.{Entry, runs, plain}
+use Rattle.ot_layouts.specs.Coverage.{Entry, plain}
 use Rattle.ot_layouts.specs.ClassDef.{first_glyph, last_glyph, span}
 use Rattle.ot_layouts.proofs.RunCount.{many_le, plain_length}
 use Rattle.glyph_set.specs.GlyphSet.{member, mark, members, run_count, joined}

@@ -11,7 +11,7 @@ use lib.ListN.{length, take, get_or}
 use lib.Seq.{take-suc, take_all}
 use borrow.Author.Tests.{eq-eqb, ne_eqb}
 use Rattle.folds.proofs.Tests.{by_test, cond_has}
-use Rattle.ot_layouts.specs.Coverage.{runs, plain}
+use Rattle.ot_layouts.specs.Coverage.{plain}
 use Rattle.ot_layouts.proofs.RunCount.{alone, many, gap, many_none, many_one, many_step}
 use Rattle.glyph_set.specs.GlyphSet.{member, mark, mark_all}
 use Rattle.glyph_set.proofs.Emptied.{mark_all-more, length-mark_all}

@@ -8,7 +8,6 @@ ghost use Rattle.glyph_rules.specs.Estimates.{estimate, cover_size, class_size, 
 ghost use Rattle.folds.specs.Moments.{came, left};
 ghost use Rattle.glyph_estimator.specs.States.{values_of, counted, starts_run, Takes, Taken, Covered, EstimatorReady, ClassAdded, Small};
 
-use buffers::lesser;
 use glyph_set::words::run_count;
 
 // A class of fewer glyphs is added glyph by glyph.
@@ -26,7 +25,7 @@ pub struct Estimator {
 }
 
 impl Estimator {
-    // No class yet.
+    // No class yet. The set is emptied by `forget`.
     pub fn new() -> Self
         ensures { values_of result ≡ estimate [] }
     {
@@ -76,7 +75,7 @@ impl Estimator {
         if to < from {
             return false;
         }
-        2 * ((to - from) as usize + 1) <= n
+        2 * (usize::from(to - from) + 1) <= n
     }
 
     // Adds a class glyph by glyph, each with the runs that it makes or joins.
@@ -84,10 +83,8 @@ impl Estimator {
         requires { EstimatorReady self set.old glyphs.now }
         ensures { ClassAdded self (came set) class glyphs.now result (left set) }
     {
-        let mut k: usize = 0;
-        while k < glyphs.len() {
+        for k in 0..glyphs.len() {
             self = self.add_glyph(class, glyphs, k, set);
-            k += 1;
         }
         self
     }
@@ -97,10 +94,8 @@ impl Estimator {
         requires { EstimatorReady self set.old glyphs.now }
         ensures { ClassAdded self (came set) class glyphs.now result (left set) }
     {
-        let mut k: usize = 0;
-        while k < glyphs.len() {
+        for k in 0..glyphs.len() {
             self = self.take_glyph(class, glyphs, k, set);
-            k += 1;
         }
         self.runs = run_count(set, self.first, self.last);
         self
@@ -145,7 +140,7 @@ impl Estimator {
         self.first = first;
         self.last = last;
         self.glyphs += 1;
-        self.listed = 6 + 2 * ((last - first) as usize + 1);
+        self.listed = 6 + 2 * (usize::from(last - first) + 1);
         self
     }
 
@@ -154,12 +149,10 @@ impl Estimator {
         ensures { result ≡ cond (eqb self.glyphs 0) glyph (min self.first glyph) }
     {
         if self.glyphs == 0 {
-            return glyph;
+            glyph
+        } else {
+            self.first.min(glyph)
         }
-        if self.first <= glyph {
-            return self.first;
-        }
-        glyph
     }
 
     // The last glyph with one more.
@@ -167,12 +160,10 @@ impl Estimator {
         ensures { result ≡ cond (eqb self.glyphs 0) glyph (max self.last glyph) }
     {
         if self.glyphs == 0 {
-            return glyph;
+            glyph
+        } else {
+            self.last.max(glyph)
         }
-        if glyph <= self.last {
-            return self.last;
-        }
-        glyph
     }
 
     // The size of the coverage.
@@ -180,14 +171,14 @@ impl Estimator {
         requires { Small self }
         ensures { result ≡ cover_size (values_of self) }
     {
-        lesser(4 + 2 * self.glyphs, 4 + 6 * self.runs)
+        (4 + 2 * self.glyphs).min(4 + 6 * self.runs)
     }
 
     // The size of class definition 1.
     pub fn class_def_size(self) -> usize
         ensures { result ≡ class_size (values_of self) }
     {
-        lesser(self.listed, self.ranged)
+        self.listed.min(self.ranged)
     }
 
     // What coverage and class definitions add to the rows, class definition 2 being `class2` bytes: all but the largest of the three.
@@ -198,7 +189,7 @@ impl Estimator {
     {
         let coverage = self.coverage_size();
         let class1 = self.class_def_size();
-        coverage + class1 + class2 - greater(coverage, greater(class1, class2))
+        coverage + class1 + class2 - coverage.max(class1.max(class2))
     }
 }
 
@@ -207,10 +198,8 @@ pub fn forget(set: &mut [u8], glyphs: &[u16])
     requires { 8192 ≤ length set.old }
     ensures { left set ≡ blank_all (came set) glyphs.now }
 {
-    let mut k: usize = 0;
-    while k < glyphs.len() {
-        glyph_set::clear_byte(set, glyphs[k]);
-        k += 1;
+    for glyph in glyphs {
+        glyph_set::clear_byte(set, *glyph);
     }
 }
 
@@ -222,15 +211,5 @@ fn starts_run(glyphs: &[u16], k: usize) -> usize
     if k == 0 {
         return 1;
     }
-    if glyphs[k - 1] as u32 + 1 == glyphs[k] as u32 {
-        return 0;
-    }
-    1
-}
-
-// The larger of two sizes.
-fn greater(a: usize, b: usize) -> usize
-    ensures { result ≡ max a b }
-{
-    if a <= b { b } else { a }
+    usize::from(u32::from(glyphs[k - 1]) + 1 != u32::from(glyphs[k]))
 }

@@ -4,15 +4,14 @@
 ghost use Rattle.std.specs.Prelude.{◌≡◌, true, List, ℕ, length};
 ghost use Rattle.ot_layouts.specs.Coverage.{coverage_of, cover_glyphs, cover_place};
 ghost use Rattle.ot_layouts.specs.ClassDef.{class_def_of, class_of};
-ghost use Rattle.ot_coverage_reader.specs.Coverage.{place_found};
 ghost use Rattle.store_rules.specs.Store.{lent, sound, bytes_of};
 ghost use Rattle.store_rules.specs.Moments.{store_came_with, store_now_with};
-ghost use Rattle.glyph_parts.specs.Parts.{read_as, part_found, linked_of, ReadPart};
+ghost use Rattle.glyph_parts.specs.Parts.{read_as, linked_of, ReadPart};
 
 use ot_class_def_reader::{class_of, read_class_def};
-use ot_coverage_reader::{Place, glyph_count, place_of, read_coverage};
-use ot_layouts::{Header, Reading};
-use store_reader::{Child, bytes_of, child_at};
+use ot_coverage_reader::{glyph_count, place_of, read_coverage};
+use ot_layouts::Header;
+use store_reader::{bytes_of, child_at};
 
 // Which of the two an object is read as.
 #[derive(Clone, Copy)]
@@ -28,15 +27,8 @@ pub struct Part {
     pub header: Header,
 }
 
-// A part that is linked and readable, or none.
-#[derive(Clone, Copy)]
-pub enum Linked {
-    To(Part),
-    Nothing,
-}
-
 // What the bytes are, read as one of the two.
-fn read_as(bytes: &[u8], kind: PartKind) -> Reading
+fn read_as(bytes: &[u8], kind: PartKind) -> Option<Header>
     ensures { result ≡ read_as kind bytes.now }
 {
     match kind {
@@ -45,7 +37,7 @@ fn read_as(bytes: &[u8], kind: PartKind) -> Reading
     }
 }
 
-// The coverage or class definition that the table links at `position`.
+// The coverage or class definition that the table links at `position`, if one is linked there and readable.
 pub fn linked_part(
     data: &[u8],
     objects: &[u32],
@@ -54,20 +46,16 @@ pub fn linked_part(
     table: u32,
     position: u32,
     kind: PartKind,
-) -> Linked
+) -> Option<Part>
     requires { sound (store_now_with «data» objects links counts) ≡ true }
-    ensures { part_found result ≡ linked_of (read_as kind) (store_came_with «data» objects links counts) table position }
+    ensures { result ≡ linked_of (read_as kind) (store_came_with «data» objects links counts) table position }
 {
     let child = child_at(links, counts, table, position);
-    let Child::Of(object) = child else {
-        return Linked::Nothing;
+    let Some(object) = child else {
+        return None;
     };
-    let bytes = bytes_of(data, objects, object as usize);
-    let reading = read_as(bytes, kind);
-    match reading {
-        Reading::Readable(header) => Linked::To(Part { object, header }),
-        Reading::Unreadable => Linked::Nothing,
-    }
+    let header = read_as(bytes_of(data, objects, object as usize), kind)?;
+    Some(Part { object, header })
 }
 
 // How many glyphs a coverage that was read covers.
@@ -82,9 +70,9 @@ pub fn glyphs_of(data: &[u8], objects: &[u32], coverage: Part) -> usize
 }
 
 // The glyph's place in a coverage that was read.
-pub fn place_in(data: &[u8], objects: &[u32], coverage: Part, glyph: u16) -> Place
+pub fn place_in(data: &[u8], objects: &[u32], coverage: Part, glyph: u16) -> Option<usize>
     requires { ReadPart coverage_of «data».now objects.now coverage }
-    ensures { (l c : List ℕ) → place_found result ≡ cover_place (bytes_of (lent «data».now objects.now l c) coverage.object) glyph }
+    ensures { (l c : List ℕ) → result ≡ cover_place (bytes_of (lent «data».now objects.now l c) coverage.object) glyph }
 {
     place_of(
         bytes_of(data, objects, coverage.object as usize),

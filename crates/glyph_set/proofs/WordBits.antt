@@ -119,8 +119,8 @@ module _ (s : List ℕ) (at : ℕ) where
     number_word j l = ap₂ (λ (i e : ℕ). eqb (get_or s i 0 / 2 ^ e % 2) 1) (omega arith) (omega arith) ∙ ap (λ (n : ℕ). eqb n 1) (sym (number_bit 8 0 j l))
 
   -- eight bytes, each times its power
-  pub number_sum : (b0 b1 b2 b3 b4 b5 b6 b7 : ℕ) → b0 ≡ get_or s at 0 → b1 ≡ get_or s (at + 1) 0 → b2 ≡ get_or s (at + 2) 0 → b3 ≡ get_or s (at + 3) 0
-      → b4 ≡ get_or s (at + 4) 0 → b5 ≡ get_or s (at + 5) 0 → b6 ≡ get_or s (at + 6) 0 → b7 ≡ get_or s (at + 7) 0
-      → b0 + 256 * b1 + 65536 * b2 + 16777216 * b3 + 4294967296 * b4 + 1099511627776 * b5 + 281474976710656 * b6 + 72057594037927936 * b7 ≡ number 0 8
+  pub number_sum : (xs : List ℕ) → ((i : ℕ) → i < 8 → get_or xs i 0 ≡ get_or s (at + i) 0)
+      → get_or xs 0 0 + get_or xs 1 0 * 256 + get_or xs 2 0 * 65536 + get_or xs 3 0 * 16777216 + get_or xs 4 0 * 4294967296
+      + get_or xs 5 0 * 1099511627776 + get_or xs 6 0 * 281474976710656 + get_or xs 7 0 * 72057594037927936 ≡ number 0 8
   unfolding number
-  number_sum b0 b1 b2 b3 b4 b5 b6 b7 e0 e1 e2 e3 e4 e5 e6 e7 = let e : at + 0 ≡ at = omega arith in omega (arith, ap (λ (n : ℕ). get_or s n 0) e)
+  number_sum xs e = omega (arith, e 0 (lit< tt), e 1 (lit< tt), e 2 (lit< tt), e 3 (lit< tt), e 4 (lit< tt), e 5 (lit< tt), e 6 (lit< tt), e 7 (lit< tt))

@@ -63,14 +63,13 @@ module _ (p : ℕ → Bool) where
 abbrev pub starts_below : List ℕ → ℕ → ℕ
 starts_below s n = sum (start (member s)) n
 
--- the words below byte `at` are counted, and the last of them is `prior`
-pub record Counting (s : List ℕ) (first last at prior count : ℕ) : Type 0 where
+-- the words before word k are counted, and the last of them is `prior`
+pub record Counting (s : List ℕ) (first last k prior count : ℕ) : Type 0 where
   pub long : 8192 ≤ length s
   pub spans : Spans s first last
-  pub whole : at % 8 ≡ 0
-  pub most : at ≤ 8192
-  pub counted : count ≡ starts_below s (8 * at)
-  pub carried : prior / 2 ^ 63 ≡ before (present s) (8 * at)
+  pub most : k ≤ 1024
+  pub counted : count ≡ starts_below s (64 * k)
+  pub carried : prior / 2 ^ 63 ≡ before (present s) (64 * k)
 
 start_le : (s : List ℕ) (g : ℕ) → start (member s) g ≤ 1
 start_le s g = go (starts (member s) (λ k. 0) g)
@@ -92,57 +91,55 @@ absent_start s zero h = rw h
 absent_start s (suc g) h = rw h
 
 module _ {s : List ℕ} {first last : ℕ} where
-  pub start_counting : 8192 ≤ length s → Spans s first last → first < 65536 → Counting s first last (8 * (first / 64)) 0 0
+  pub start_counting : 8192 ≤ length s → Spans s first last → first < 65536 → Counting s first last (first / 64) 0 0
   start_counting long spans l =
       record {
         long = long;
         spans = spans;
-        whole = omega arith;
         most = omega arith;
-        counted = sym (sum-zero (start (member s)) (8 * (8 * (first / 64))) (λ g b. absent_start s g (absent_before s first last spans g (omega arith) (omega arith))));
-        carried = carry (8 * (8 * (first / 64))) (omega arith);
+        counted = sym (sum-zero (start (member s)) (64 * (first / 64)) (λ g b. absent_start s g (absent_before s first last spans g (omega arith) (omega arith))));
+        carried = carry (64 * (first / 64)) (omega arith);
       }
     where
       carry : (n : ℕ) → n ≤ first → 0 ≡ before (present s) n
       carry zero b = sym (before_none (present s))
       carry (suc g) b = let e : suc g ≡ g + 1 = omega arith in rw (e, before_more (present s) g, absent_before s first last spans g (omega arith) (omega arith))
 
-  module _ {at prior count : ℕ} (i : Counting s first last at prior count) where
-    pub fits : last < 65536 → at < 8 * (last / 64) + 8 → at + 8 ≤ length s
-    fits l t = omega (arith, i.long, i.whole)
+  module _ {k prior count : ℕ} (i : Counting s first last k prior count) where
+    pub fits : last < 65536 → k < last / 64 + 1 → 8 * k + 8 ≤ length s
+    fits l t = omega (arith, i.long)
 
-    pub added : (w n : ℕ) → WordOf s (8 * at) w → n ≡ starts_in 64 w (prior / 2 ^ 63) → count + n ≡ starts_below s (8 * (at + 8))
+    pub added : (w n : ℕ) → WordOf s (64 * k) w → n ≡ starts_in 64 w (prior / 2 ^ 63) → count + n ≡ starts_below s (64 * (k + 1))
     added w n h q =
         ap₂ (λ (x y : ℕ). x + y) i.counted (q ∙ ap (starts_in 64 w) i.carried)
-        ∙ sym (starts_more (member s) 64 (8 * at) w h)
+        ∙ sym (starts_more (member s) 64 (64 * k) w h)
         ∙ ap (starts_below s) (omega arith)
 
-    pub small : (w n : ℕ) → last < 65536 → at < 8 * (last / 64) + 8 → WordOf s (8 * at) w → n ≡ starts_in 64 w (prior / 2 ^ 63) → count + n ≤ 65536
-    small w n l t h q = omega (arith, i.whole, added w n h q, sum_bound (start (member s)) 1 (8 * (at + 8)) (λ g b. start_le s g))
+    pub small : (w n : ℕ) → last < 65536 → k < last / 64 + 1 → WordOf s (64 * k) w → n ≡ starts_in 64 w (prior / 2 ^ 63) → count + n ≤ 65536
+    small w n l t h q = omega (arith, added w n h q, sum_bound (start (member s)) 1 (64 * (k + 1)) (λ g b. start_le s g))
 
-    pub turn_counting : (w n : ℕ) → w < 2 ^ 64 → last < 65536 → at < 8 * (last / 64) + 8 → WordOf s (8 * at) w → n ≡ starts_in 64 w (prior / 2 ^ 63) → Counting s first last (at + 8) w (count + n)
+    pub turn_counting : (w n : ℕ) → w < 2 ^ 64 → last < 65536 → k < last / 64 + 1 → WordOf s (64 * k) w → n ≡ starts_in 64 w (prior / 2 ^ 63) → Counting s first last (k + 1) w (count + n)
     turn_counting w n b l t h q =
         record {
           long = i.long;
           spans = i.spans;
-          whole = omega (arith, i.whole);
-          most = omega (arith, i.whole);
+          most = omega arith;
           counted = added w n h q;
           carried = top;
         }
       where
-        top : w / 2 ^ 63 ≡ before (present s) (8 * (at + 8))
+        top : w / 2 ^ 63 ≡ before (present s) (64 * (k + 1))
         top =
-            let e : 8 * (at + 8) ≡ 8 * at + 63 + 1 = omega arith in
+            let e : 64 * (k + 1) ≡ 64 * k + 63 + 1 = omega arith in
             let d : w / 2 ^ 63 < 2 = omega arith in
             let m : w / 2 ^ 63 % 2 ≡ w / 2 ^ 63 = omega arith in
-            rw (e, before_more (present s) (8 * at + 63), h 63 (lit< tt), m) (digit (w / 2 ^ 63) d)
+            rw (e, before_more (present s) (64 * k + 63), h 63 (lit< tt), m) (digit (w / 2 ^ 63) d)
 
-    pub stop_counting : 8 * (last / 64) + 8 ≤ at → count ≡ run_count s
+    pub stop_counting : last / 64 + 1 ≤ k → count ≡ run_count s
     unfolding run_count
     stop_counting t =
-        let all : 8 * at + (65536 - 8 * at) ≡ 65536 = omega (arith, i.most) in
+        let all : 64 * k + (65536 - 64 * k) ≡ 65536 = omega (arith, i.most) in
         i.counted
-        ∙ sym (sum_zeros (start (member s)) (8 * at) (65536 - 8 * at) (λ g b. absent_start s (8 * at + g) (absent_behind s first last i.spans (8 * at + g) (omega (arith, i.most)) (omega arith))))
+        ∙ sym (sum_zeros (start (member s)) (64 * k) (65536 - 64 * k) (λ g b. absent_start s (64 * k + g) (absent_behind s first last i.spans (64 * k + g) (omega (arith, i.most)) (omega arith))))
         ∙ ap (starts_below s) all
         ∙ sym (rw (members_alone s) (run-starts (member s) (λ k. 0) 65536))

@@ -14,7 +14,7 @@ pub fn contains(set: &[u8], glyph: u16) -> bool
     requires { 8192 ≤ length set.now }
     ensures { result ≡ member set.now glyph }
 {
-    let at = (glyph / 8) as usize;
+    let at = usize::from(glyph / 8);
     (set[at] >> (glyph % 8)) & 1 == 1
 }
 
@@ -23,8 +23,8 @@ pub fn insert(set: &mut [u8], glyph: u16)
     requires { 8192 ≤ length set.old }
     ensures { left set ≡ mark (came set) glyph }
 {
-    let at = (glyph / 8) as usize;
-    set[at] = set[at] | (1u8 << (glyph % 8));
+    let at = usize::from(glyph / 8);
+    set[at] |= 1 << (glyph % 8);
 }
 
 // Empties the glyph's byte: done for each glyph that was put in, it empties the set.
@@ -32,7 +32,7 @@ pub fn clear_byte(set: &mut [u8], glyph: u16)
     requires { 8192 ≤ length set.old }
     ensures { left set ≡ blank (came set) glyph }
 {
-    let at = (glyph / 8) as usize;
+    let at = usize::from(glyph / 8);
     set[at] = 0;
 }
 
@@ -71,5 +71,5 @@ fn present(set: &[u8], glyph: u16) -> usize
     requires { 8192 ≤ length set.now }
     ensures { result ≡ present set.now glyph }
 {
-    contains(set, glyph) as usize
+    usize::from(contains(set, glyph))
 }

@@ -10,44 +10,30 @@ pub fn run_count(set: &[u8], first: u16, last: u16) -> usize
     requires spans { Spans set.now first last }
     ensures { result ≡ run_count set.now }
 {
-    let end = 8 * ((last / 64) as usize) + 8;
-    let mut at = 8 * ((first / 64) as usize);
+    let end = usize::from(last / 64) + 1;
     let mut prior: u64 = 0;
     let mut count: usize = 0;
-    while at < end {
-        let word = word_at(set, at);
+    for k in usize::from(first / 64)..end {
+        let word = word_at(set, k);
         count += starts(word, prior);
         prior = word;
-        at += 8;
     }
     count
 }
 
-// The word of the eight bytes from byte `at` on.
-fn word_at(set: &[u8], at: usize) -> u64
-    requires { at + 8 ≤ length set.now }
-    ensures { WordOf set.now (8 * at) result }
+// Word `k`: eight bytes, of which the first has the lowest glyphs.
+fn word_at(set: &[u8], k: usize) -> u64
+    requires { 8 * k + 8 ≤ length set.now }
+    ensures { WordOf set.now (64 * k) result }
 {
-    wide(set[at])
-        + 0x100 * wide(set[at + 1])
-        + 0x1_0000 * wide(set[at + 2])
-        + 0x100_0000 * wide(set[at + 3])
-        + 0x1_0000_0000 * wide(set[at + 4])
-        + 0x100_0000_0000 * wide(set[at + 5])
-        + 0x1_0000_0000_0000 * wide(set[at + 6])
-        + 0x100_0000_0000_0000 * wide(set[at + 7])
-}
-
-// A byte as a part of a word.
-fn wide(x: u8) -> u64
-    ensures { (result ≡ x) × (result < 256) }
-{
-    x as u64
+    let mut bytes = [0; 8];
+    bytes.copy_from_slice(&set[8 * k..8 * k + 8]);
+    u64::from_le_bytes(bytes)
 }
 
 // How many runs start in a word, behind the word `prior`, whose highest bit is carried over.
 fn starts(word: u64, prior: u64) -> usize
     ensures { result ≡ starts_in 64 word (prior / 2 ^ 63) }
 {
-    u64::count_ones(word & !((word << 1) | (prior >> 63))) as usize
+    (word & !((word << 1) | (prior >> 63))).count_ones() as usize
 }

@@ -1,9 +1,9 @@
 -- In the old store: the split table is neither the list nor a lookup of it, and it reaches no lookup that is rewritten. Assumes nothing.
+use Rattle.std.specs.Prelude.{Some}
 use Prim.Native.Nat.{ℕ, ◌+◌, ◌*◌, ◌<◌, ◌≤◌}
 use mathlib.Core.Path.{◌≡◌, sym, ap, subst, ◌∙◌}
 use mathlib.Core.Bool.{true, false}
 use mathlib.Core.Logic.{⊎_elim}
-use mathlib.Core.Option.{some}
 use native.Mathlib.Omega.{arith}
 use lib.ListN.{length}
 use lib.Dec.{eqb}
@@ -45,7 +45,7 @@ pub record Listed (s : Store) (t p : ℕ) : Type 0 where
 -- one that is rewritten
 pub record Named (s : Store) (t p : ℕ) : Type 0 where
   pub lists : Listed s t p
-  pub naming : (q : ℕ) × (child_at s p q ≡ some t)
+  pub naming : (q : ℕ) × (child_at s p q ≡ Some t)
 
 module _ (s : Store) (l t : ℕ) (fine : bad_list s l t ≡ false) (fit : Fits s) (r : Reads s t) where
   -- a pair table is longer than a list whose count is its format

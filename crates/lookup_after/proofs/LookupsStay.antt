@@ -1,9 +1,9 @@
 -- After a split the other objects' slots lead where they led: lookups to rewrite give the same new lookups before and after it. Assumes nothing.
+use Rattle.std.specs.Prelude.{Option}
 use Prim.Native.Nat.{ℕ, ◌+◌, ◌*◌, ◌<◌}
 use mathlib.Core.Path.{◌≡◌, sym, ap, ap₂, subst, ◌∙◌}
 use mathlib.Core.Bool.{true, ◌&&◌}
 use mathlib.Core.List.{List}
-use mathlib.Core.Option.{Option}
 use lib.ListN.{length, get_or}
 use Rattle.folds.proofs.Tests.{and_both, and_intro}
 use Rattle.folds.proofs.Folds.{upto-same}

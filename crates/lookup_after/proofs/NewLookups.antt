@@ -1,8 +1,8 @@
 -- The store after new tables are entered: the split's objects, where links lead, and the new lookups. Assumes nothing.
+use Rattle.std.specs.Prelude.{Option, Some, None}
 use Prim.Native.Nat.{ℕ, ◌+◌, ◌*◌, ◌<◌, ◌≤◌}
 use mathlib.Core.Path.{◌≡◌, refl, sym, ap, ◌∙◌}
 use mathlib.Core.List.{List, [], map}
-use mathlib.Core.Option.{Option, some, none}
 use native.Mathlib.Omega.{arith}
 use lib.ListN.{length, get_or, length-append}
 use Rattle.folds.specs.Folds.{sum, or_else}
@@ -149,14 +149,14 @@ module _ (s : Store) (l t : ℕ) (cs : List ℕ) (e : Entering s l t cs) where
       ∙ ap (mapped (redirect n ps)) (lookup_append (links_of s') more i q)
 
   -- no link of another object is among those of new lookup m
-  none_of : (m i q : ℕ) → (n + m ≡ i → ⊥) → lookup (subtable_links (n + m) (slots m)) i q ≡ none
-  none_of m i q ne = slot_none (n + m) lookup_header 2 (λ k. get_or (slots m) k none) (length (slots m)) i q ne
+  none_of : (m i q : ℕ) → (n + m ≡ i → ⊥) → lookup (subtable_links (n + m) (slots m)) i q ≡ None
+  none_of m i q ne = slot_none (n + m) lookup_header 2 (λ k. get_or (slots m) k None) (length (slots m)) i q ne
 
   -- "every link to the old lookup then leads to the new one"
   pub split_child : (i q : ℕ) → i < n → child_at s'' i q ≡ mapped (redirect n ps) (child_at s' i q)
   unfolding new_lookup_links
   split_child i q h =
-      let none-new : lookup more i q ≡ none
+      let none-new : lookup more i q ≡ None
       = lookup_none_flat (λ m. subtable_links (n + m) (slots m)) (length ps) i q (λ m k. none_of m i q (λ z. omega arith)) in
       child_is i q
       ∙ ap (λ (o : Option ℕ). mapped (redirect n ps) (or_else (child_at s' i q) o)) none-new
@@ -173,14 +173,14 @@ module _ (s : Store) (l t : ℕ) (cs : List ℕ) (e : Entering s l t cs) where
       ap (λ (x : Store). bytes_of x (n + m)) s''_is ∙ behind.new_bytes s' new links room m (omega (arith, many_lookups)) ∙ lookup_is m h
 
   -- no old link is theirs
-  none_old : (m q : ℕ) → child_at s' (n + m) q ≡ none
+  none_old : (m q : ℕ) → child_at s' (n + m) q ≡ None
   none_old m q = go (child_at s' (n + m) q) refl
     where
-      go : (o : Option ℕ) → child_at s' (n + m) q ≡ o → o ≡ none
-      go none h = refl
-      go (some c) h = let (k, a, b, d, f) = child_row s' (n + m) q c h in absurd (omega (arith, of_parent (n + m) (link_at s' k) b, (fit'.link k a).parent_used))
+      go : (o : Option ℕ) → child_at s' (n + m) q ≡ o → o ≡ None
+      go None h = refl
+      go (Some c) h = let (k, a, b, d, f) = child_row s' (n + m) q c h in absurd (omega (arith, of_parent (n + m) (link_at s' k) b, (fit'.link k a).parent_used))
 
-  lookup_child : (m i : ℕ) → m < length ps → i < length (slots m) → child_at s'' (n + m) (lookup_header + 2 * i) ≡ mapped (redirect n ps) (get_or (slots m) i none)
+  lookup_child : (m i : ℕ) → m < length ps → i < length (slots m) → child_at s'' (n + m) (lookup_header + 2 * i) ≡ mapped (redirect n ps) (get_or (slots m) i None)
   unfolding new_lookup_links
   lookup_child m i h k =
       let q = lookup_header + 2 * i in
@@ -188,7 +188,7 @@ module _ (s : Store) (l t : ℕ) (cs : List ℕ) (e : Entering s l t cs) where
       ∙ ap (λ (o : Option ℕ). mapped (redirect n ps) (or_else o (lookup more (n + m) q))) (none_old m q)
       ∙ ap (mapped (redirect n ps))
       (lookup_piece (λ m. subtable_links (n + m) (slots m)) (length ps) m (n + m) q h (λ j ne. none_of j (n + m) q (λ z. ne (omega arith)))
-      ∙ slot_at (n + m) lookup_header 2 (λ k. get_or (slots m) k none) (omega arith) (length (slots m)) i k)
+      ∙ slot_at (n + m) lookup_header 2 (λ k. get_or (slots m) k None) (omega arith) (length (slots m)) i k)
 
   pub lookup_long : (m : ℕ) → m < length ps → lookup_header + 2 * subtable_count (bytes_of s (p m)) ≤ length (bytes_of s (p m))
   lookup_long m h = exact_long (bytes_of s (p m)) (named m h).lists.exactly
@@ -199,6 +199,6 @@ module _ (s : Store) (l t : ℕ) (cs : List ℕ) (e : Entering s l t cs) where
       let r = mapped (redirect n ps) in
       ap (λ (b : List ℕ). slots_at s'' (n + m) lookup_header (subtable_count b)) (lookup_bytes m h)
       ∙ ap (slots_at s'' (n + m) lookup_header) (new_count_lem (bytes_of s (p m)) (length (slots m)) (lookup_long m h))
-      ∙ upto-same (λ i. child_at s'' (n + m) (lookup_header + 2 * i)) (λ i. r (get_or (slots m) i none)) (length (slots m)) (λ i k. lookup_child m i h k)
-      ∙ sym (map-upto r (λ i. get_or (slots m) i none) (length (slots m)))
-      ∙ ap (map r) (upto_get_d (slots m) none)
+      ∙ upto-same (λ i. child_at s'' (n + m) (lookup_header + 2 * i)) (λ i. r (get_or (slots m) i None)) (length (slots m)) (λ i k. lookup_child m i h k)
+      ∙ sym (map-upto r (λ i. get_or (slots m) i None) (length (slots m)))
+      ∙ ap (map r) (upto_get_d (slots m) None)

@@ -1,8 +1,8 @@
 -- The links before redirection: those of the split, then those of the new lookups. They ascend, and each leads to an object of the split. Assumes nothing.
+use Rattle.std.specs.Prelude.{Option, Some, None}
 use Prim.Native.Nat.{ℕ, ◌+◌, ◌<◌, ◌≤◌}
 use mathlib.Core.Path.{◌≡◌}
 use mathlib.Core.List.{List, ◌++◌}
-use mathlib.Core.Option.{Option, some, none}
 use native.Mathlib.Omega.{arith}
 use lib.ListN.{length, get_or}
 use Rattle.folds.proofs.Each.{Each, each_upto}
@@ -57,7 +57,7 @@ module _ (s : Store) (l t : ℕ) (cs : List ℕ) (e : Entering s l t cs) where
       each_upto (λ c. c < n) (new_number s (per_table (shape s t))) (length cs)
       (λ j k. omega (arith, new_used s t cs e.ready j 0 k (omega (arith, per_two (bytes_of s t)))))
 
-  pub slot_used : (m i c : ℕ) → i < length (slots m) → get_or (slots m) i none ≡ some c → c < n
+  pub slot_used : (m i c : ℕ) → i < length (slots m) → get_or (slots m) i None ≡ Some c → c < n
   slot_used = any.slot_used s t us ps s' e.ready.fit fit' old_used tables_used e.counts
 
   pub old_links : Each (Old n) unled

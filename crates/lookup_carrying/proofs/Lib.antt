@@ -2,3 +2,4 @@ mod AllLinks
 mod Entered
 mod Steps
 mod CarryAll
+mod NeedsMeasured

@@ -1,6 +1,8 @@
 -- What a split and its lookups need, counted. Assumes nothing.
-use Rattle.std.specs.Prelude.{ℕ, ◌≤◌, ◌≡◌, List, length}
+use Rattle.std.specs.Prelude.{ℕ, ◌≤◌, ◌≡◌, true, false, List, length, Result, Ok, Err}
 use Rattle.store_rules.specs.Store.{Store}
+use Rattle.call_rules.specs.declared.Answer.{Answer}
+use Rattle.call_rules.specs.declared.Answer.TheVariants.{ManySubtables}
 use Rattle.pair_rules.specs.Written.{new_tables}
 use Rattle.pair_checks.specs.declared.PairTable.{PairTable}
 use Rattle.pair_carrying.specs.Arranging.{Arranging}
@@ -17,7 +19,12 @@ pub record MeasuringAll (s : Store) (t : ℕ) (p : PairTable) (gs ks cs ps : Lis
   pub short : length ps ≤ 65536
 
 -- the covered glyphs are arranged, and both are measured
-pub record MeasuredAll (s : Store) (t : ℕ) (gs ks cs ps : List ℕ) (m : Measures) : Type 0 where
+pub record BothMeasured (s : Store) (t : ℕ) (gs ks cs ps : List ℕ) (m : Measures) : Type 0 where
   pub split : Measured s t gs ks cs m.split
-  pub fits : m.fits ≡ counts_fit s t (new_tables s t cs) ps
+  pub fits : counts_fit s t (new_tables s t cs) ps ≡ true
   pub lookups : m.lookups ≡ lookups_need s t (new_tables s t cs) ps
+
+-- or one of the lookups would have more subtables than its count can say, which is 10
+pub record MeasuredAll (s : Store) (t : ℕ) (gs ks cs ps : List ℕ) (r : Result Measures Answer) : Type 0 where
+  pub refuses : (a : Answer) → r ≡ Err a → (a ≡ ManySubtables) × (counts_fit s t (new_tables s t cs) ps ≡ false)
+  pub measures : (m : Measures) → r ≡ Ok m → BothMeasured s t gs ks cs ps m

@@ -3,20 +3,20 @@ ghost use Rattle.folds.specs.Moments.{left};
 ghost use Rattle.store_rules.specs.Moments.{store_came_with, store_now_with};
 ghost use Rattle.lookup_carrying.specs.Measuring.{MeasuringAll, MeasuredAll};
 
-use call_rules::Needs;
+use call_rules::{Answer, Needs};
 use lookup_new_objects::measure;
 use pair_carrying::measuring::measure_needs;
 use pair_checks::PairTable;
 
-// What the split needs, what its lookups need, and whether none of these has more subtables than its count can say.
+// What the split needs, and what its lookups need.
 #[derive(Clone, Copy)]
 pub struct Measures {
-    pub fits: bool,
     pub split: Needs,
     pub lookups: Needs,
 }
 
 // Arranges the covered glyphs of a table by the tables that `cuts` make of it, and measures these and the lookups that they are entered in.
+// It is refused where one of the lookups would have more subtables than its count can say.
 pub fn measure_all(
     data: &[u8],
     objects: &[u32],
@@ -28,16 +28,14 @@ pub fn measure_all(
     glyphs: &mut [u16],
     classes: &mut [u16],
     cuts: &[u16],
-) -> Measures
+) -> Result<Measures, Answer>
     requires { MeasuringAll (store_now_with «data» objects links counts) table opened glyphs.old classes.old cuts.now lookups.now }
     ensures { MeasuredAll (store_came_with «data» objects links counts) table (left glyphs) (left classes) cuts.now lookups.now result }
 {
     let split = measure_needs(data, objects, opened, glyphs, classes, cuts);
-    let extent = measure(data, objects, links, counts, table, cuts.len(), lookups);
-    let needed = extent.needs;
-    Measures {
-        fits: extent.fits,
+    let needed = measure(data, objects, links, counts, table, cuts.len(), lookups)?;
+    Ok(Measures {
         split,
         lookups: needed,
-    }
+    })
 }

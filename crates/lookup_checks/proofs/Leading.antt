@@ -1,28 +1,34 @@
 -- Rows one behind the other that are looked through for a child. Assumes nothing.
-use Prim.Native.Nat.{ℕ, ◌+◌, ◌≤◌, ◌<◌}
+use Prim.Native.Nat.{ℕ, zero, suc, ◌+◌, ◌<◌}
 use mathlib.Core.Path.{◌≡◌, refl, sym, ap, subst, ◌∙◌}
-use mathlib.Core.Bool.{true, false}
+use mathlib.Core.Bool.{Bool, true, false}
 use native.Mathlib.Omega.{arith}
+use lib.ListN.{length}
 use borrow.Author.Tests.{ne_eqb}
+use Rattle.std.specs.Bool.{MatchBool}
+use Rattle.std.specs.List.{range_with_len, AllWithin, HoldsAt}
+use Rattle.std.proofs.lemmas.List.FromFn.{length-range_with_len, get_or-range_with_len}
 use Rattle.folds.specs.Folds.{flat, upto}
 use Rattle.folds.specs.Lists.{among}
 use Rattle.folds.proofs.Among.{among-more, among-at}
 
-module _ (f : ℕ → ℕ) (x n : ℕ) where
-  -- x is none of the first i
-  pub record Unmet (i : ℕ) : Type 0 where
-    pub upto-n : i ≤ n
-    pub unmet : among x (upto f i) ≡ false
-
-  pub start : Unmet 0
+module _ (f : ℕ → ℕ) (x : ℕ) where
+  -- x is none of the first n
+  none_met : (n : ℕ) → ((i : ℕ) → i < n → f i ≡ x → ⊥) → among x (upto f n) ≡ false
   unfolding flat among
-  start = record { upto-n = omega arith; unmet = refl }
+  none_met zero h = refl
+  none_met (suc n) h =
+      let e : n + 1 ≡ suc n = omega arith in
+      ap (λ (m : ℕ). among x (upto f m)) (sym e) ∙ among-more f x n
+      ∙ rw (none_met n (λ i l. h i (omega arith)), ne_eqb x (f n) (λ e. h n (omega arith) (sym e)))
 
-  pub turn : {i : ℕ} → Unmet i → i < n → (f i ≡ x → ⊥) → Unmet (i + 1)
-  turn {i} w h ne = record { upto-n = omega arith; unmet = among-more f x i ∙ rw (w.unmet, ne_eqb x (f i) (λ e. ne (sym e))) }
-
-  pub stop : {i : ℕ} → Unmet i → n ≤ i → false ≡ among x (upto f n)
-  stop {i} w h = let e : i ≡ n = omega (arith, w.upto-n) in sym w.unmet ∙ ap (λ (k : ℕ). among x (upto f k)) e
-
-  pub met : (i : ℕ) → i < n → f i ≡ x → true ≡ among x (upto f n)
-  met i h e = sym (subst (λ (y : ℕ). among y (upto f n) ≡ true) e (among-at f n i h))
+-- whether one of the n rows from a on leads to x
+pub led_to : (f : ℕ → ℕ) (x a n : ℕ) (r : Bool)
+    → MatchBool r ((k : ℕ) × (k < length (range_with_len a n)) × HoldsAt (λ y. f y ≡ x) (range_with_len a n) k) (AllWithin (λ y. f y ≡ x → ⊥) (range_with_len a n) 0 (length (range_with_len a n)))
+    → r ≡ among x (upto (λ i. f (a + i)) n)
+led_to f x a n true (k, h, e) =
+    let low : k < n = omega (arith, length-range_with_len a n) in
+    let here : f (a + k) ≡ x = ap f (sym (get_or-range_with_len a n k 0 low)) ∙ e 0 in
+    sym (subst (λ (y : ℕ). among y (upto (λ i. f (a + i)) n) ≡ true) here (among-at (λ i. f (a + i)) n k low))
+led_to f x a n false h =
+    sym (none_met (λ i. f (a + i)) x n (λ i l e. h i 0 (omega arith) (omega (arith, length-range_with_len a n)) (ap f (get_or-range_with_len a n i 0 l) ∙ e)))

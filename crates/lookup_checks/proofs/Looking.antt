@@ -1,7 +1,7 @@
 -- Rows whose lookups are looked at, each that has a place once: those before i have been, and what has a mark is one of theirs. Assumes nothing.
 use Prim.Native.Nat.{ℕ, ◌+◌, ◌≤◌, ◌<◌}
 use mathlib.Core.Path.{◌≡◌, refl, sym, ap, subst, ◌∙◌}
-use mathlib.Core.Bool.{Bool, true, false, not, ◌&&◌}
+use mathlib.Core.Bool.{Bool, true, false, not, ◌&&◌, ◌||◌}
 use mathlib.Core.List.{List}
 use mathlib.Core.Logic.{⊎_elim}
 use native.Mathlib.Omega.{arith}
@@ -12,12 +12,20 @@ use lib.Seq.{get_or-set_other}
 use lib.Dec.{eqb}
 use borrow.Author.Tests.{eqb-false, not-true}
 use Rattle.folds.specs.Folds.{all}
-use Rattle.folds.proofs.Tests.{either, and_first}
+use Rattle.folds.proofs.Tests.{either, by_test, and_first}
 use Rattle.folds.proofs.Folds.{all_none, all_more, all_at_lem, all_fails}
 use Rattle.store_rules.specs.Store.{Store}
 use Rattle.lookup_rules.specs.Listed.{good_lookup}
 use Rattle.lookup_checks.specs.Marks.{MarkedOnce}
 use Rattle.lookup_checks.specs.Rows.{to_rewrite, fit_and_name}
+
+or_true : (b : Bool) → (b || true) ≡ true
+or_true true = refl
+or_true false = refl
+
+or_false : (b : Bool) → (b || false) ≡ b
+or_false true = refl
+or_false false = refl
 
 -- where an index adds nothing
 all-keeps : (p : ℕ → Bool) (i : ℕ) → (all p i ≡ true → p i ≡ true) → all p (i + 1) ≡ all p i
@@ -90,7 +98,7 @@ module _ (s : Store) (t : ℕ) (lead : ℕ → ℕ) (n size : ℕ) where
 
       -- it fits
       module _ (good : good_lookup s (lead i) ≡ true) {y : Bool} (f : y ≡ to_rewrite s t (lead i)) where
-        pub one_named : y ≡ true → Looked next true (i + 1)
+        one_named : y ≡ true → Looked next true (i + 1)
         one_named z =
             record {
               upto = omega arith;
@@ -100,7 +108,7 @@ module _ (s : Store) (t : ℕ) (lead : ℕ → ℕ) (n size : ℕ) where
               seen = marked_one;
             }
 
-        pub one_other : y ≡ false → Looked next named (i + 1)
+        one_other : y ≡ false → Looked next named (i + 1)
         one_other z =
             record {
               upto = omega arith;
@@ -109,6 +117,9 @@ module _ (s : Store) (t : ℕ) (lead : ℕ → ℕ) (n size : ℕ) where
               naming = w.naming ∙ ap not (sym (all-keeps passes i (λ a. ap not (sym f ∙ z))));
               seen = marked_one;
             }
+
+        pub one_more : Looked next (named || y) (i + 1)
+        one_more = by_test y (λ z. rw (z, or_true named) (one_named z)) (λ z. rw (z, or_false named) (one_other z))
 
   pub stop : {marks : List ℕ} {named : Bool} {i : ℕ} → Looked marks named i → n ≤ i → named ≡ fit_and_name s t lead n
   stop {i = i} w h =

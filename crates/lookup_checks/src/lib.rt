@@ -13,7 +13,6 @@ ghost use Rattle.lookup_checks.specs.Rows.{RowsUsed, row_count, leads_at, fit_an
 
 use crate::fitting::{is_rewritten, list_fits, lookup_fits};
 use crate::marks::was_marked;
-use buffers::{clear_u32, lesser};
 use store_reader::{CHILD, LinkRows, PER_LINK, rows_of};
 
 // Whether 9 does not apply. A lookup that has a place in the walk is looked at once, one that has none as often as it is listed: then the walk is too short
@@ -34,7 +33,7 @@ pub fn check_list(
         return false;
     }
     let rows = rows_of(links, counts[2] as usize, list);
-    let most = lesser(counts[1] as usize, walk.len());
+    let most = (counts[1] as usize).min(walk.len());
     lookups_fit(data, objects, links, counts, rows, table, &mut walk[..most])
 }
 
@@ -51,26 +50,17 @@ fn lookups_fit(
     requires { RowsUsed (store_now_with «data» objects links counts) rows }
     ensures { result ≡ fit_and_name (store_came_with «data» objects links counts) table (leads_at links.now rows) (row_count rows) }
 {
-    clear_u32(marks);
-    let first = rows.first;
-    let count = rows.after - first;
+    marks.fill(0);
     let mut named = false;
-    let mut i: usize = 0;
-    while i < count {
-        let lookup = links[PER_LINK * (first + i) + CHILD];
+    for i in 0..rows.after - rows.first {
+        let lookup = links[PER_LINK * (rows.first + i) + CHILD];
         if was_marked(marks, lookup) {
-            i += 1;
-        } else {
-            if !lookup_fits(data, objects, links, counts, lookup) {
-                return false;
-            }
-            if is_rewritten(data, objects, links, counts, lookup, table) {
-                named = true;
-                i += 1;
-            } else {
-                i += 1;
-            }
+            continue;
         }
+        if !lookup_fits(data, objects, links, counts, lookup) {
+            return false;
+        }
+        named |= is_rewritten(data, objects, links, counts, lookup, table);
     }
     named
 }

@@ -9,7 +9,6 @@ ghost use Rattle.lookup_checks.specs.Ordered.{chosen, Orderable, Ordered};
 
 use crate::fitting::is_rewritten;
 use crate::marks::{put_lookup, was_marked};
-use buffers::clear_u32;
 use store_reader::{CHILD, LinkRows, PER_LINK, rows_of};
 
 // How many lookups of the list are to be rewritten. Their marks stand in the walk's first half, and they themselves, in the list's order, behind it.
@@ -29,7 +28,7 @@ pub fn order_lookups(
 {
     let rows = rows_of(links, counts[2] as usize, list);
     let marks = counts[1] as usize;
-    clear_u32(&mut walk[..marks]);
+    walk[..marks].fill(0);
     order_rows(data, objects, links, counts, rows, table, walk)
 }
 
@@ -48,23 +47,17 @@ fn order_rows(
     ensures { Ordered (get_or counts 1 0) (chosen (store_came_with «data» objects links counts) table (leads_at links.now rows) (row_count rows)) (left walk) result }
 {
     let marks = counts[1] as usize;
-    let first = rows.first;
-    let count = rows.after - first;
     let mut found: usize = 0;
-    let mut i: usize = 0;
-    while i < count {
-        let lookup = links[PER_LINK * (first + i) + CHILD];
+    for i in 0..rows.after - rows.first {
+        let lookup = links[PER_LINK * (rows.first + i) + CHILD];
         if was_marked(walk, lookup) {
-            i += 1;
-        } else {
-            if is_rewritten(data, objects, links, counts, lookup, table) {
-                put_lookup(walk, marks, found, lookup);
-                found += 1;
-                i += 1;
-            } else {
-                i += 1;
-            }
+            continue;
         }
+        if !is_rewritten(data, objects, links, counts, lookup, table) {
+            continue;
+        }
+        put_lookup(walk, marks, found, lookup);
+        found += 1;
     }
     found
 }

@@ -1,9 +1,9 @@
 -- The links of a new lookup by the rows of its old one are those by its slots. Assumes nothing.
+use Rattle.std.specs.Prelude.{Option, Some, None}
 use Prim.Native.Nat.{ℕ, suc, ◌+◌, ◌*◌, ◌<◌}
 use mathlib.Core.Path.{◌≡◌, refl, sym, ap, ap₂, ◌∙◌}
 use mathlib.Core.Bool.{Bool, true, false, cond}
 use mathlib.Core.List.{List, [], ◌∷◌, ◌++◌, map, append_assoc}
-use mathlib.Core.Option.{Option, some, none}
 use native.Mathlib.Omega.{arith}
 use lib.ListN.{length, get_or}
 use lib.Dec.{eqb}
@@ -27,16 +27,16 @@ module _ (u : ℕ) where
   links_at q [] = []
   links_at q (o ∷ os) = slot_link u q o ++ links_at (q + 2) os
 
-  slots_front_lem : (q : ℕ) (os : List (Option ℕ)) → slot_links u q 2 (λ i. get_or os i none) (length os) ≡ links_at q os
+  slots_front_lem : (q : ℕ) (os : List (Option ℕ)) → slot_links u q 2 (λ i. get_or os i None) (length os) ≡ links_at q os
   unfolding slot_links flat links_at
   slots_front_lem q [] = refl
   slots_front_lem q (o ∷ os) =
-      let f : ℕ → List Link = λ k. slot_link u (q + 2 * k) (get_or (o ∷ os) k none) in
+      let f : ℕ → List Link = λ k. slot_link u (q + 2 * k) (get_or (o ∷ os) k None) in
       let z : q + 2 * 0 ≡ q = omega arith in
       flat-cons f (length os)
       ∙ ap₂ (λ (x y : List Link). x ++ y) (ap (λ (n : ℕ). slot_link u n o) z)
-      (flat-same (λ j. f (suc j)) (λ j. slot_link u (q + 2 + 2 * j) (get_or os j none)) (length os)
-      (λ j l. let e : q + 2 * suc j ≡ q + 2 + 2 * j = omega arith in ap (λ (n : ℕ). slot_link u n (get_or os j none)) e)
+      (flat-same (λ j. f (suc j)) (λ j. slot_link u (q + 2 + 2 * j) (get_or os j None)) (length os)
+      (λ j l. let e : q + 2 * suc j ≡ q + 2 + 2 * j = omega arith in ap (λ (n : ℕ). slot_link u n (get_or os j None)) e)
       ∙ slots_front_lem (q + 2) os)
 
   at_append : (q : ℕ) (xs ys : List (Option ℕ)) → links_at q (xs ++ ys) ≡ links_at q xs ++ links_at (q + 2 * length xs) ys
@@ -47,7 +47,7 @@ module _ (u : ℕ) where
       ap (λ (r : List Link). slot_link u q x ++ r) (at_append (q + 2) xs ys ∙ ap (λ (n : ℕ). links_at (q + 2) xs ++ links_at n ys) z)
       ∙ sym (append_assoc (slot_link u q x) (links_at (q + 2) xs) (links_at (q + 2 * suc (length xs)) ys))
 
-  tables_front : (q : ℕ) (us : List ℕ) → links_at q (map some us) ≡ new_table_links us u q
+  tables_front : (q : ℕ) (us : List ℕ) → links_at q (map Some us) ≡ new_table_links us u q
   unfolding links_at slot_link flat
   tables_front q [] = refl
   tables_front q (v ∷ us) =
@@ -61,7 +61,7 @@ module _ (u : ℕ) where
   module _ (t : ℕ) (us : List ℕ) where
     -- what stands in the new lookup behind a slot that leads to t, or does not, and before which these stand in the old one
     abbrev entered_behind : List (Option ℕ) → Bool → List (Option ℕ)
-    entered_behind os b = cond b (map some us ++ entered t us os) (entered t us os)
+    entered_behind os b = cond b (map Some us ++ entered t us os) (entered t us os)
 
     by_rows : {a : ℕ} {ls : List Link} {os : List (Option ℕ)} → Filled a ls os → (up : ℕ) → links_at (a + 2 * up) (entered t us os) ≡ links_entered t us u up ls
     unfolding links_at entered links_entered link_entered slot_link
@@ -76,8 +76,8 @@ module _ (u : ℕ) where
         go : (q : ℕ) → q ≡ a + 2 + 2 * up → (b : Bool) → ((k : ℕ) → links_at (a + 2 + 2 * k) (entered t us os) ≡ links_entered t us u k ls)
             → links_at q (entered_behind os b) ≡ cond b (new_table_links us u q) [] ++ links_entered t us u (cond b (up + length us) up) ls
         go q z true later =
-            let new : List (Option ℕ) = map some us in
-            let w : q + 2 * length new ≡ a + 2 + 2 * (up + length us) = omega (arith, length-map some us) in
+            let new : List (Option ℕ) = map Some us in
+            let w : q + 2 * length new ≡ a + 2 + 2 * (up + length us) = omega (arith, length-map Some us) in
             at_append q new (entered t us os)
             ∙ ap₂ (λ (x y : List Link). x ++ y) (tables_front q us) (ap (λ (n : ℕ). links_at n (entered t us os)) w ∙ later (up + length us))
         go q z false later = ap (λ (n : ℕ). links_at n (entered t us os)) z ∙ later up

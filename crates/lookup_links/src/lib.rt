@@ -25,10 +25,8 @@ fn put_tables(links: &mut [u32], at: usize, parent: u32, position: u32, tables: 
     requires tables_bound { position + 2 * length tables.now ≤ 4294967296 }
     ensures { Copied (came links) at (new_table_links tables.now parent position) (left links) result }
 {
-    let mut j = 0;
-    while j < tables.len() {
+    for j in 0..tables.len() {
         put_link(links, at + j, parent, position + 2 * (j as u32), tables[j]);
-        j += 1;
     }
     at + tables.len()
 }
@@ -71,11 +69,9 @@ fn enter_lookup(
 {
     let rows = rows_of(links, counts[2] as usize, lookup);
     let mut next = at;
-    let mut k = rows.first;
-    while k < rows.after {
+    for k in rows.first..rows.after {
         let entered = (next - at) - (k - rows.first);
         next = enter_row(links, k, entered, next, parent, table, tables);
-        k += 1;
     }
     next
 }
@@ -96,8 +92,7 @@ pub fn enter_links(
         (left links) result }
 {
     let mut next = counts[2] as usize;
-    let mut m = 0;
-    while m < lookups.len() {
+    for m in 0..lookups.len() {
         next = enter_lookup(
             links,
             counts,
@@ -107,7 +102,6 @@ pub fn enter_links(
             table,
             tables,
         );
-        m += 1;
     }
     next
 }
@@ -134,11 +128,9 @@ fn lead_links(links: &mut [u32], count: usize, marks: &[u32], first: u32)
     ensures { (ps : List ℕ) → Marked ps marks.now
         → left links ≡ put (came links) 0 (row_numbers (map (redirected first ps) (links_in (came links) count))) }
 {
-    let mut k = 0;
-    while k < count {
+    for k in 0..count {
         let at = PER_LINK * k + CHILD;
         links[at] = moved_child(marks, links[at], first);
-        k += 1;
     }
 }
 

@@ -1,9 +1,9 @@
 -- New lookups by the number of new tables alone. Assumes nothing.
+use Rattle.std.specs.Prelude.{Option}
 use Prim.Native.Nat.{ℕ, ◌+◌, ◌-◌, ◌*◌}
 use mathlib.Core.Path.{◌≡◌, sym, ap, ◌∙◌}
 use mathlib.Core.Bool.{true}
 use mathlib.Core.List.{List}
-use mathlib.Core.Option.{Option}
 use lib.ListN.{length, get_or}
 use lib.Dec.{eqb}
 use Rattle.folds.specs.Folds.{upto}

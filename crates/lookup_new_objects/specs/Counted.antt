@@ -1,15 +1,17 @@
 -- New lookups by the number of new tables alone: their links' children do not count. Assumes nothing.
-use Rattle.std.specs.Prelude.{ℕ, ◌+◌, ◌-◌, ◌*◌, ◌≤◌, ◌≡◌, true, cond, List, length, get_or, eqb}
+use Rattle.std.specs.Prelude.{ℕ, ◌+◌, ◌-◌, ◌*◌, ◌≤◌, ◌≡◌, true, cond, List, length, get_or, eqb, Result, Ok, Err}
 use Rattle.folds.specs.Folds.{sum, upto}
 use Rattle.ot_layouts.specs.Lookup.{subtable_count}
 use Rattle.store_rules.specs.Store.{Store, per_link, row_child, sound, bytes_of}
 use Rattle.store_rules.specs.SlotLinks.{links_from}
 use Rattle.store_reader.specs.declared.LinkRows.{LinkRows}
+use Rattle.call_rules.specs.declared.Answer.{Answer}
+use Rattle.call_rules.specs.declared.Answer.TheVariants.{ManySubtables}
+use Rattle.call_rules.specs.declared.Needs.{Needs}
 use Rattle.lookup_rules.specs.Listed.{subtable_slots}
 use Rattle.lookup_rules.specs.Written.{new_lookup, listings, counts_fit, lookups_need}
 use Rattle.lookup_rules.specs.Rewritable.{Rewritable, EachRewritable}
 use Rattle.lookup_new_objects.specs.declared.Size.{Size}
-use Rattle.lookup_new_objects.specs.declared.Extent.{Extent}
 
 -- how many of these rows lead to t
 unfoldable pub listed_in : List ℕ → LinkRows → ℕ → ℕ
@@ -56,7 +58,6 @@ pub record Measuring (s : Store) (k : ℕ) (ps : List ℕ) : Type 0 where
   pub few : k ≤ 65536
   pub short : length ps ≤ 65536
 
--- for a caller: 10 does not apply, and what 8 counts
-pub record LookupsMeasured (s : Store) (t : ℕ) (us ps : List ℕ) (r : Extent) : Type 0 where
-  pub fits_is : r.fits ≡ counts_fit s t us ps
-  pub needs_are : r.needs ≡ lookups_need s t us ps
+-- for a caller: 10 where the count of one cannot be said, or else what 8 counts
+abbrev pub needs_measured : Store → ℕ → List ℕ → List ℕ → Result Needs Answer
+needs_measured s t us ps = cond (counts_fit s t us ps) (Ok (lookups_need s t us ps)) (Err ManySubtables)

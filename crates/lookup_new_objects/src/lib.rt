@@ -1,18 +1,18 @@
 // New lookups, each written from its old one: what they need, and their bytes and rows.
 #![tactic(auto)]
 
-ghost use Rattle.std.specs.Prelude.{ℕ, ◌*◌, ◌≤◌, ◌≡◌, ◌&&◌, List, [], ◌∷◌, length, get_or, leb};
+ghost use Rattle.std.specs.Prelude.{ℕ, ◌*◌, ◌≤◌, ◌≡◌, List, [], ◌∷◌, length, get_or};
 ghost use Rattle.folds.specs.Lists.{part};
 ghost use Rattle.folds.specs.Moments.{came, left};
 ghost use Rattle.store_rules.specs.Store.{lent, per_link};
 ghost use Rattle.store_rules.specs.Moments.{store_came_with, store_now_with};
 ghost use Rattle.store_object_rows.specs.Objects.{Laid, Written};
 ghost use Rattle.lookup_rules.specs.Written.{new_lookup, new_lookups};
-ghost use Rattle.lookup_new_objects.specs.Counted.{listed_in, lookup_with, Sized, Sizing, Measuring, LookupsMeasured};
+ghost use Rattle.lookup_new_objects.specs.Counted.{listed_in, lookup_with, Sized, Sizing, Measuring, needs_measured};
 ghost use Rattle.lookup_new_objects.specs.Written.{LookupCopyReady, NewLookupReady, WritingLookups};
 
-use buffers::{copy_up, zero_bytes};
-use call_rules::Needs;
+use buffers::{copy_bytes, zero_bytes};
+use call_rules::{Answer, Needs};
 use ot_lookup::subtable_count;
 use ot_wire::put_u16;
 use store_object_rows::put_object;
@@ -26,23 +26,14 @@ struct Size {
     bytes: usize,
 }
 
-// What new lookups need, and whether none has more subtables than its count can say.
-#[derive(Clone, Copy)]
-pub struct Extent {
-    pub fits: bool,
-    pub needs: Needs,
-}
-
 // How many of these rows lead to the table.
 fn count_listings(links: &[u32], rows: LinkRows, table: u32) -> usize
     requires { (rows.first ≤ rows.after) × (per_link * rows.after ≤ length links.now) }
     ensures { result ≡ listed_in links.now rows table }
 {
     let mut listings = 0;
-    let mut k = rows.first;
-    while k < rows.after {
+    for k in rows.first..rows.after {
         let child = links[PER_LINK * k + CHILD];
-        k += 1;
         if child == table {
             listings += 1;
         }
@@ -73,17 +64,7 @@ fn measure_lookup(
     }
 }
 
-// Whether a lookup of so many subtables fits, and those before it.
-fn still_fits(fits: bool, subtables: usize) -> bool
-    ensures { result ≡ (fits && leb subtables 65535) }
-{
-    if 65535 < subtables {
-        return false;
-    }
-    fits
-}
-
-// What the new lookups for `lookups` need, where there are so many new tables.
+// What the new lookups for `lookups` need, where there are so many new tables. It is refused where one has more subtables than its count can say.
 pub fn measure(
     data: &[u8],
     objects: &[u32],
@@ -92,30 +73,26 @@ pub fn measure(
     table: u32,
     tables: usize,
     lookups: &[u32],
-) -> Extent
+) -> Result<Needs, Answer>
     requires { Measuring (store_now_with «data» objects links counts) tables lookups.now }
-    ensures { (us : List ℕ) → length us ≡ tables → LookupsMeasured (store_came_with «data» objects links counts) table us lookups.now result }
+    ensures { (us : List ℕ) → length us ≡ tables → result ≡ needs_measured (store_came_with «data» objects links counts) table us lookups.now }
 {
-    let mut fits = true;
     let mut needed = 0;
     let mut bytes = 0;
-    let mut m = 0;
-    while m < lookups.len() {
-        let size = measure_lookup(data, objects, links, counts, table, tables, lookups[m]);
-        fits = still_fits(fits, size.subtables);
+    for &lookup in lookups {
+        let size = measure_lookup(data, objects, links, counts, table, tables, lookup);
+        if 65535 < size.subtables {
+            return Err(Answer::ManySubtables);
+        }
         needed += size.links;
         bytes += size.bytes;
-        m += 1;
     }
-    Extent {
-        fits,
-        needs: Needs {
-            objects: lookups.len(),
-            links: needed,
-            bytes,
-            entries: 0,
-        },
-    }
+    Ok(Needs {
+        objects: lookups.len(),
+        links: needed,
+        bytes,
+        entries: 0,
+    })
 }
 
 // Writes the bytes of a new lookup of so many subtables at byte `at`: those of its old one, which stands from `head` up to `tail`, but for the count and for
@@ -126,10 +103,10 @@ fn copy_lookup(data: &mut [u8], head: usize, tail: usize, subtables: u16, at: us
 {
     let behind = head + 6 + 2 * (subtable_count(&data[head..tail]) as usize);
     let offsets = 2 * (subtables as usize);
-    copy_up(data, head, at, 4);
+    copy_bytes(data, head, at, 4);
     put_u16(data, at + 4, subtables);
     zero_bytes(data, at + 6, offsets);
-    copy_up(data, behind, at + 6 + offsets, tail - behind);
+    copy_bytes(data, behind, at + 6 + offsets, tail - behind);
     at + 6 + offsets + (tail - behind)
 }
 
@@ -174,13 +151,11 @@ pub fn write_lookups(
 {
     let mut at = counts[0] as usize;
     let mut row = counts[1] as usize;
-    let mut m = 0;
-    while m < lookups.len() {
+    for m in 0..lookups.len() {
         at = write_lookup(
             data, objects, links, counts, table, tables, lookups[m], at, row,
         );
         row += 1;
-        m += 1;
     }
     at
 }

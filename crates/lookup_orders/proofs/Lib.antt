@@ -1,5 +1,4 @@
 mod Exchanged
-mod Turns
 mod OldRows
 mod Seeking
 mod Blocks

@@ -1,4 +1,5 @@
 -- 12, 1, 2 of the table and of the list, and 9: one after another. Assumes nothing.
+use Rattle.std.specs.Prelude.{Err, ⊤, Ok}
 use Prim.Native.Nat.{ℕ, ◌≤◌, ◌<◌}
 use mathlib.Core.Path.{◌≡◌, sym, ◌∙◌}
 use mathlib.Core.Bool.{Bool, true, false, not}
@@ -6,17 +7,15 @@ use borrow.Author.Tests.{le-leb, lt-leb, not-true, not-false}
 use Rattle.store_rules.specs.Store.{Store, sound}
 use Rattle.call_rules.specs.declared.Answer.TheVariants.{BadEdition, Unsound, NoTable, BadList}
 use Rattle.call_rules.specs.declared.Settings.{Settings}
-use Rattle.call_rules.specs.Answers.{first_case}
+use Rattle.call_rules.specs.Answers.{first_case, refusal}
 use Rattle.call_rules.specs.Settings.{known, settings_cases}
 use Rattle.call_rules.proofs.KnownSettings.{tested_known}
 use Rattle.lookup_rules.specs.Listed.{bad_list}
 use Rattle.lookup_rules.specs.Calls.{list_cases}
 use Rattle.lookup_checks.specs.Objects.{ObjectInUse}
-use Rattle.lookup_plan.specs.declared.Listing.TheVariants.{Good, Settled}
-use Rattle.lookup_plan.specs.Deciding.{listing_as}
 
 module _ (how : Settings) (s : Store) (l t : ℕ) {a : Bool} (d : a ≡ known how) where
-  pub unknown : not a ≡ true → listing_as (Settled BadEdition) ≡ first_case (list_cases how s l t)
+  pub unknown : not a ≡ true → refusal {A = ⊤} (Err BadEdition) ≡ first_case (list_cases how s l t)
   unfolding list_cases settings_cases first_case
   unknown h = rw (← d, h)
 
@@ -24,7 +23,7 @@ module _ (how : Settings) (s : Store) (l t : ℕ) {a : Bool} (d : a ≡ known ho
     is_known : known how ≡ true
     is_known = tested_known how d k
 
-    pub unsound : not b ≡ true → listing_as (Settled Unsound) ≡ first_case (list_cases how s l t)
+    pub unsound : not b ≡ true → refusal {A = ⊤} (Err Unsound) ≡ first_case (list_cases how s l t)
     unfolding list_cases settings_cases first_case
     unsound h = rw (is_known, ← e, h)
 
@@ -32,12 +31,12 @@ module _ (how : Settings) (s : Store) (l t : ℕ) {a : Bool} (d : a ≡ known ho
       sounds : sound s ≡ true
       sounds = sym e ∙ not-false b h
 
-      pub no_table_lem : s.object_count ≤ t → listing_as (Settled NoTable) ≡ first_case (list_cases how s l t)
+      pub no_table_lem : s.object_count ≤ t → refusal {A = ⊤} (Err NoTable) ≡ first_case (list_cases how s l t)
       unfolding list_cases settings_cases first_case
       no_table_lem out = rw (is_known, sounds, le-leb s.object_count t out)
 
       module _ (table-in : t < s.object_count) where
-        pub no_list_lem : s.object_count ≤ l → listing_as (Settled NoTable) ≡ first_case (list_cases how s l t)
+        pub no_list_lem : s.object_count ≤ l → refusal {A = ⊤} (Err NoTable) ≡ first_case (list_cases how s l t)
         unfolding list_cases settings_cases first_case
         no_list_lem out = rw (is_known, sounds, lt-leb s.object_count t table-in, le-leb s.object_count l out)
 
@@ -46,13 +45,13 @@ module _ (how : Settings) (s : Store) (l t : ℕ) {a : Bool} (d : a ≡ known ho
           list_used = record { sounds = sounds; used = list-in }
 
           module _ {good : Bool} (f : good ≡ not (bad_list s l t)) where
-            pub bad_list_lem : not good ≡ true → listing_as (Settled BadList) ≡ first_case (list_cases how s l t)
+            pub bad_list_lem : not good ≡ true → refusal {A = ⊤} (Err BadList) ≡ first_case (list_cases how s l t)
             unfolding list_cases settings_cases first_case
             bad_list_lem g =
                 let bad : bad_list s l t ≡ true = not-false (bad_list s l t) (sym f ∙ not-true good g) in
                 rw (is_known, sounds, lt-leb s.object_count t table-in, lt-leb s.object_count l list-in, bad)
 
-            pub good_list_lem : not good ≡ false → listing_as Good ≡ first_case (list_cases how s l t)
+            pub good_list_lem : not good ≡ false → refusal (Ok (tt {0})) ≡ first_case (list_cases how s l t)
             unfolding list_cases settings_cases first_case
             good_list_lem g =
                 let fine : bad_list s l t ≡ false = not-true (bad_list s l t) (sym f ∙ not-false good g) in

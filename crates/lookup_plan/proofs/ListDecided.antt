@@ -1,40 +1,38 @@
 -- What is decided of a list and a table: by the checks of the list, and then as for a split. Assumes nothing.
+use Rattle.std.specs.Prelude.{None, Err, Result, ⊤, Ok}
 use Prim.Native.Nat.{ℕ}
 use mathlib.Core.Path.{◌≡◌, sym, ap, ◌∙◌}
 use mathlib.Core.Bool.{true}
 use mathlib.Core.List.{List}
-use mathlib.Core.Option.{none}
 use native.Mathlib.Omega.{arith}
 use lib.ListN.{length}
 use borrow.Author.Tests.{not-false}
 use Rattle.store_rules.specs.Store.{Store, sound}
 use Rattle.call_rules.specs.declared.Answer.{Answer}
 use Rattle.call_rules.specs.declared.Settings.{Settings}
-use Rattle.call_rules.specs.Answers.{number, first_case}
+use Rattle.call_rules.specs.Answers.{number, first_case, refusal}
 use Rattle.call_rules.specs.Settings.{known, settings_cases}
 use Rattle.call_rules.specs.Scratch.{Scratch, scratch_of, lengths_of, lengths_short}
 use Rattle.call_rules.proofs.Cases.{first_append, first_head, first_skip, first_stands}
+use Rattle.call_lists.specs.declared.Plan.{Plan}
 use Rattle.pair_rules.specs.Table.{shape, glyphs_of}
 use Rattle.pair_rules.specs.Calls.{scratch_short, cut_cases}
-use Rattle.pair_plan.specs.declared.Decision.{Decision}
-use Rattle.pair_plan.specs.declared.Decision.TheVariants as Decision
+use Rattle.pair_checks.specs.declared.PairTable.{PairTable}
 use Rattle.pair_plan.specs.Decided.{Decided}
 use Rattle.lookup_rules.specs.Calls.{list_cases}
-use Rattle.lookup_plan.specs.declared.Listing.{Listing}
-use Rattle.lookup_plan.specs.declared.Listing.TheVariants.{Good, Settled}
-use Rattle.lookup_plan.specs.Deciding.{listing_as, ListDecided}
+use Rattle.lookup_plan.specs.Deciding.{ListDecided}
 
-module _ (how : Settings) (s : Store) (l t : ℕ) {x : Listing} (e : listing_as x ≡ first_case (list_cases how s l t)) where
-  pub list_settled : {a : Answer} → x ≡ Settled a → (w : Scratch) {gs ks cuts : List ℕ} → ListDecided how s l t w (Decision.Settled a) gs ks cuts
+module _ (how : Settings) (s : Store) (l t : ℕ) {x : Result ⊤ Answer} (e : refusal x ≡ first_case (list_cases how s l t)) where
+  pub list_settled : {a : Answer} → x ≡ Err a → (w : Scratch) {gs ks cuts : List ℕ} → ListDecided how s l t w (Err a) gs ks cuts
   list_settled {a} y w =
       record {
-        answers = first_stands (list_cases how s l t) (cut_cases how s t w) (number a) (sym e ∙ ap listing_as y);
+        answers = first_stands (list_cases how s l t) (cut_cases how s t w) (number a) (sym e ∙ ap refusal y);
         decided = λ p z. let f : ◌≡◌ {A = ℕ} 0 1 = cc in absurd (omega arith);
       }
 
-  module _ (y : x ≡ Good) where
-    none_listed : first_case (list_cases how s l t) ≡ none
-    none_listed = sym e ∙ ap listing_as y
+  module _ (y : x ≡ Ok (tt {0})) where
+    none_listed : first_case (list_cases how s l t) ≡ None
+    none_listed = sym e ∙ ap refusal y
 
     -- 12 and 1 do not apply
     pub known_sound : (known how ≡ true) × (sound s ≡ true)
@@ -60,7 +58,7 @@ module _ (how : Settings) (s : Store) (l t : ℕ) {x : Listing} (e : listing_as 
           s.object_count (length (glyphs_of s t)) (shape s t).count) (sym same) in
           rw short
 
-      pub list_good : {d : Decision} {gs' ks' cuts' : List ℕ} → Decided how s t w' d gs' ks' cuts' → ListDecided how s l t w d gs' ks' cuts'
+      pub list_good : {d : Result (Plan PairTable) Answer} {gs' ks' cuts' : List ℕ} → Decided how s t w' d gs' ks' cuts' → ListDecided how s l t w d gs' ks' cuts'
       list_good k =
           let answers = ap first_case same_cases ∙ k.answers in
           record {

@@ -5,22 +5,17 @@
 ghost use Rattle.std.specs.Prelude.{◌≡◌};
 ghost use Rattle.folds.specs.Moments.{left};
 ghost use Rattle.store_rules.specs.Moments.{store_came_with};
-ghost use Rattle.call_rules.specs.Answers.{first_case};
+ghost use Rattle.call_rules.specs.Answers.{first_case, refusal};
 ghost use Rattle.call_rules.specs.Moments.{scratch_came};
 ghost use Rattle.lookup_rules.specs.Calls.{list_cases};
-ghost use Rattle.lookup_plan.specs.Deciding.{listing_as, ListDecided};
+ghost use Rattle.lookup_plan.specs.Deciding.{ListDecided};
 
+use call_lists::Plan;
 use call_rules::{Answer, Settings, is_known};
 use lookup_checks::check_list;
-use pair_plan::{Decision, decide_sound};
+use pair_checks::PairTable;
+use pair_plan::decide_sound;
 use store_reader::is_sound;
-
-// What the checks of the list say: it is good, or the call has its answer.
-#[derive(Clone, Copy)]
-pub enum Listing {
-    Good,
-    Settled(Answer),
-}
 
 // The checks 12, 1, 2 of the table and of the list, and 9. The walk may be of any length, and hold anything.
 fn ask_list(
@@ -32,25 +27,25 @@ fn ask_list(
     table: u32,
     settings: Settings,
     walk: &mut [u32],
-) -> Listing
-    ensures { listing_as result ≡ first_case (list_cases settings (store_came_with «data» objects links counts) list table) }
+) -> Result<(), Answer>
+    ensures { refusal result ≡ first_case (list_cases settings (store_came_with «data» objects links counts) list table) }
 {
     if !is_known(settings) {
-        return Listing::Settled(Answer::BadEdition);
+        return Err(Answer::BadEdition);
     }
     if !is_sound(data, objects, links, counts) {
-        return Listing::Settled(Answer::Unsound);
+        return Err(Answer::Unsound);
     }
     if counts[1] <= table {
-        return Listing::Settled(Answer::NoTable);
+        return Err(Answer::NoTable);
     }
     if counts[1] <= list {
-        return Listing::Settled(Answer::NoTable);
+        return Err(Answer::NoTable);
     }
     if !check_list(data, objects, links, counts, list, table, walk) {
-        return Listing::Settled(Answer::BadList);
+        return Err(Answer::BadList);
     }
-    Listing::Good
+    Ok(())
 }
 
 // Decides for a list and a table of any store, with any scratch.
@@ -67,15 +62,12 @@ pub fn decide(
     glyphs: &mut [u16],
     classes: &mut [u16],
     cuts: &mut [u16],
-) -> Decision
+) -> Result<Plan<PairTable>, Answer>
     ensures { ListDecided settings (store_came_with «data» objects links counts) list table (scratch_came walk glyph_set glyphs classes cuts) result
         (left glyphs) (left classes) (left cuts) }
 {
-    let listing = ask_list(data, objects, links, counts, list, table, settings, walk);
-    match listing {
-        Listing::Settled(answer) => Decision::Settled(answer),
-        Listing::Good => decide_sound(
-            data, objects, links, counts, table, settings, walk, glyph_set, glyphs, classes, cuts,
-        ),
-    }
+    ask_list(data, objects, links, counts, list, table, settings, walk)?;
+    decide_sound(
+        data, objects, links, counts, table, settings, walk, glyph_set, glyphs, classes, cuts,
+    )
 }

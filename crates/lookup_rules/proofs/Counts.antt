@@ -1,9 +1,9 @@
 -- How many subtables and links a new lookup has: those of the old one, and K for each listing. Assumes nothing.
+use Rattle.std.specs.Prelude.{Option, Some, None}
 use Prim.Native.Nat.{ℕ, ◌+◌, ◌*◌, ◌<◌}
 use mathlib.Core.Path.{◌≡◌, ap, ◌∙◌}
 use mathlib.Core.Bool.{Bool, true, false, cond}
 use mathlib.Core.List.{List, [], ◌∷◌, ◌++◌, map}
-use mathlib.Core.Option.{Option, some, none}
 use native.Mathlib.Omega.{arith}
 use native.Mathlib.Nat.{mul-suc}
 use lib.ListN.{length, get_or, length-append}
@@ -25,14 +25,14 @@ use Rattle.lookup_rules.specs.Written.{entered, new_slots, subtable_links, new_l
 
 -- as many slots as have a link
 abbrev linked_many : List (Option ℕ) → ℕ
-linked_many os = sum (λ i. there (get_or os i none)) (length os)
+linked_many os = sum (λ i. there (get_or os i None)) (length os)
 
 many_cons : (o : Option ℕ) (os : List (Option ℕ)) → linked_many (o ∷ os) ≡ there o + linked_many os
-many_cons o os = sum-cons (λ i. there (get_or (o ∷ os) i none)) (length os)
+many_cons o os = sum-cons (λ i. there (get_or (o ∷ os) i None)) (length os)
 
-many_behind : (us : List ℕ) (os : List (Option ℕ)) → linked_many (map some us ++ os) ≡ length us + linked_many os
+many_behind : (us : List ℕ) (os : List (Option ℕ)) → linked_many (map Some us ++ os) ≡ length us + linked_many os
 many_behind [] os = omega arith
-many_behind (u ∷ us) os = omega (arith, many_cons (some u) (map some us ++ os), many_behind us os)
+many_behind (u ∷ us) os = omega (arith, many_cons (Some u) (map Some us ++ os), many_behind us os)
 
 -- a new lookup has as many slots as the old one, and at each listing one for each new table
 pub entered_count : (t : ℕ) (us : List ℕ) (os : List (Option ℕ)) → length (entered t us os) ≡ length os + length us * listings t os
@@ -41,22 +41,22 @@ entered_count t us [] = omega arith
 entered_count t us (o ∷ os) = go (leads_to t o) (entered_count t us os)
   where
     go : (b : Bool) → length (entered t us os) ≡ length os + length us * length (sift (leads_to t) os)
-        → length (o ∷ cond b (map some us ++ entered t us os) (entered t us os))
+        → length (o ∷ cond b (map Some us ++ entered t us os) (entered t us os))
         ≡ length (o ∷ os) + length us * length (cond b (o ∷ sift (leads_to t) os) (sift (leads_to t) os))
     go true i =
-        let new : List (Option ℕ) = map some us in
-        omega (arith, length-append new (entered t us os), length-map some us, mul-suc (length us) (length (sift (leads_to t) os)))
+        let new : List (Option ℕ) = map Some us in
+        omega (arith, length-append new (entered t us os), length-map Some us, mul-suc (length us) (length (sift (leads_to t) os)))
     go false i = omega arith
 
 entered_many : (t : ℕ) (us : List ℕ) (os : List (Option ℕ)) → linked_many (entered t us os) ≡ linked_many os + length us * listings t os
 unfolding entered sift listings
 entered_many t us [] = omega arith
 entered_many t us (o ∷ os) =
-    many_cons o (cond (leads_to t o) (map some us ++ entered t us os) (entered t us os))
+    many_cons o (cond (leads_to t o) (map Some us ++ entered t us os) (entered t us os))
     ∙ go (leads_to t o) (entered_many t us os)
   where
     go : (b : Bool) → linked_many (entered t us os) ≡ linked_many os + length us * length (sift (leads_to t) os)
-        → there o + linked_many (cond b (map some us ++ entered t us os) (entered t us os))
+        → there o + linked_many (cond b (map Some us ++ entered t us os) (entered t us os))
         ≡ linked_many (o ∷ os) + length us * length (cond b (o ∷ sift (leads_to t) os) (sift (leads_to t) os))
     go true i = omega (arith, many_behind us (entered t us os), many_cons o os, mul-suc (length us) (length (sift (leads_to t) os)))
     go false i = omega (arith, many_cons o os)
@@ -70,8 +70,8 @@ module _ (s : Store) (f : Fits s) where
       let n = subtable_count b in
       let child : ℕ → Option ℕ = λ i. child_at s p (lookup_header + 2 * i) in
       let (exactly, stand) = and_both (lookup_exact b) (all_at s p (is_subtable_slot b)) good in
-      ap (sum (λ i. there (get_or (subtable_slots s p) i none))) (length-upto child n)
-      ∙ sum_same (λ i. there (get_or (subtable_slots s p) i none)) (λ i. there (child i)) n (λ i l. ap there (upto-at child n i none l))
+      ap (sum (λ i. there (get_or (subtable_slots s p) i None))) (length-upto child n)
+      ∙ sum_same (λ i. there (get_or (subtable_slots s p) i None)) (λ i. there (child i)) n (λ i l. ap there (upto-at child n i None l))
       ∙ slots_all s f p lookup_header 2 n (omega arith) (λ k l e. which_slot lookup_header n (position_of s k) (one_stands s p (is_subtable_slot b) stand k l e))
 
   -- what it needs is what is written
@@ -79,7 +79,7 @@ module _ (s : Store) (f : Fits s) where
   unfolding links_needed new_slots
   links_needed_lem t us u p good =
       let os = entered t us (subtable_slots s p) in
-      slots_many u lookup_header 2 (λ i. get_or os i none) (length os)
+      slots_many u lookup_header 2 (λ i. get_or os i None) (length os)
       ∙ entered_many t us (subtable_slots s p)
       ∙ ap (λ (n : ℕ). n + length us * listings t (subtable_slots s p)) (slots_hold p good)
 

@@ -1,10 +1,10 @@
 -- Slots that stand in a row, and the links that fill them, in order: where all links of an object stand at its slots, these are its own links. Assumes nothing.
+use Rattle.std.specs.Prelude.{Option, Some, None}
 use Prim.Native.Nat.{ℕ, zero, suc, ◌+◌, ◌-◌, ◌*◌, ◌<◌, ◌≤◌}
 use mathlib.Core.Path.{◌≡◌, refl, sym, ap, subst, ◌∙◌}
 use mathlib.Core.Bool.{Bool, true, cond}
 use mathlib.Core.List.{List, [], ◌∷◌, map}
 use mathlib.Core.Logic.{◌⊎◌, inl, inr}
-use mathlib.Core.Option.{Option, some, none}
 use native.Mathlib.Omega.{arith}
 use lib.ListN.{length}
 use lib.Dec.{eqb}
@@ -29,8 +29,8 @@ use Rattle.lookup_rules.specs.Written.{listings}
 -- these links fill these slots, of which the first is at a: each is passed with no link, or has the next one
 pub data Filled : ℕ → List Link → List (Option ℕ) → Type 0 where
   end : {a : ℕ} → Filled a [] []
-  empty : {a : ℕ} {ls : List Link} {os : List (Option ℕ)} → Filled (a + 2) ls os → Filled a ls (none ∷ os)
-  linked : {a : ℕ} {l : Link} {ls : List Link} {os : List (Option ℕ)} → l.position ≡ a → Filled (a + 2) ls os → Filled a (l ∷ ls) (some l.child ∷ os)
+  empty : {a : ℕ} {ls : List Link} {os : List (Option ℕ)} → Filled (a + 2) ls os → Filled a ls (None ∷ os)
+  linked : {a : ℕ} {l : Link} {ls : List Link} {os : List (Option ℕ)} → l.position ≡ a → Filled (a + 2) ls os → Filled a (l ∷ ls) (Some l.child ∷ os)
 
 -- ---- what follows
 
@@ -56,18 +56,18 @@ module _ (p : ℕ) where
   Stands a e [] = Unit {0}
   Stands a e (l ∷ ls) = (offset_of p l ≡ true) × (l.position < e) × ((i : ℕ) × (l.position ≡ a + 2 * i)) × Stands (l.position + 2) e ls
 
-  none_below : (ls : List Link) (a e q : ℕ) → Stands a e ls → q < a → lookup ls p q ≡ none
+  none_below : (ls : List Link) (a e q : ℕ) → Stands a e ls → q < a → lookup ls p q ≡ None
   unfolding lookup
   none_below [] a e q s h = refl
   none_below (l ∷ ls) a e q (parent, below, (i, at), rest) h =
-      ap (λ (b : Bool). cond b (some l.child) (lookup ls p q)) (hit_apart l p q (λ z. omega arith)) ∙ none_below ls (l.position + 2) e q rest (omega arith)
+      ap (λ (b : Bool). cond b (Some l.child) (lookup ls p q)) (hit_apart l p q (λ z. omega arith)) ∙ none_below ls (l.position + 2) e q rest (omega arith)
 
   passed : (l : Link) (ls : List Link) (q : ℕ) → (l.position ≡ q → ⊥) → lookup (l ∷ ls) p q ≡ lookup ls p q
   unfolding lookup
   passed l ls q ne =
-      ap (λ (b : Bool). cond b (some l.child) (lookup ls p q)) (hit_apart l p q ne)
+      ap (λ (b : Bool). cond b (Some l.child) (lookup ls p q)) (hit_apart l p q ne)
 
-  here : (l : Link) (ls : List Link) (q : ℕ) → offset_of p l ≡ true → l.position ≡ q → lookup (l ∷ ls) p q ≡ some l.child
+  here : (l : Link) (ls : List Link) (q : ℕ) → offset_of p l ≡ true → l.position ≡ q → lookup (l ∷ ls) p q ≡ Some l.child
   unfolding lookup
   here l ls q e f = rw (e, eq-eqb l.position q f)
 
@@ -89,15 +89,15 @@ module _ (p : ℕ) where
   stand_filled zero a e [] z s = subst (Filled a []) (sym (flat_none (λ i. lookup [] p (a + 2 * i) ∷ []))) end
   stand_filled zero a e (l ∷ ls) z (parent, below, (i, at), rest) = absurd (omega arith)
   stand_filled (suc n) a e [] z s =
-      subst (Filled a []) (sym (slots_next [] a n none [] refl (λ i. refl))) (empty (stand_filled n (a + 2) e [] (omega arith) tt))
+      subst (Filled a []) (sym (slots_next [] a n None [] refl (λ i. refl))) (empty (stand_filled n (a + 2) e [] (omega arith) tt))
   stand_filled (suc n) a e (l ∷ ls) z (parent, below, (zero, at), rest) =
       let q : l.position ≡ a = omega arith in
       let later : Stands (a + 2) e ls = subst (λ (x : ℕ). Stands (x + 2) e ls) q rest in
-      subst (Filled a (l ∷ ls)) (sym (slots_next (l ∷ ls) a n (some l.child) ls (here l ls a parent q) (λ i. passed l ls (a + 2 + 2 * i) (λ w. omega arith))))
+      subst (Filled a (l ∷ ls)) (sym (slots_next (l ∷ ls) a n (Some l.child) ls (here l ls a parent q) (λ i. passed l ls (a + 2 + 2 * i) (λ w. omega arith))))
       (linked q (stand_filled n (a + 2) e ls (omega arith) later))
   stand_filled (suc n) a e (l ∷ ls) z (parent, below, (suc i, at), rest) =
       let later : Stands (a + 2) e (l ∷ ls) = (parent, below, (i, omega arith), rest) in
-      subst (Filled a (l ∷ ls)) (sym (slots_next (l ∷ ls) a n none (l ∷ ls) (none_below (l ∷ ls) (a + 2) e a later (omega arith)) (λ i. refl)))
+      subst (Filled a (l ∷ ls)) (sym (slots_next (l ∷ ls) a n None (l ∷ ls) (none_below (l ∷ ls) (a + 2) e a later (omega arith)) (λ i. refl)))
       (empty (stand_filled n (a + 2) e (l ∷ ls) (omega arith) later))
 
   -- ---- those of a sound store

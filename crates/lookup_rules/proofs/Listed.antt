@@ -1,9 +1,9 @@
 -- 9, test by test; and where it does not apply, what holds of the lookups of the list and of those that are rewritten. Assumes nothing.
+use Rattle.std.specs.Prelude.{Option, Some, None}
 use Prim.Native.Nat.{ℕ, ◌+◌, ◌*◌, ◌<◌, ◌≤◌}
 use mathlib.Core.Path.{◌≡◌, refl, sym, ap, ap₂, subst, ◌∙◌}
 use mathlib.Core.Bool.{Bool, true, false, not, ◌&&◌, ◌||◌}
 use mathlib.Core.List.{List}
-use mathlib.Core.Option.{Option, some, none}
 use native.Mathlib.Omega.{arith}
 use lib.ListN.{length, get_or}
 use borrow.Author.Tests.{not-false}
@@ -43,13 +43,13 @@ unfolding good_lookup
 good_exact s p h = (and_both (lookup_exact (bytes_of s p)) (all_at s p (is_subtable_slot (bytes_of s p))) h).0
 
 -- where a lookup names t, at which position
-pub naming_slot : (s : Store) (t p : ℕ) → names s t p ≡ true → (q : ℕ) × (child_at s p q ≡ some t)
+pub naming_slot : (s : Store) (t p : ℕ) → names s t p ≡ true → (q : ℕ) × (child_at s p q ≡ Some t)
 unfolding subtable_slots slots_at
 naming_slot s t p n =
     let f : ℕ → Option ℕ = λ i. child_at s p (lookup_header + 2 * i) in
     let count = subtable_count (bytes_of s p) in
     let (i, a, b) = leads_slot t (subtable_slots s p) n in
-    (lookup_header + 2 * i, sym (upto-at f count i none (omega (arith, length-upto f count))) ∙ b)
+    (lookup_header + 2 * i, sym (upto-at f count i None (omega (arith, length-upto f count))) ∙ b)
 
 -- a lookup of the list that is rewritten
 pub record Named (s : Store) (t p : ℕ) : Type 0 where
@@ -107,7 +107,7 @@ module _ (s : Store) (l t : ℕ) where
         and_both (good_list s l) (good_lookups s (lookups_of s l)) (not-false _ a)
 
     -- a link of the list stands at a slot of it
-    pub list_leads : (q p : ℕ) → child_at s l q ≡ some p → among p (lookups_of s l) ≡ true
+    pub list_leads : (q p : ℕ) → child_at s l q ≡ Some p → among p (lookups_of s l) ≡ true
     unfolding good_list lookups_of list_slots is_list_slot
     list_leads q p e =
         let b = bytes_of s l in

@@ -1,9 +1,9 @@
 -- Lookups held against small whole stores, as checks over lists; each list pins what its comment says. Assumes nothing.
+use Rattle.std.specs.Prelude.{Option, Some, None}
 use Prim.Native.Nat.{ℕ, ◌+◌, ◌*◌}
 use mathlib.Core.Path.{◌≡◌, refl}
 use mathlib.Core.Bool.{Bool, true, not, ◌&&◌}
 use mathlib.Core.List.{List, [], ◌∷◌, ◌++◌, map}
-use mathlib.Core.Option.{Option, some, none}
 use lib.ListN.{length, take, drop, replicate}
 use lib.Dec.{eqb}
 use Rattle.folds.specs.Lists.{join}
@@ -79,8 +79,8 @@ plain = one_in (1 ∷ 0 ∷ []) (2 ∷ 0 ∷ 1 ∷ 0 ∷ []) (link_row 5 2 6 ++ 
 -- slots as numbers: 0 for none, else one more than the object's
 unfoldable pub shown : List (Option ℕ) → List ℕ
 shown [] = []
-shown (none ∷ os) = 0 ∷ shown os
-shown (some c ∷ os) = (c + 1) ∷ shown os
+shown (None ∷ os) = 0 ∷ shown os
+shown (Some c ∷ os) = (c + 1) ∷ shown os
 
 -- the link rows in use
 unfoldable pub rows_in : Store → List ℕ

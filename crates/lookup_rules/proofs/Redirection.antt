@@ -1,10 +1,10 @@
 -- Redirection: what is not rewritten stays, and each of the others becomes the new lookup at its place. Assumes nothing.
+use Rattle.std.specs.Prelude.{Option, Some, None}
 use Prim.Native.Nat.{ℕ, suc, ◌+◌, ◌<◌}
 use mathlib.Core.Path.{◌≡◌, refl, sym, ap, subst, ◌∙◌}
 use mathlib.Core.Bool.{true, false, cond}
 use mathlib.Core.List.{List, [], ◌∷◌, map}
 use mathlib.Core.Logic.{◌⊎◌, inl, inr, ⊎_elim}
-use mathlib.Core.Option.{Option, some, none}
 use native.Mathlib.Omega.{arith}
 use native.Mathlib.Decide.{ℕ_discrete}
 use lib.ListN.{length, get_or}
@@ -49,9 +49,9 @@ module _ (n : ℕ) (ps : List ℕ) where
   redirect_below c h = ⊎_elim (λ (m, l, a, b). omega (arith, b)) (λ (a, b). omega (arith, b)) (redirect_either n ps c)
 
   -- a child that is not rewritten stays
-  pub child_stays : (o : Option ℕ) → ((c : ℕ) → o ≡ some c → among c ps ≡ true → ⊥) → mapped (redirect n ps) o ≡ o
-  child_stays none h = refl
-  child_stays (some c) h = ap some (redirect_other c (h c refl))
+  pub child_stays : (o : Option ℕ) → ((c : ℕ) → o ≡ Some c → among c ps ≡ true → ⊥) → mapped (redirect n ps) o ≡ o
+  child_stays None h = refl
+  child_stays (Some c) h = ap Some (redirect_other c (h c refl))
 
   -- ---- links
 

@@ -1,9 +1,9 @@
 -- Slots and what they lead to; lists with each number once; what is entered behind a listing. Assumes nothing.
+use Rattle.std.specs.Prelude.{Option, Some, None}
 use Prim.Native.Nat.{ℕ, zero, suc, ◌+◌, ◌*◌, ◌<◌}
 use mathlib.Core.Path.{◌≡◌, refl, sym, ap, subst, ◌∙◌}
 use mathlib.Core.Bool.{Bool, true, false, cond, not, ◌||◌}
 use mathlib.Core.List.{List, [], ◌∷◌, ◌++◌, map}
-use mathlib.Core.Option.{Option, some, none}
 use native.Mathlib.Omega.{arith}
 use native.Mathlib.Decide.{ℕ_discrete}
 use native.Mathlib.Nat.{not-suc-le-zero}
@@ -59,10 +59,10 @@ each_once_lem P (x ∷ xs) a = (a.0, each_sift P P (λ y. not (eqb x y)) (λ y p
 pub linked_append : (xs ys : List (Option ℕ)) → linked_in (xs ++ ys) ≡ linked_in xs ++ linked_in ys
 unfolding linked_in
 linked_append [] ys = refl
-linked_append (some c ∷ xs) ys = ap (λ (z : List ℕ). c ∷ z) (linked_append xs ys)
-linked_append (none ∷ xs) ys = linked_append xs ys
+linked_append (Some c ∷ xs) ys = ap (λ (z : List ℕ). c ∷ z) (linked_append xs ys)
+linked_append (None ∷ xs) ys = linked_append xs ys
 
-pub linked_all : (us : List ℕ) → linked_in (map some us) ≡ us
+pub linked_all : (us : List ℕ) → linked_in (map Some us) ≡ us
 unfolding linked_in
 linked_all [] = refl
 linked_all (u ∷ us) = ap (λ (z : List ℕ). u ∷ z) (linked_all us)
@@ -70,11 +70,11 @@ linked_all (u ∷ us) = ap (λ (z : List ℕ). u ∷ z) (linked_all us)
 pub linked_mapped : (h : ℕ → ℕ) (os : List (Option ℕ)) → linked_in (map (mapped h) os) ≡ map h (linked_in os)
 unfolding linked_in
 linked_mapped h [] = refl
-linked_mapped h (some c ∷ os) = ap (λ (z : List ℕ). h c ∷ z) (linked_mapped h os)
-linked_mapped h (none ∷ os) = linked_mapped h os
+linked_mapped h (Some c ∷ os) = ap (λ (z : List ℕ). h c ∷ z) (linked_mapped h os)
+linked_mapped h (None ∷ os) = linked_mapped h os
 
 -- what holds of each slot's object holds of each that is linked
-pub each_linked : (P : ℕ → Type 0) (f : ℕ → Option ℕ) (n : ℕ) → ((i c : ℕ) → i < n → f i ≡ some c → P c) → Each P (linked_in (upto f n))
+pub each_linked : (P : ℕ → Type 0) (f : ℕ → Option ℕ) (n : ℕ) → ((i c : ℕ) → i < n → f i ≡ Some c → P c) → Each P (linked_in (upto f n))
 unfolding flat linked_in
 each_linked P f zero h = tt
 each_linked P f (suc n) h =
@@ -82,31 +82,31 @@ each_linked P f (suc n) h =
     (each_append P (linked_in (upto f n)) (linked_in (f n ∷ [])) (each_linked P f n (λ i c l e. h i c (omega arith) e)) (last (f n) refl))
   where
     last : (o : Option ℕ) → f n ≡ o → Each P (linked_in (o ∷ []))
-    last (some c) e = (h n c (omega arith) e, tt)
-    last none e = tt
+    last (Some c) e = (h n c (omega arith) e, tt)
+    last None e = tt
 
-pub among-linked : (os : List (Option ℕ)) (i c : ℕ) → i < length os → get_or os i none ≡ some c → among c (linked_in os) ≡ true
+pub among-linked : (os : List (Option ℕ)) (i c : ℕ) → i < length os → get_or os i None ≡ Some c → among c (linked_in os) ≡ true
 unfolding among linked_in
 among-linked [] i c h e = absurd (not-suc-le-zero h)
-among-linked (some d ∷ os) zero c h e = rw (eq-eqb c d cc)
-among-linked (none ∷ os) zero c h e = let z : ◌≡◌ {A = ℕ} 0 1 = cc in absurd (omega arith)
-among-linked (some d ∷ os) (suc i) c h e = among_later c d (linked_in os) (among-linked os i c (omega arith) e)
-among-linked (none ∷ os) (suc i) c h e = among-linked os i c (omega arith) e
+among-linked (Some d ∷ os) zero c h e = rw (eq-eqb c d cc)
+among-linked (None ∷ os) zero c h e = let z : ◌≡◌ {A = ℕ} 0 1 = cc in absurd (omega arith)
+among-linked (Some d ∷ os) (suc i) c h e = among_later c d (linked_in os) (among-linked os i c (omega arith) e)
+among-linked (None ∷ os) (suc i) c h e = among-linked os i c (omega arith) e
 
 -- what a slot of an object leads to is among what its slots lead to
-pub among-slots : (s : Store) (p a n q c : ℕ) → is_one_of a n q ≡ true → child_at s p q ≡ some c → among c (linked_in (slots_at s p a n)) ≡ true
+pub among-slots : (s : Store) (p a n q c : ℕ) → is_one_of a n q ≡ true → child_at s p q ≡ Some c → among c (linked_in (slots_at s p a n)) ≡ true
 unfolding slots_at
 among-slots s p a n q c h e =
     let (i, l, z) = which_slot a n q h in
     let f : ℕ → Option ℕ = λ i. child_at s p (a + 2 * i) in
-    among-linked (upto f n) i c (omega (arith, length-upto f n)) (upto-at f n i none l ∙ ap (child_at s p) (sym z) ∙ e)
+    among-linked (upto f n) i c (omega (arith, length-upto f n)) (upto-at f n i None l ∙ ap (child_at s p) (sym z) ∙ e)
 
 -- one leads to t where t is among them
 pub leads_among : (t : ℕ) (os : List (Option ℕ)) → any_leads t os ≡ among t (linked_in os)
 unfolding any_leads linked_in among
 leads_among t [] = refl
-leads_among t (none ∷ os) = leads_among t os
-leads_among t (some c ∷ os) = go (ℕ_discrete c t) (leads_among t os)
+leads_among t (None ∷ os) = leads_among t os
+leads_among t (Some c ∷ os) = go (ℕ_discrete c t) (leads_among t os)
   where
     go : Dec (c ≡ t) → any_leads t os ≡ among t (linked_in os) → (eqb c t || any_leads t os) ≡ cond (eqb t c) true (among t (linked_in os))
     go (yes e) ih = rw (eq-eqb c t e, eq-eqb t c (sym e))
@@ -115,15 +115,15 @@ leads_among t (some c ∷ os) = go (ℕ_discrete c t) (leads_among t os)
 -- ---- what is entered
 
 -- where a slot leads to t, which one does
-pub leads_slot : (t : ℕ) (os : List (Option ℕ)) → any_leads t os ≡ true → (i : ℕ) × (i < length os) × (get_or os i none ≡ some t)
+pub leads_slot : (t : ℕ) (os : List (Option ℕ)) → any_leads t os ≡ true → (i : ℕ) × (i < length os) × (get_or os i None ≡ Some t)
 unfolding any_leads
 leads_slot t [] h = true_false (sym h)
-leads_slot t (none ∷ os) h = let (i, a, b) = leads_slot t os h in (suc i, omega arith, b)
-leads_slot t (some c ∷ os) h = go (ℕ_discrete c t) (leads_slot t os)
+leads_slot t (None ∷ os) h = let (i, a, b) = leads_slot t os h in (suc i, omega arith, b)
+leads_slot t (Some c ∷ os) h = go (ℕ_discrete c t) (leads_slot t os)
   where
-    go : Dec (c ≡ t) → (any_leads t os ≡ true → (i : ℕ) × (i < length os) × (get_or os i none ≡ some t))
-        → (i : ℕ) × (i < length (some c ∷ os)) × (get_or (some c ∷ os) i none ≡ some t)
-    go (yes e) ih = (0, omega arith, ap some e)
+    go : Dec (c ≡ t) → (any_leads t os ≡ true → (i : ℕ) × (i < length os) × (get_or os i None ≡ Some t))
+        → (i : ℕ) × (i < length (Some c ∷ os)) × (get_or (Some c ∷ os) i None ≡ Some t)
+    go (yes e) ih = (0, omega arith, ap Some e)
     go (no n) ih = let (i, a, b) = ih (rw (ne_eqb c t n) at h) in (suc i, omega arith, b)
 
 -- where none does, nothing is entered
@@ -133,7 +133,7 @@ nothing_entered t us [] h = refl
 nothing_entered t us (o ∷ os) h = go (leads_to t o) h (nothing_entered t us os)
   where
     go : (b : Bool) → (b || any_leads t os) ≡ false → (any_leads t os ≡ false → entered t us os ≡ os)
-        → (o ∷ cond b (map some us ++ entered t us os) (entered t us os)) ≡ o ∷ os
+        → (o ∷ cond b (map Some us ++ entered t us os) (entered t us os)) ≡ o ∷ os
     go true k ih = true_false k
     go false k ih = ap (λ (z : List (Option ℕ)). o ∷ z) (ih k)
 
@@ -141,11 +141,11 @@ nothing_entered t us (o ∷ os) h = go (leads_to t o) h (nothing_entered t us os
 pub each_entered : (P : ℕ → Type 0) (t : ℕ) (us : List ℕ) (os : List (Option ℕ)) → Each P us → Each P (linked_in os) → Each P (linked_in (entered t us os))
 unfolding entered linked_in
 each_entered P t us [] a b = tt
-each_entered P t us (none ∷ os) a b = each_entered P t us os a b
-each_entered P t us (some c ∷ os) a b = (b.0, go (leads_to t (some c)) (each_entered P t us os a b.1))
+each_entered P t us (None ∷ os) a b = each_entered P t us os a b
+each_entered P t us (Some c ∷ os) a b = (b.0, go (leads_to t (Some c)) (each_entered P t us os a b.1))
   where
-    go : (x : Bool) → Each P (linked_in (entered t us os)) → Each P (linked_in (cond x (map some us ++ entered t us os) (entered t us os)))
+    go : (x : Bool) → Each P (linked_in (entered t us os)) → Each P (linked_in (cond x (map Some us ++ entered t us os) (entered t us os)))
     go false i = i
     go true i =
-        subst (Each P) (sym (linked_append (map some us) (entered t us os)))
-        (each_append P (linked_in (map some us)) (linked_in (entered t us os)) (subst (Each P) (sym (linked_all us)) a) i)
+        subst (Each P) (sym (linked_append (map Some us) (entered t us os)))
+        (each_append P (linked_in (map Some us)) (linked_in (entered t us os)) (subst (Each P) (sym (linked_all us)) a) i)

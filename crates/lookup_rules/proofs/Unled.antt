@@ -1,8 +1,8 @@
 -- The links before redirection: those of a store, then those of the new lookups. They ascend, and each leads to an object of the store. Assumes nothing.
+use Rattle.std.specs.Prelude.{Option, Some, None}
 use Prim.Native.Nat.{ℕ, suc, ◌+◌, ◌*◌, ◌<◌, ◌≤◌}
 use mathlib.Core.Path.{◌≡◌, refl, subst}
 use mathlib.Core.List.{List, ◌++◌}
-use mathlib.Core.Option.{Option, some, none}
 use native.Mathlib.Omega.{arith}
 use lib.ListN.{length, get_or}
 use Rattle.folds.proofs.Each.{Each, each_append, each_flat, each_then, each_among}
@@ -36,7 +36,7 @@ module _ (s : Store) (t : ℕ) (us ps : List ℕ) (s' : Store) (fit : Fits s) (f
   -- ---- where they lead
 
   -- what a slot of a new lookup leads to is in use
-  pub slot_used : (m i c : ℕ) → i < length (slots m) → get_or (slots m) i none ≡ some c → c < n
+  pub slot_used : (m i c : ℕ) → i < length (slots m) → get_or (slots m) i None ≡ Some c → c < n
   unfolding new_slots subtable_slots slots_at
   slot_used m i c h f =
       let p = get_or ps m 0 in
@@ -55,7 +55,7 @@ module _ (s : Store) (t : ℕ) (us ps : List ℕ) (s' : Store) (fit : Fits s) (f
       (λ k f. record { formed = formed_in (size_of s' k.parent) k (size_most s' fit' k.parent f.parent_used) f.shape; below = f.child_used })
       (links_of s') (links_fit_lem s' fit'))
       (each_flat (Old n) (λ m. subtable_links (n + m) (slots m)) (length ps)
-      (λ m h. slots_each (n + m) lookup_header 2 (λ i. get_or (slots m) i none) (Old n) (length (slots m))
+      (λ m h. slots_each (n + m) lookup_header 2 (λ i. get_or (slots m) i None) (Old n) (length (slots m))
       (λ i c k x. record {
         formed = offset_shaped 16777216 (link (n + m) (lookup_header + 2 * i) c) refl refl (omega (arith, counted m h));
         below = slot_used m i c k x;
@@ -73,4 +73,4 @@ module _ (s : Store) (t : ℕ) (us ps : List ℕ) (s' : Store) (fit : Fits s) (f
       (λ m h.
       let next : suc (n + m) ≡ n + suc m = omega arith in
       subst (λ (k : ℕ). Climb (n + m) 0 k (subtable_links (n + m) (slots m))) next
-      (slots_climb (n + m) lookup_header 2 (λ i. get_or (slots m) i none) (length (slots m)) (omega arith))))
+      (slots_climb (n + m) lookup_header 2 (λ i. get_or (slots m) i None) (length (slots m)) (omega arith))))

@@ -1,6 +1,5 @@
 -- A lookup list in a store: the lookups that it leads to, which of them are to be written anew, and 9. Assumes nothing.
-use Rattle.std.specs.Prelude.{ℕ, ◌+◌, ◌*◌, Bool, false, not, ◌&&◌, ◌||◌, List, [], ◌∷◌, length, get_or, eqb}
-use Rattle.std.proofs.Math.Option.{Option, some, none}
+use Rattle.std.specs.Prelude.{ℕ, ◌+◌, ◌*◌, Bool, false, not, ◌&&◌, ◌||◌, List, [], ◌∷◌, length, get_or, eqb, Option, Some, None}
 use Rattle.folds.specs.Folds.{all, upto}
 use Rattle.folds.specs.Lists.{sift, is_empty}
 use Rattle.ot_layouts.specs.Lookup.{
@@ -26,13 +25,13 @@ slots_at s p a n = upto (λ i. child_at s p (a + 2 * i)) n
 -- what the slots with a link lead to, in order
 unfoldable pub linked_in : List (Option ℕ) → List ℕ
 linked_in [] = []
-linked_in (some c ∷ os) = c ∷ linked_in os
-linked_in (none ∷ os) = linked_in os
+linked_in (Some c ∷ os) = c ∷ linked_in os
+linked_in (None ∷ os) = linked_in os
 
 -- the slot leads to t
 abbrev pub leads_to : ℕ → Option ℕ → Bool
-leads_to t (some c) = eqb c t
-leads_to t none = false
+leads_to t (Some c) = eqb c t
+leads_to t None = false
 
 -- one of the slots leads to t
 unfoldable pub any_leads : ℕ → List (Option ℕ) → Bool

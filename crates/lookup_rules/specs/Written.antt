@@ -1,6 +1,5 @@
 -- New lookups, and every link to an old one led to its new one: bytes, links, the store after it, and what it needs. Assumes nothing.
-use Rattle.std.specs.Prelude.{ℕ, ◌+◌, ◌*◌, Bool, cond, List, [], ◌∷◌, ◌++◌, map, length, get_or, drop, replicate, leb, eqb}
-use Rattle.std.proofs.Math.Option.{Option, some, none}
+use Rattle.std.specs.Prelude.{ℕ, ◌+◌, ◌*◌, Bool, cond, List, [], ◌∷◌, ◌++◌, map, length, get_or, drop, replicate, leb, eqb, Option, Some, None}
 use Rattle.folds.specs.Folds.{all, sum, flat, upto}
 use Rattle.folds.specs.Lists.{join, part, sift}
 use Rattle.ot_layouts.specs.Numbers.{be16}
@@ -19,7 +18,7 @@ use Rattle.lookup_rules.specs.Listed.{leads_to, subtable_slots, rewritten}
 -- "the new tables directly after each listing of the old one and later subtables moving up in order": t is the old one, us are the new ones
 unfoldable pub entered : ℕ → List ℕ → List (Option ℕ) → List (Option ℕ)
 entered t us [] = []
-entered t us (o ∷ os) = o ∷ cond (leads_to t o) (map some us ++ entered t us os) (entered t us os)
+entered t us (o ∷ os) = o ∷ cond (leads_to t o) (map Some us ++ entered t us os) (entered t us os)
 
 -- the slots of the new lookup for p
 unfoldable pub new_slots : Store → ℕ → List ℕ → ℕ → List (Option ℕ)
@@ -31,7 +30,7 @@ new_lookup b n = part b 0 4 ++ be16 n ++ replicate (2 * n) 0 ++ drop (lookup_hea
 
 -- the links of lookup u with these slots
 abbrev pub subtable_links : ℕ → List (Option ℕ) → List Link
-subtable_links u os = slot_links u lookup_header 2 (λ i. get_or os i none) (length os)
+subtable_links u os = slot_links u lookup_header 2 (λ i. get_or os i None) (length os)
 
 -- ---- all of them: us are the new tables, ps the lookups to rewrite
 

@@ -1,32 +1,31 @@
 -- New tables entered at any places: too many subtables, no room, or carried out. Assumes nothing.
+use Rattle.std.specs.Prelude.{Result, Ok, Err}
 use Prim.Native.Nat.{ℕ}
-use mathlib.Core.Path.{◌≡◌, sym, ap₂, subst, ◌∙◌}
-use mathlib.Core.Bool.{Bool, true, false, not, cond}
+use mathlib.Core.Path.{◌≡◌, sym, ap, ap₂, subst, ◌∙◌}
+use mathlib.Core.Bool.{Bool, true, false}
 use mathlib.Core.List.{List}
 use native.Mathlib.Omega.{arith}
 use lib.ListN.{length}
-use lib.Dec.{eqb}
-use borrow.Author.Tests.{not-true, not-false}
 use Rattle.folds.proofs.Each.{each_at}
 use Rattle.store_rules.specs.Store.{Store, lent}
 use Rattle.store_rules.proofs.Sound.{Fits, sound_fits}
-use Rattle.call_rules.specs.declared.Answer.TheVariants.{ManySubtables, NoRoom}
+use Rattle.call_rules.specs.declared.Answer.TheVariants.{NoRoom}
 use Rattle.call_rules.specs.declared.Needs.{Needs}
 use Rattle.call_rules.specs.Answers.{number, first_case}
 use Rattle.call_rules.specs.Needs.{InUse, lent_of, counts_of, short_by, room_short, together}
 use Rattle.call_rules.specs.Scratch.{Scratch, cleared}
 use Rattle.call_rules.specs.Outcomes.{done, settle, outcome}
 use Rattle.call_rules.proofs.Room.{sound_in_use}
+use Rattle.call_rules.specs.declared.Answer.{Answer}
+use Rattle.call_rules.specs.declared.Lent.{Lent}
 use Rattle.call_room.proofs.Together.{first_held}
-use Rattle.pair_rules.specs.Written.{new_tables}
 use Rattle.pair_checks.specs.declared.PairTable.{PairTable}
 use Rattle.pair_carrying.proofs.Counting.{tables_many}
 use Rattle.lookup_rules.specs.Listed.{rewritten}
 use Rattle.lookup_rules.specs.Rewritable.{EachRewritable}
-use Rattle.lookup_rules.specs.Written.{counts_fit}
 use Rattle.lookup_rules.proofs.Listed.{Named, each_named, rewritten_few}
 use Rattle.lookup_carrying.specs.declared.measuring.Measures.{Measures}
-use Rattle.lookup_carrying.specs.Measuring.{MeasuringAll, MeasuredAll}
+use Rattle.lookup_carrying.specs.Measuring.{MeasuringAll, BothMeasured, MeasuredAll}
 use Rattle.lookup_carrying.specs.Carrying.{all_needed, EnteredAt, CarryingAll}
 use Rattle.lookup_split.specs.Entering.{room_cases, entered_unless, Placing}
 
@@ -54,28 +53,29 @@ module _ {b o l : List ℕ} (c : List ℕ) {t : ℕ} {p : PairTable} {gs ks cs m
       record { arranging = k.arranging; few = k.few; lookups = each; short = omega (arith, fit.objects_most) }
 
   module _ (list : List ℕ) where
-    pub in_use_lem : InUse (lent_of s list) c
-    in_use_lem = let u = sound_in_use s list k.arranging.opens.reads.sounds in record { bytes = u.bytes; objects = u.objects; links = u.links }
+    module _ {n : Lent} (e : n ≡ lent_of s list) where
+      pub in_use_lem : InUse n c
+      in_use_lem = rw e (let u = sound_in_use s list k.arranging.opens.reads.sounds in record { bytes = u.bytes; objects = u.objects; links = u.links })
+
+      pub short_is : {x : Bool} (needs : Needs) → x ≡ short_by n c needs → x ≡ short_by (lent_of s list) c needs
+      short_is needs f = f ∙ ap (λ (m : Lent). short_by m c needs) e
 
     -- the outcome, where the count is that of the cuts or none
-    abbrev Leaves : ℕ → Store → List ℕ → Type 0
-    Leaves r s' list' =
-        (w : Scratch) → outcome r (cond (eqb r 0) (length cs) 0) s' list' (cleared w)
-        ≡ entered_unless (room_cases (lent b o l c) t cs ps list) (lent b o l c) t cs ps w list
+    abbrev Leaves : ℕ → ℕ → Store → List ℕ → Type 0
+    Leaves r k s' list' =
+        (w : Scratch) → outcome r k s' list' (cleared w) ≡ entered_unless (room_cases (lent b o l c) t cs ps list) (lent b o l c) t cs ps w list
 
-    module _ {gs' ks' : List ℕ} {m : Measures} (d : MeasuredAll s t gs' ks' cs ps m) where
-      pub too_many : not m.fits ≡ true → {a : ℕ} → a ≡ number ManySubtables → Leaves a s list
+    module _ {gs' ks' : List ℕ} {r : Result Measures Answer} (d : MeasuredAll s t gs' ks' cs ps r) where
+      pub too_many : {a : Answer} → r ≡ Err a → Leaves (number a) 0 s list
       unfolding first_case settle
-      too_many h e w =
-          let no : counts_fit s t (new_tables s t cs) ps ≡ false = sym d.fits ∙ not-true m.fits h in
-          rw (e, no)
+      too_many {a} y w = let (many, over) = d.refuses a y in rw (many, over)
 
-      module _ (h : not m.fits ≡ false) {short : Bool} (e : short ≡ short_by (lent_of s list) c (together m.split m.lookups)) where
-        yes : counts_fit s t (new_tables s t cs) ps ≡ true
-        yes = sym d.fits ∙ not-false m.fits h
+      module _ {m : Measures} (y : r ≡ Ok m) {short : Bool} (e : short ≡ short_by (lent_of s list) c (together m.split m.lookups)) where
+        abbrev measured : BothMeasured s t gs' ks' cs ps m
+        measured = d.measures m y
 
         both : together m.split m.lookups ≡ all_needed s t cs ps
-        both = ap₂ (λ (x y : Needs). together x y) d.split.needs d.lookups
+        both = ap₂ (λ (x y : Needs). together x y) measured.split.needs measured.lookups
 
         asked : room_short s list (together m.split m.lookups) ≡ short
         unfolding short_by
@@ -84,11 +84,11 @@ module _ {b o l : List ℕ} (c : List ℕ) {t : ℕ} {p : PairTable} {gs ks cs m
         room : room_short s list (all_needed s t cs ps) ≡ short
         room = subst (λ (x : Needs). room_short s list x ≡ short) both asked
 
-        pub no_room_lem : short ≡ true → {a : ℕ} → a ≡ number NoRoom → Leaves a s list
+        pub no_room_lem : short ≡ true → Leaves (number NoRoom) 0 s list
         unfolding first_case settle
-        no_room_lem y f w = let full : room_short s list (all_needed s t cs ps) ≡ true = room ∙ y in rw (f, yes, full)
+        no_room_lem z w = let full : room_short s list (all_needed s t cs ps) ≡ true = room ∙ z in rw (measured.fits, full)
 
-        module _ (y : short ≡ false) where
+        module _ (z : short ≡ false) where
           pub can_carry : CarryingAll s t p m.split gs' ks' cs list marks ps
           can_carry =
               record {
@@ -96,18 +96,18 @@ module _ {b o l : List ℕ} (c : List ℕ) {t : ℕ} {p : PairTable} {gs ks cs m
                   opens = k.arranging.opens;
                   places = k.arranging.places;
                   some = k.arranging.some;
-                  measured = d.split;
-                  room = first_held (lent_of s list) (counts_of s) m.split m.lookups (asked ∙ y);
+                  measured = measured.split;
+                  room = first_held (lent_of s list) (counts_of s) m.split m.lookups (asked ∙ z);
                 };
                 few = k.few;
                 linked = k.linked;
                 found = k.found;
-                fits = yes;
-                room = room ∙ y;
+                fits = measured.fits;
+                room = room ∙ z;
               }
 
-          pub all-entered : {s' : Store} {list' : List ℕ} → EnteredAt s t cs ps list s' list' → Leaves 0 s' list'
+          pub all-entered : {s' : Store} {list' : List ℕ} → EnteredAt s t cs ps list s' list' → Leaves 0 (length cs) s' list'
           unfolding first_case settle done
           all-entered x w =
-              let enough : room_short s list (all_needed s t cs ps) ≡ false = room ∙ y in
-              rw (yes, enough, x.store, x.list_is, tables_many s t cs)
+              let enough : room_short s list (all_needed s t cs ps) ≡ false = room ∙ z in
+              rw (measured.fits, enough, x.store, x.list_is, tables_many s t cs)

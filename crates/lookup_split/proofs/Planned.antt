@@ -1,21 +1,20 @@
 -- New tables entered as planned: nothing to cut, or what is left of the call at the plan's places and in the list's lookups. Assumes nothing.
 use Prim.Native.Nat.{ℕ, ◌+◌, ◌≤◌}
 use mathlib.Core.Path.{◌≡◌, sym, ap, subst, ◌∙◌}
-use mathlib.Core.Bool.{false, cond}
+use mathlib.Core.Bool.{false}
 use mathlib.Core.List.{List}
 use native.Mathlib.Omega.{arith}
 use lib.ListN.{length, take, length-take}
-use lib.Dec.{eqb}
-use borrow.Author.Tests.{ne_eqb}
 use Rattle.folds.specs.Lists.{part, is_empty}
 use Rattle.folds.proofs.Fronts.{front_long}
 use Rattle.store_rules.specs.Store.{Store}
 use Rattle.store_rules.proofs.Sound.{sound_fits}
 use Rattle.call_rules.specs.Answers.{first_case}
 use Rattle.call_rules.specs.Scratch.{Scratch, cleared}
-use Rattle.call_rules.specs.Outcomes.{settle, outcome}
+use Rattle.call_rules.specs.Outcomes.{Outcome, settle, outcome}
 use Rattle.call_lists.proofs.Split.{is_empty_lem, not_empty}
-use Rattle.pair_plan.specs.declared.Plan.{Plan}
+use Rattle.call_lists.specs.declared.Plan.{Plan}
+use Rattle.pair_checks.specs.declared.PairTable.{PairTable}
 use Rattle.pair_split.proofs.Fronts.{fronts_lent}
 use Rattle.lookup_rules.specs.Listed.{rewritten}
 use Rattle.lookup_rules.specs.Marks.{Marked}
@@ -25,7 +24,7 @@ use Rattle.lookup_rules.proofs.Listed.{rewritten_few}
 use Rattle.lookup_checks.specs.Ordered.{Ordered}
 use Rattle.lookup_split.specs.Entering.{room_cases, entered_unless, entered_then, EnterReady, Placing}
 
-module _ {s : Store} {l t : ℕ} {p : Plan} {gs ks cuts walk : List ℕ} (k : EnterReady s l t p gs ks cuts walk) where
+module _ {s : Store} {l t : ℕ} {p : Plan PairTable} {gs ks cuts walk : List ℕ} (k : EnterReady s l t p gs ks cuts walk) where
   -- the cuts, as they are lent on
   abbrev cs : List ℕ
   cs = part cuts 0 p.cuts
@@ -80,20 +79,9 @@ module _ {s : Store} {l t : ℕ} {p : Plan} {gs ks cuts walk : List ℕ} (k : En
           }
 
       -- by what is entered at these places
-      module _ (list : List ℕ) {r : ℕ} {s' : Store} {list' : List ℕ}
-          (e : (w : Scratch) → outcome r (cond (eqb r 0) (length cs) 0) s' list' (cleared w)
-          ≡ entered_unless (room_cases s t cs (part walk' n (n + found)) list) s t cs (part walk' n (n + found)) w list) where
-        then : (w : Scratch) → outcome r (cond (eqb r 0) (length cs) 0) s' list' (cleared w) ≡ entered_then s l t cs w list
-        then w =
-            e w
-            ∙ ap (λ (ps : List ℕ). entered_unless (room_cases s t cs ps list) s t cs ps w list) o.lookups
-            ∙ last_cases_lem list w
-
-        pub refused : (r ≡ 0 → ⊥) → (w : Scratch) → outcome r 0 s' list' (cleared w) ≡ entered_then s l t cs w list
-        refused ne w = ap (λ (count : ℕ). outcome r count s' list' (cleared w)) (sym (rw (ne_eqb r 0 ne))) ∙ then w
-
-        pub entered : r ≡ 0 → (w : Scratch) → outcome 0 p.cuts s' list' (cleared w) ≡ entered_then s l t cs w list
-        entered z w =
-            ap (λ (count : ℕ). outcome 0 count s' list' (cleared w)) (sym long)
-            ∙ sym (ap (λ (x : ℕ). outcome x (cond (eqb x 0) (length cs) 0) s' list' (cleared w)) z)
-            ∙ then w
+      pub entered : (list : List ℕ) (w : Scratch) {x : Outcome}
+          → x ≡ entered_unless (room_cases s t cs (part walk' n (n + found)) list) s t cs (part walk' n (n + found)) w list → x ≡ entered_then s l t cs w list
+      entered list w e =
+          e
+          ∙ ap (λ (ps : List ℕ). entered_unless (room_cases s t cs ps list) s t cs ps w list) o.lookups
+          ∙ last_cases_lem list w

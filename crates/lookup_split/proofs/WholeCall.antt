@@ -1,9 +1,9 @@
 -- The whole call: what is decided, and then what is left of it. Assumes nothing.
+use Rattle.std.specs.Prelude.{Option, Some, None, Ok, Result}
 use Prim.Native.Nat.{ℕ}
 use mathlib.Core.Path.{◌≡◌, sym, ap, ◌∙◌}
 use mathlib.Core.Bool.{not}
 use mathlib.Core.List.{List, ◌++◌}
-use mathlib.Core.Option.{Option, some, none}
 use native.Mathlib.Omega.{arith}
 use lib.ListN.{length}
 use borrow.Author.Tests.{leb-false, not-false}
@@ -12,17 +12,16 @@ use Rattle.folds.proofs.Tests.{or_none}
 use Rattle.store_rules.specs.Store.{Store}
 use Rattle.store_rules.specs.Reach.{on_cycle}
 use Rattle.call_rules.specs.declared.Settings.{Settings}
-use Rattle.call_rules.specs.Answers.{first_case}
+use Rattle.call_rules.specs.Answers.{first_case, refusal}
 use Rattle.call_rules.specs.Settings.{settings_cases}
 use Rattle.call_rules.specs.Scratch.{Scratch, cleared}
 use Rattle.call_rules.specs.Outcomes.{settle, outcome}
 use Rattle.call_rules.proofs.Cases.{first_append, first_head, first_skip, first_stands}
+use Rattle.call_rules.specs.declared.Answer.{Answer}
+use Rattle.call_lists.specs.declared.Plan.{Plan}
 use Rattle.pair_rules.specs.Table.{all_at_slots, cut_places}
 use Rattle.pair_rules.specs.Calls.{read_cases, cut_cases}
-use Rattle.pair_plan.specs.declared.Plan.{Plan}
-use Rattle.pair_plan.specs.declared.Decision.{Decision}
-use Rattle.pair_plan.specs.declared.Decision.TheVariants.{Cut}
-use Rattle.pair_plan.specs.Decided.{decided_as}
+use Rattle.pair_checks.specs.declared.PairTable.{PairTable}
 use Rattle.pair_split.proofs.Fronts.{scratch_long, none_applies, at_places, ready}
 use Rattle.lookup_rules.specs.Calls.{list_cases, enter_cases, lookup_cases, lookup_call, enter_ahead}
 use Rattle.lookup_plan.specs.Deciding.{ListDecided}
@@ -31,11 +30,11 @@ use Rattle.lookup_split.specs.Entering.{entered_then, EnterReady}
 
 -- ---- a plan is ready to be carried out
 
-module _ {how : Settings} {s : Store} {l t : ℕ} {w : Scratch} {d : Decision} {gs ks cuts : List ℕ} (x : ListDecided how s l t w d gs ks cuts) {p : Plan} (y : d ≡ Cut p) where
-  none_decided : first_case (list_cases how s l t ++ cut_cases how s t w) ≡ none
-  none_decided = x.answers ∙ ap decided_as y
+module _ {how : Settings} {s : Store} {l t : ℕ} {w : Scratch} {d : Result (Plan PairTable) Answer} {gs ks cuts : List ℕ} (x : ListDecided how s l t w d gs ks cuts) {p : Plan PairTable} (y : d ≡ Ok p) where
+  none_decided : first_case (list_cases how s l t ++ cut_cases how s t w) ≡ None
+  none_decided = x.answers ∙ ap refusal y
 
-  none_cut : first_case (cut_cases how s t w) ≡ none
+  none_cut : first_case (cut_cases how s t w) ≡ None
   none_cut = none_applies (x.decided p y) y
 
   -- 2 and 9 of the list
@@ -78,7 +77,7 @@ module _ {how : Settings} {s : Store} {l t : ℕ} {w : Scratch} {d : Decision} {
 
 -- ---- the call has its answer
 
-pub call_settled : (how : Settings) (s : Store) (l t : ℕ) (w : Scratch) (list : List ℕ) {a : ℕ} → first_case (list_cases how s l t ++ cut_cases how s t w) ≡ some a → outcome a 0 s list (cleared w) ≡ lookup_call how s l t w list
+pub call_settled : (how : Settings) (s : Store) (l t : ℕ) (w : Scratch) (list : List ℕ) {a : ℕ} → first_case (list_cases how s l t ++ cut_cases how s t w) ≡ Some a → outcome a 0 s list (cleared w) ≡ lookup_call how s l t w list
 unfolding lookup_call lookup_cases settle
 call_settled how s l t w list {a} e =
     let cs : List ℕ = cut_places how s t in

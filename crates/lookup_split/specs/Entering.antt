@@ -6,9 +6,9 @@ use Rattle.call_rules.specs.Answers.{Case, case, first_case}
 use Rattle.call_rules.specs.Needs.{room_short}
 use Rattle.call_rules.specs.Scratch.{Scratch}
 use Rattle.call_rules.specs.Outcomes.{Outcome, done, settle}
+use Rattle.call_lists.specs.declared.Plan.{Plan}
 use Rattle.pair_rules.specs.Written.{new_tables}
 use Rattle.pair_checks.specs.declared.PairTable.{PairTable}
-use Rattle.pair_plan.specs.declared.Plan.{Plan}
 use Rattle.pair_carrying.specs.Arranging.{Arranging}
 use Rattle.pair_split.specs.Splitting.{PlanReady}
 use Rattle.lookup_rules.specs.Calls.{enter_cases, enter_ahead}
@@ -33,7 +33,7 @@ entered_then s l t cs w list = settle (first_case (enter_cases s l t cs list)) s
 -- ---- as planned
 
 -- the plan is ready to be carried out, the list is good, and the walk has two numbers an object
-pub record EnterReady (s : Store) (l t : ℕ) (p : Plan) (gs ks cuts walk : List ℕ) : Type 0 where
+pub record EnterReady (s : Store) (l t : ℕ) (p : Plan PairTable) (gs ks cuts walk : List ℕ) : Type 0 where
   pub plan : PlanReady s t p gs ks cuts
   pub linked : WellLinked s t
   pub good : GoodList s l t

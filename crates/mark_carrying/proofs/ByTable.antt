@@ -1,4 +1,5 @@
 -- The marks of a table put together by its cuts, from ascending numbers: their glyphs, or their places. Assumes nothing.
+use Rattle.std.specs.Prelude.{Some}
 use Prim.Native.Nat.{ℕ, ◌+◌, ◌*◌, ◌≤◌, ◌<◌}
 use mathlib.Core.Path.{◌≡◌, sym, ap, ap₂, subst, ◌∙◌}
 use mathlib.Core.List.{List, [], ◌∷◌, map}
@@ -14,7 +15,6 @@ use Rattle.folds.proofs.Parts.{part_at}
 use Rattle.folds.proofs.Fronts.{front_long, back, front_again}
 use Rattle.ot_layouts.specs.Coverage.{Entry, plain, Ascends, coverage_of, cover_glyphs}
 use Rattle.ot_layouts.specs.MarkBasePos.{mark_class}
-use Rattle.ot_layouts.specs.declared.Reading.TheVariants.{Readable}
 use Rattle.ot_layouts.proofs.Entries.{ascends_plain}
 use Rattle.ot_layouts.proofs.Octets.{bytes_u16}
 use Rattle.ot_layouts.proofs.RunStarts.{entry}
@@ -150,7 +150,7 @@ module _ {s : Store} {t : ℕ} {p : MarkTable} {gs ks set cs : List ℕ} (k : Ar
   room : length gs ≡ length (glyphs_of s t)
   room = k.numbers ∙ k.opens.glyphs
 
-  pub cover_ready : (coverage_of d ≡ Readable p.coverage.header) × (length (cover_glyphs d) ≤ length gs)
+  pub cover_ready : (coverage_of d ≡ Some p.coverage.header) × (length (cover_glyphs d) ≤ length gs)
   cover_ready = glyphs_ready k.opens.coverage c gs room
 
   module _ {gs' : List ℕ} (f : gs' ≡ put gs 0 (cover_glyphs d)) where

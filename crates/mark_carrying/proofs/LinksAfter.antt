@@ -1,6 +1,6 @@
 -- The links of a split: the marks' places are arranged from the old mark array, and the link rows then written are those after the split. Assumes nothing.
 use Prim.Native.Nat.{ℕ}
-use mathlib.Core.Path.{sym, subst}
+use mathlib.Core.Path.{◌≡◌, sym, subst}
 use mathlib.Core.List.{List}
 use Rattle.ot_layouts.specs.Coverage.{Entry}
 use Rattle.store_rules.specs.Store.{Store}
@@ -12,23 +12,13 @@ use Rattle.mark_rules.specs.Reads.{Reads}
 use Rattle.mark_checks.specs.declared.MarkTable.{MarkTable}
 use Rattle.mark_checks.specs.Opens.{Opens}
 use Rattle.mark_checks.proofs.Opened.{bases_are}
-use Rattle.mark_links.specs.declared.Arrays.{Arrays}
+use Rattle.mark_arrays.specs.declared.Arrays.{Arrays}
+use Rattle.mark_arrays.specs.Arrays.{arrays_of}
 use Rattle.mark_order.specs.Marks.{mark_places}
 use Rattle.mark_links.specs.Splitting.{Splitting}
 use Rattle.mark_carrying.specs.Arranging.{Arranging}
 use Rattle.mark_carrying.specs.Carrying.{Relinking}
 use Rattle.mark_carrying.proofs.StillOpen.{classes_same, places_same, still_open}
-
--- what the links are written from
-abbrev arrays_of : MarkTable → Arrays
-arrays_of p =
-    record {
-      mark_array = p.marks.object;
-      base_array = p.bases.object;
-      base_coverage = p.base_coverage.object;
-      classes = p.classes;
-      bases = p.bases.count;
-    }
 
 module _ {s : Store} {t : ℕ} {p : MarkTable} {d o ps ks set cs : List ℕ} (k : Relinking s t p d o ps ks set cs) where
   abbrev opens : Opens s t p
@@ -48,10 +38,10 @@ module _ {s : Store} {t : ℕ} {p : MarkTable} {d o ps ks set cs : List ℕ} (k 
         scratch = k.arranging.scratch;
       }
 
-  pub links_asked : {ps' ks' : List ℕ} → Arranged ps' ks' cs (classes_of (with s d o) t) (mark_places (with s d o) t)
-      → Splitting s t (arrays_of p) ps' ks' cs
-  links_asked {ps'} {ks'} arranged =
-      record {
+  pub links_asked : {a : Arrays} → a ≡ arrays_of p → {ps' ks' : List ℕ}
+      → Arranged ps' ks' cs (classes_of (with s d o) t) (mark_places (with s d o) t) → Splitting s t a ps' ks' cs
+  links_asked e {ps'} {ks'} arranged =
+      rw e (record {
         reads = reads;
         at_slots = k.slots;
         mark_array_is = opens.marks.linked;
@@ -66,4 +56,4 @@ module _ {s : Store} {t : ℕ} {p : MarkTable} {d o ps ks set cs : List ℕ} (k 
             (subst (λ (es : List Entry). Arranged ps' ks' cs (classes_of (with s d o) t) es) (places_same k.behind reads) arranged);
         link_room = k.link_room;
         numbers = k.numbers;
-      }
+      })

@@ -1,9 +1,10 @@
 -- A table that is open stays so when objects are written behind those in use. Assumes nothing.
+use Rattle.ot_layouts.specs.declared.Header.{Header}
+use Rattle.std.specs.Prelude.{Option, unwrap_or}
 use Prim.Native.Nat.{ℕ}
 use mathlib.Core.Path.{◌≡◌, refl, sym, ap, ◌∙◌}
 use mathlib.Core.Bool.{◌&&◌}
 use mathlib.Core.List.{List}
-use mathlib.Core.Option.{Option, get_or}
 use native.Mathlib.Omega.{arith}
 use lib.ListN.{length}
 use Rattle.folds.specs.Folds.{upto}
@@ -22,7 +23,6 @@ use Rattle.ot_layouts.specs.MarkBasePos.{
   marks_readable,
   bases_readable,
 }
-use Rattle.ot_layouts.specs.declared.Reading.{Reading}
 use Rattle.ot_layouts.proofs.RunStarts.{entry}
 use Rattle.ot_markbasepos.specs.declared.ArrayKind.{ArrayKind}
 use Rattle.ot_markbasepos.specs.Kinds.{array_at, readable_as}
@@ -57,7 +57,7 @@ module _ {s : Store} {t : ℕ} {d o : List ℕ} (b : Behind s d o) (reads : Read
 
   linked_same : (q : ℕ) → linked_bytes s' t q ≡ linked_bytes s t q
   linked_same q =
-      ap (λ (x : Option ℕ). bytes_of s' (get_or x 0)) (child_same q)
+      ap (λ (x : Option ℕ). bytes_of s' (unwrap_or x 0)) (child_same q)
       ∙ same_bytes fits b (linked_at s t q) (linked_used s t fits reads.used q)
 
   pub classes_same : classes_of s' t ≡ classes_of s t
@@ -94,9 +94,9 @@ module _ {s : Store} {t : ℕ} {d o : List ℕ} (b : Behind s d o) (reads : Read
   -- ---- what was read
 
   object_same : (q : ℕ) → linked_at s' t q ≡ linked_at s t q
-  object_same q = ap (λ (x : Option ℕ). get_or x 0) (child_same q)
+  object_same q = ap (λ (x : Option ℕ). unwrap_or x 0) (child_same q)
 
-  part_same : {read : List ℕ → Reading} {q : ℕ} {p : Part} → LinkedPart read s t q p → LinkedPart read s' t q p
+  part_same : {read : List ℕ → Option Header} {q : ℕ} {p : Part} → LinkedPart read s t q p → LinkedPart read s' t q p
   part_same {read} {q} {p} l =
       let used = child_used_lem s t fits q p.object l.child in
       record {

@@ -45,15 +45,14 @@ pub fn arrange_glyphs(
     ensures { ArrangesGlyphs «data».now objects.now opened (came glyphs) (came classes) (came glyph_set) cuts.now (left glyphs) (left classes) }
 {
     let coverage = opened.coverage;
-    let marks = opened.marks;
-    let count = marks.count as usize;
+    let count = opened.marks.count as usize;
     glyphs_into(
         bytes_of(data, objects, coverage.object as usize),
         coverage.header,
         glyphs,
     );
     arrange(
-        bytes_of(data, objects, marks.object as usize),
+        bytes_of(data, objects, opened.marks.object as usize),
         &mut glyphs[0..count],
         classes,
         glyph_set,
@@ -76,10 +75,9 @@ pub fn arrange_places(
         × Arranging (lent «data».now objects.now l c) t opened opened.marks.count places.old classes.old glyph_set.old cuts.now }
     ensures { ArrangesPlaces «data».now objects.now opened (came places) (came classes) (came glyph_set) cuts.now (left places) (left classes) }
 {
-    let marks = opened.marks;
     number_u16(places);
     arrange(
-        bytes_of(data, objects, marks.object as usize),
+        bytes_of(data, objects, opened.marks.object as usize),
         places,
         classes,
         glyph_set,

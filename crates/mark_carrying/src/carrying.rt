@@ -12,8 +12,9 @@ ghost use Rattle.mark_carrying.specs.Carrying.{Relinking, Carrying, CutAt};
 use crate::arranging::arrange_places;
 use call_lists::number_tables;
 use call_rules::Needs;
+use mark_arrays::Arrays;
 use mark_checks::MarkTable;
-use mark_links::{Arrays, copy_links};
+use mark_links::copy_links;
 use mark_new_objects::write_objects;
 use ot_wire::put_u16;
 
@@ -49,16 +50,7 @@ fn relink(
         cuts.now
         → LinksSplit (lent b o (came links) counts) table cuts.now (left links) result }
 {
-    let marks = opened.marks;
-    let bases = opened.bases;
-    let base_coverage = opened.base_coverage;
-    let arrays = Arrays {
-        mark_array: marks.object,
-        base_array: bases.object,
-        base_coverage: base_coverage.object,
-        classes: opened.classes,
-        bases: bases.count,
-    };
+    let arrays = Arrays::of(opened);
     arrange_places(data, objects, opened, places, classes, glyph_set, cuts);
     copy_links(links, counts, table, arrays, places, classes, cuts)
 }
@@ -84,7 +76,6 @@ pub fn carry_out(
     ensures { CutAt (store_came «data» objects links counts) table cuts.now (came new_tables) (store_left «data» objects links counts)
         (left new_tables) }
 {
-    let bases = opened.bases;
     let bytes = write_objects(
         data,
         objects,
@@ -92,7 +83,7 @@ pub fn carry_out(
         classes,
         cuts,
         opened.classes,
-        bases.count,
+        opened.bases.count,
         counts[0] as usize,
         counts[1] as usize,
     );

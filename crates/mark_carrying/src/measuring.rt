@@ -62,18 +62,16 @@ pub fn measure_needs(
         cuts.now
         → Measured (store_came_with «data» objects links counts) t (part (left glyphs) 0 opened.marks.count) (left classes) cuts.now result }
 {
-    let marks = opened.marks;
-    let bases = opened.bases;
-    let count = marks.count as usize;
+    let count = opened.marks.count as usize;
     arrange_glyphs(data, objects, opened, glyphs, classes, glyph_set, cuts);
     let bytes = new_length(
         &glyphs[0..count],
         classes,
         cuts,
         opened.classes,
-        bases.count,
+        opened.bases.count,
     );
-    let of_marks = links_from(links, counts, marks.object);
-    let of_bases = links_from(links, counts, bases.object);
+    let of_marks = links_from(links, counts, opened.marks.object);
+    let of_bases = links_from(links, counts, opened.bases.object);
     needs_of(cuts.len(), of_marks + of_bases, bytes)
 }

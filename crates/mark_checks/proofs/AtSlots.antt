@@ -1,29 +1,22 @@
 -- Links that stand at slots: row by row, and object by object. Assumes nothing.
-use Prim.Native.Nat.{ℕ, ◌+◌, ◌*◌, ◌<◌}
+use Prim.Native.Nat.{ℕ, ◌<◌}
 use mathlib.Core.Path.{◌≡◌, sym, ap, ap₂, ◌∙◌}
 use mathlib.Core.Bool.{Bool, true, false, not, ◌&&◌}
-use mathlib.Core.List.{List}
 use native.Mathlib.Omega.{arith}
-use lib.ListN.{get_or}
 use borrow.Author.Tests.{not-true, not-false}
 use Rattle.folds.proofs.Tests.{and_first, and_second}
 use Rattle.ot_layouts.specs.MarkBasePos.{is_table_slot, is_mark_slot, is_base_slot}
-use Rattle.store_rules.specs.Store.{Store, per_link, row_position, all_at}
+use Rattle.store_rules.specs.Store.{Store, all_at}
 use Rattle.store_rules.proofs.Sound.{sound_fits}
 use Rattle.store_rules.proofs.Lookups.{child_used_lem}
 use Rattle.store_reader.specs.Rows.{InOrder}
 use Rattle.store_reader.proofs.Rows.{rows_in_order}
-use Rattle.ot_markbasepos.specs.declared.Holder.{Holder}
 use Rattle.ot_markbasepos.specs.declared.ArrayKind.{ArrayKind}
-use Rattle.ot_markbasepos.specs.Kinds.{array_at, slot_of}
+use Rattle.ot_markbasepos.specs.Kinds.{array_at}
 use Rattle.mark_rules.specs.Table.{all_at_slots}
 use Rattle.mark_checks.specs.declared.Array.{Array}
 use Rattle.mark_checks.specs.declared.MarkTable.{MarkTable}
 use Rattle.mark_checks.specs.Opens.{LinkedArray, Opens}
-
--- the row i behind row `first` stands at a slot
-abbrev pub slot_at : List ℕ → Holder → ℕ → ℕ → Bool
-slot_at l holder first i = slot_of holder (get_or l (per_link * (first + i) + row_position) 0)
 
 module _ {s : Store} {t : ℕ} {p : MarkTable} (o : Opens s t p) where
   pub opened_in_order : InOrder s.links s.link_count

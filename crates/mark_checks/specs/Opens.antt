@@ -1,6 +1,5 @@
 -- A table that the checks of a reading have opened. Assumes nothing.
-use Rattle.std.specs.Prelude.{ℕ, ◌≡◌, true, length}
-use Rattle.std.proofs.Math.Option.{some}
+use Rattle.std.specs.Prelude.{ℕ, ◌≡◌, true, length, Some}
 use Rattle.ot_layouts.specs.Numbers.{u16_at}
 use Rattle.ot_layouts.specs.Coverage.{coverage_of}
 use Rattle.ot_layouts.specs.MarkBasePos.{cover_at, base_cover_at}
@@ -16,7 +15,7 @@ use Rattle.mark_checks.specs.declared.MarkTable.{MarkTable}
 
 -- the array is the object that is linked, it can be read in a table of so many classes, and this is its count
 pub record LinkedArray (kind : ArrayKind) (s : Store) (t classes : ℕ) (a : Array) : Type 0 where
-  pub child : child_at s t (array_at kind) ≡ some a.object
+  pub child : child_at s t (array_at kind) ≡ Some a.object
   pub linked : a.object ≡ linked_at s t (array_at kind)
   pub readable : readable_as kind classes (bytes_of s a.object) ≡ true
   pub count : a.count ≡ u16_at (bytes_of s a.object) 0

@@ -6,7 +6,7 @@ ghost use Rattle.mark_checks.specs.Opens.{Opens};
 ghost use Rattle.mark_checks.specs.Called.{Calls};
 
 use crate::slots::links_at_slots;
-use crate::{Checked, MarkTable, check_table};
+use crate::{MarkTable, check_table};
 use call_rules::{Answer, Lengths};
 use call_scratch::is_short;
 
@@ -18,14 +18,11 @@ pub fn check_call(
     counts: [u32; 3],
     table: u32,
     lengths: Lengths,
-) -> Checked
+) -> Result<MarkTable, Answer>
     ensures { Calls (store_came_with «data» objects links counts) table lengths result }
 {
-    let checked = check_table(data, objects, links, counts, table);
-    match checked {
-        Checked::Settled(answer) => Checked::Settled(answer),
-        Checked::Open(opened) => check_lent(links, counts, table, opened, lengths),
-    }
+    let opened = check_table(data, objects, links, counts, table)?;
+    check_lent(links, counts, table, opened, lengths)
 }
 
 // Check 6 of a table that is open, and then the slots of check 7.
@@ -35,15 +32,15 @@ fn check_lent(
     table: u32,
     opened: MarkTable,
     lengths: Lengths,
-) -> Checked
+) -> Result<MarkTable, Answer>
     requires { (b o : List ℕ) × Opens (lent b o links.now counts) table opened }
     ensures { (b o : List ℕ) → Opens (lent b o links.now counts) table opened → Calls (lent b o links.now counts) table lengths result }
 {
     if is_short(lengths, counts[1], opened.glyphs, opened.classes) {
-        return Checked::Settled(Answer::ShortScratch);
+        return Err(Answer::ShortScratch);
     }
     if !links_at_slots(links, counts, table, opened) {
-        return Checked::Settled(Answer::BadLinks);
+        return Err(Answer::BadLinks);
     }
-    Checked::Open(opened)
+    Ok(opened)
 }

@@ -12,23 +12,16 @@ ghost use Rattle.store_rules.specs.Moments.{store_came_with, store_now_with};
 ghost use Rattle.mark_checks.specs.Checked.{Known, FindsArray, CoveragesRead, Checks};
 
 use call_rules::Answer;
-use glyph_parts::{Linked, Part, PartKind, glyphs_of, linked_part};
+use glyph_parts::{Part, PartKind, glyphs_of, linked_part};
 use ot_markbasepos::{ArrayKind, array_readable};
 use ot_wire::u16_at;
-use store_reader::{Child, bytes_of, child_at, is_sound};
+use store_reader::{bytes_of, child_at, is_sound};
 
 // A readable array: the object, and how many marks or bases it has.
 #[derive(Clone, Copy)]
 pub struct Array {
     pub object: u32,
     pub count: u16,
-}
-
-// An array that is linked and readable, or none.
-#[derive(Clone, Copy)]
-pub enum FoundArray {
-    At(Array),
-    Nothing,
 }
 
 // A table that no check refuses.
@@ -42,38 +35,31 @@ pub struct MarkTable {
     pub bases: Array,
 }
 
-// What the checks say: the table is open, or the call has its answer, which for a table of another format is 0.
-#[derive(Clone, Copy)]
-pub enum Checked {
-    Open(MarkTable),
-    Settled(Answer),
-}
-
-// Checks a table of any store.
+// Checks a table of any store. The call has its answer where an error is returned, which for a table of another format is 0.
 pub fn check_table(
     data: &[u8],
     objects: &[u32],
     links: &[u32],
     counts: [u32; 3],
     table: u32,
-) -> Checked
+) -> Result<MarkTable, Answer>
     ensures { Checks (store_came_with «data» objects links counts) table result }
 {
     if !is_sound(data, objects, links, counts) {
-        return Checked::Settled(Answer::Unsound);
+        return Err(Answer::Unsound);
     }
     if counts[1] <= table {
-        return Checked::Settled(Answer::NoTable);
+        return Err(Answer::NoTable);
     }
     let bytes = bytes_of(data, objects, table as usize);
     if bytes.len() < 2 {
-        return Checked::Settled(Answer::BadTable);
+        return Err(Answer::BadTable);
     }
     if u16_at(bytes, 0) != 1 {
-        return Checked::Settled(Answer::Done);
+        return Err(Answer::Done);
     }
     if bytes.len() != 12 {
-        return Checked::Settled(Answer::BadTable);
+        return Err(Answer::BadTable);
     }
     let classes = u16_at(bytes, 6);
     check_parts(data, objects, links, counts, table, classes)
@@ -87,18 +73,14 @@ fn check_parts(
     counts: [u32; 3],
     table: u32,
     classes: u16,
-) -> Checked
+) -> Result<MarkTable, Answer>
     requires { Known (store_now_with «data» objects links counts) table classes }
     ensures { Checks (store_came_with «data» objects links counts) table result }
 {
     let first = linked_part(data, objects, links, counts, table, 2, PartKind::Coverage);
-    let Linked::To(coverage) = first else {
-        return Checked::Settled(Answer::BadParts);
-    };
+    let coverage = first.ok_or(Answer::BadParts)?;
     let second = linked_part(data, objects, links, counts, table, 4, PartKind::Coverage);
-    let Linked::To(base_coverage) = second else {
-        return Checked::Settled(Answer::BadParts);
-    };
+    let base_coverage = second.ok_or(Answer::BadParts)?;
     check_arrays(
         data,
         objects,
@@ -121,11 +103,11 @@ fn check_arrays(
     classes: u16,
     coverage: Part,
     base_coverage: Part,
-) -> Checked
+) -> Result<MarkTable, Answer>
     requires { CoveragesRead (store_now_with «data» objects links counts) table classes coverage base_coverage }
     ensures { Checks (store_came_with «data» objects links counts) table result }
 {
-    let first = linked_array(
+    let marks = linked_array(
         data,
         objects,
         links,
@@ -134,11 +116,9 @@ fn check_arrays(
         8,
         ArrayKind::Marks,
         classes,
-    );
-    let FoundArray::At(marks) = first else {
-        return Checked::Settled(Answer::BadParts);
-    };
-    let second = linked_array(
+    )
+    .ok_or(Answer::BadParts)?;
+    let bases = linked_array(
         data,
         objects,
         links,
@@ -147,15 +127,13 @@ fn check_arrays(
         10,
         ArrayKind::Bases,
         classes,
-    );
-    let FoundArray::At(bases) = second else {
-        return Checked::Settled(Answer::BadParts);
-    };
+    )
+    .ok_or(Answer::BadParts)?;
     let glyphs = glyphs_of(data, objects, coverage);
     if glyphs < (marks.count as usize) {
-        return Checked::Settled(Answer::FewGlyphs);
+        return Err(Answer::FewGlyphs);
     }
-    Checked::Open(MarkTable {
+    Ok(MarkTable {
         classes,
         coverage,
         glyphs,
@@ -165,7 +143,7 @@ fn check_arrays(
     })
 }
 
-// The array of the kind, which is linked at `position`.
+// The array of the kind, if one is linked at `position` and readable.
 fn linked_array(
     data: &[u8],
     objects: &[u32],
@@ -175,19 +153,16 @@ fn linked_array(
     position: u32,
     kind: ArrayKind,
     classes: u16,
-) -> FoundArray
+) -> Option<Array>
     requires { (sound (store_now_with «data» objects links counts) ≡ true) × (position ≡ array_at kind) }
     ensures { FindsArray kind (store_came_with «data» objects links counts) table classes result }
 {
-    let child = child_at(links, counts, table, position);
-    let Child::Of(object) = child else {
-        return FoundArray::Nothing;
-    };
+    let object = child_at(links, counts, table, position)?;
     let array = bytes_of(data, objects, object as usize);
     if !array_readable(array, kind, classes) {
-        return FoundArray::Nothing;
+        return None;
     }
-    FoundArray::At(Array {
+    Some(Array {
         object,
         count: u16_at(array, 0),
     })

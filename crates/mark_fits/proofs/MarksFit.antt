@@ -1,9 +1,9 @@
 -- Each resulting table of two or more classes fits, together with its parts and all that its anchors reach. Assumes nothing.
+use Rattle.std.specs.Prelude.{Some}
 use Prim.Native.Nat.{ℕ, ◌+◌, ◌-◌, ◌*◌, ◌≤◌}
 use mathlib.Core.Path.{◌≡◌, sym, ap, ◌∙◌}
 use mathlib.Core.Bool.{true}
 use mathlib.Core.List.{List, map}
-use mathlib.Core.Option.{some}
 use native.Mathlib.Nat.{mul_assoc}
 use native.Mathlib.Omega.{arith}
 use lib.ListN.{length, get_or}
@@ -46,7 +46,7 @@ module _ (s : Store) (t : ℕ) (cs : List ℕ) (g : Ready s t cs) {u : ℕ} (w :
 
   -- ---- how long its parts are
 
-  linked_size : (q c : ℕ) → child_at s' u q ≡ some c → size_of s' (linked_at s' u q) ≡ length (bytes_of s' c)
+  linked_size : (q c : ℕ) → child_at s' u q ≡ Some c → size_of s' (linked_at s' u q) ≡ length (bytes_of s' c)
   linked_size q c e = ap (size_of s') (linked_is s' u q c e) ∙ sym (size_bytes s' (fits_then_lem s t cs g) c (child_used_lem s' u (fits_then_lem s t cs g) q c e))
 
   table_size_lem : size_of s' u ≡ table_size

@@ -1,9 +1,8 @@
 -- For a store that is to be split: all of it can be written, and what is written is its links after the split. Assumes nothing.
+use Rattle.std.specs.Prelude.{Option, Some, unwrap_or}
 use Prim.Native.Nat.{ℕ, ◌+◌, ◌*◌, ◌<◌, ◌≤◌}
 use mathlib.Core.Path.{◌≡◌, sym, subst, ap, ap₂, ◌∙◌}
 use mathlib.Core.List.{List, ◌++◌, map}
-use mathlib.Core.Option
-use mathlib.Core.Option.{Option, some}
 use native.Mathlib.Omega.{arith}
 use lib.ListN.{length, get_or}
 use Rattle.folds.specs.Lists.{put}
@@ -29,7 +28,7 @@ use Rattle.mark_rules.specs.Table.{classes_of, mark_bytes, marks_in, bases_in}
 use Rattle.mark_rules.specs.Written.{per_table, need_links, fresh_links, new_links}
 use Rattle.mark_rules.proofs.Checks.{Parts, parts_read, at_slots_lem}
 use Rattle.mark_rules.proofs.LinkCounts.{fresh_many, many_links}
-use Rattle.mark_links.specs.declared.Arrays.{Arrays}
+use Rattle.mark_arrays.specs.declared.Arrays.{Arrays}
 use Rattle.store_link_rows.specs.Copies.{in_use, Copied}
 use Rattle.mark_order.specs.Marks.{mark_places}
 use Rattle.mark_links.specs.Splitting.{new_copies, CopyReady, Splitting, LinksSplit}
@@ -50,10 +49,10 @@ module _ (b o ls counts : List ℕ) (t : ℕ) (a : Arrays) (ps ks cs : List ℕ)
   parts = parts_read s t g.reads.parts
 
   -- an object that the table links is in use, and lies within the data
-  linked_short : (q : ℕ) → (c : ℕ) × (child_at s t q ≡ some c) → (linked_at s t q < 65536) × (length (linked_bytes s t q) ≤ 16777216)
+  linked_short : (q : ℕ) → (c : ℕ) × (child_at s t q ≡ Some c) → (linked_at s t q < 65536) × (length (linked_bytes s t q) ≤ 16777216)
   linked_short q (c, e) =
       let used = child_used_lem s t fits q c e in
-      let is : linked_at s t q ≡ c = ap (λ (x : Option ℕ). Option.get_or x 0) e in (
+      let is : linked_at s t q ≡ c = ap (λ (x : Option ℕ). unwrap_or x 0) e in (
         omega (arith, is, fits.objects_most),
         omega (arith, ap length (linked_some s t q c e), size_bytes s fits c used, (fits.object c used).inside, fits.bytes_most),
       )
@@ -102,7 +101,8 @@ module _ (b o ls counts : List ℕ) (t : ℕ) (a : Arrays) (ps ks cs : List ℕ)
         span_ext (kept_row mid own t v) (kept_row ls own t v) 0 (get_or counts 2 0)
         (λ k l h.
         kept_is ls mid own t v k k
-        (ap (λ (x : List ℕ). row x k) copied.rows_are ∙ row_below ls (per_link * get_or counts 2 0) (row_numbers new) (omega (arith, fits.links_in)) k (omega arith)))
+        (ap (λ (x : List ℕ). row x k) copied.rows_are
+        ∙ row_below ls (per_link * get_or counts 2 0) (row_numbers new) (omega (arith, fits.links_in)) k (omega arith)))
 
     pub split_done : {out : List ℕ} → out ≡ put mid 0 (segment (kept_row mid own t v) 0 (get_or counts 2 0)) → LinksSplit s t cs out r
     split_done h =

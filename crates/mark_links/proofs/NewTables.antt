@@ -14,8 +14,8 @@ use Rattle.cut_parts.specs.Tables.{high_at, PartEnd, Halved, Parted}
 use Rattle.cut_parts.proofs.Parting.{paired_glyphs}
 use Rattle.cut_parts.proofs.TableParts.{kept_half, kept_entries, same_part, new_rises, new_inside, new_half, new_entries, new_same}
 use Rattle.mark_rules.specs.Written.{per_table}
-use Rattle.mark_links.specs.declared.Arrays.{Arrays}
-use Rattle.mark_links.specs.declared.ArrayRows.{ArrayRows}
+use Rattle.mark_arrays.specs.declared.Arrays.{Arrays}
+use Rattle.mark_arrays.specs.declared.ArrayRows.{ArrayRows}
 use Rattle.store_link_rows.specs.Copies.{in_use, RowsRoom, Copied}
 use Rattle.mark_links.specs.Copies.{table_copies, Sources}
 use Rattle.mark_links.specs.Splitting.{places_in, table_turn}

@@ -21,7 +21,7 @@ use Rattle.cut_rules.specs.Ranges.{from, to}
 use Rattle.cut_parts.proofs.Arranging.{kept_same, new_same}
 use Rattle.mark_rules.specs.Table.{Mark, in_classes, classes_of, mark_bytes, marks_in, mark_at, marks_of, mark_anchor, marks_within, base_anchor}
 use Rattle.mark_rules.specs.Written.{no_mark, per_table, mark_links, base_links, array_links, table_links, fresh_links}
-use Rattle.mark_links.specs.declared.Arrays.{Arrays}
+use Rattle.mark_arrays.specs.declared.Arrays.{Arrays}
 use Rattle.mark_links.specs.Copies.{old_slot, mark_copies, base_copies, array_copies, table_copies}
 use Rattle.mark_order.specs.Marks.{mark_places}
 use Rattle.mark_links.specs.Splitting.{places_in, table_turn, tables_copies, new_copies, Splitting}
@@ -79,7 +79,8 @@ module _ (s : Store) (t : ℕ) (a : Arrays) (ps ks cs : List ℕ) (g : Splitting
       let xs = places lo hi in
       ap (λ (ms : List Mark). flat (at ms) (length ms)) (marks_placed lo hi)
       ∙ ap (flat (at (map (mark_at s t) xs))) (length-map (mark_at s t) xs)
-      ∙ flat-same (at (map (mark_at s t) xs)) (λ k. slot_link p (mark_slot 0 + 4 * k) (lookup (links_of s) a.mark_array (mark_slot (get_or xs k 0)))) (length xs)
+      ∙ flat-same (at (map (mark_at s t) xs))
+      (λ k. slot_link p (mark_slot 0 + 4 * k) (lookup (links_of s) a.mark_array (mark_slot (get_or xs k 0)))) (length xs)
       (λ k l. ap (slot_link p (mark_slot 0 + 4 * k)) (anchor_at xs k l))
 
   same_bases : (p lo hi : ℕ) → base_links s t p lo hi ≡ base_copies (links_of s) a.base_array a.bases a.classes lo hi p

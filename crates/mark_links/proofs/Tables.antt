@@ -10,15 +10,16 @@ use Rattle.store_rules.specs.Store.{Link, per_link}
 use Rattle.store_rules.specs.Appended.{row_numbers}
 use Rattle.store_rules.specs.Header.{header_links}
 use Rattle.store_reader.specs.declared.LinkRows.{LinkRows}
-use Rattle.mark_links.specs.declared.Arrays.{Arrays}
-use Rattle.mark_links.specs.declared.ArrayRows.{ArrayRows}
+use Rattle.mark_arrays.specs.declared.Arrays.{Arrays}
+use Rattle.mark_arrays.specs.declared.ArrayRows.{ArrayRows}
 use Rattle.store_link_rows.specs.Copies.{in_use, Source, RowsRoom, Copied}
 use Rattle.mark_links.specs.Copies.{mark_copies, base_copies, array_copies, table_copies, Sources}
 use Rattle.store_link_rows.proofs.Copying.{room_first, room_then, copied_then, source_then}
 
 -- ---- arrays
 
-module _ (ls counts : List ℕ) (a : Arrays) (places : List ℕ) (lo hi at p : ℕ) (room : RowsRoom ls counts at (array_copies (in_use ls counts) a places lo hi p)) where
+module _ (ls counts : List ℕ) (a : Arrays) (places : List ℕ) (lo hi at p : ℕ)
+    (room : RowsRoom ls counts at (array_copies (in_use ls counts) a places lo hi p)) where
   abbrev marks : List Link
   marks = mark_copies (in_use ls counts) a.mark_array places p
 
@@ -45,7 +46,8 @@ module _ (ls counts : List ℕ) (a : Arrays) (places : List ℕ) (lo hi at p : �
 
 -- ---- a table
 
-module _ (ls counts : List ℕ) (a : Arrays) (places : List ℕ) (lo hi at u : ℕ) (room : RowsRoom ls counts at (table_copies (in_use ls counts) a places lo hi u)) where
+module _ (ls counts : List ℕ) (a : Arrays) (places : List ℕ) (lo hi at u : ℕ)
+    (room : RowsRoom ls counts at (table_copies (in_use ls counts) a places lo hi u)) where
   abbrev header : List Link
   header = header_links own heads u (λ q. a.base_coverage)
 

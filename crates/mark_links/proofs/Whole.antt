@@ -7,13 +7,12 @@ use lib.ListN.{length, get_or}
 use Rattle.folds.specs.Lists.{part}
 use Rattle.folds.proofs.Parts.{length_part}
 use Rattle.store_rules.specs.Store.{Link}
-use Rattle.store_reader.specs.declared.LinkRows.{LinkRows}
-use Rattle.store_reader.specs.Rows.{ParentRows}
 use Rattle.cut_rules.specs.Ranges.{from}
 use Rattle.cut_parts.specs.Tables.{PartEnd}
 use Rattle.mark_rules.specs.Written.{per_table}
-use Rattle.mark_links.specs.declared.Arrays.{Arrays}
-use Rattle.mark_links.specs.declared.ArrayRows.{ArrayRows}
+use Rattle.mark_arrays.specs.declared.Arrays.{Arrays}
+use Rattle.mark_arrays.specs.declared.ArrayRows.{ArrayRows}
+use Rattle.mark_arrays.specs.Arrays.{RowsKnown}
 use Rattle.store_link_rows.specs.Copies.{in_use, RowsRoom, Copied}
 use Rattle.mark_links.specs.Copies.{array_copies, Sources}
 use Rattle.mark_links.specs.Splitting.{places_in, tables_copies, new_copies, CopyReady}
@@ -35,9 +34,9 @@ module _ (ls counts : List ℕ) (a : Arrays) (ps ks cs : List ℕ) (g : CopyRead
   abbrev kept_arrays : List ℕ → List Link → List Link
   kept_arrays places old = array_copies old a places 0 (from cs 0) (objects + per_table * length cs + 1)
 
-  pub all_sources : {marks bases : LinkRows} → ParentRows ls rows a.mark_array marks → ParentRows ls rows a.base_array bases
-      → Sources ls counts a (record { marks = marks; bases = bases })
-  all_sources m b = record { marks = record { order = g.order; rows_are = m }; bases = record { order = g.order; rows_are = b }; short = g.short }
+  pub all_sources : {rs : ArrayRows} → RowsKnown ls counts a rs → Sources ls counts a rs
+  all_sources k =
+      record { marks = record { order = g.order; rows_are = k.marks }; bases = record { order = g.order; rows_are = k.bases }; short = g.short }
 
   pub tables_room : RowsRoom ls counts rows tables
   unfolding new_copies

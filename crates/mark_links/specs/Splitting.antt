@@ -15,7 +15,7 @@ use Rattle.mark_rules.specs.Table.{classes_of, mark_array, base_array, bases_in,
 use Rattle.mark_order.specs.Marks.{mark_places}
 use Rattle.mark_rules.specs.Written.{per_table, need_links, new_links}
 use Rattle.mark_rules.specs.Reads.{Reads}
-use Rattle.mark_links.specs.declared.Arrays.{Arrays}
+use Rattle.mark_arrays.specs.declared.Arrays.{Arrays}
 use Rattle.store_link_rows.specs.Copies.{in_use, RowsRoom}
 use Rattle.mark_links.specs.Copies.{array_copies, table_copies}
 

@@ -5,33 +5,18 @@ ghost use Rattle.std.specs.Prelude.{ℕ, ◌+◌, ◌-◌, ◌*◌, ◌≤◌, �
 ghost use Rattle.store_rules.specs.Store.{lent};
 ghost use Rattle.cut_parts.specs.Tables.{PartEnd, Parted};
 ghost use Rattle.mark_rules.specs.Written.{per_table};
+ghost use Rattle.ot_layouts.specs.MarkBasePos.{base_slot};
 ghost use Rattle.mark_links.specs.Splitting.{tables_copies, new_copies, CopyReady, Splitting, SplittingLent, LinksSplit};
 ghost use Rattle.folds.specs.Moments.{came, left};
 ghost use Rattle.store_reader.specs.Rows.{orders};
 ghost use Rattle.store_link_rows.specs.Copies.{in_use, Source, RowsRoom, Copied};
-ghost use Rattle.mark_links.specs.Copies.{slot_copy, mark_copies, base_copies, array_copies, table_copies, Sources};
+ghost use Rattle.mark_links.specs.Copies.{slot_copy, mark_copies, base_copy, base_copies, array_copies, table_copies, Sources};
 
 use cut_parts::{cut_after, part_end};
+use mark_arrays::{ArrayLinks, ArrayRows, Arrays};
 use store_link_rows::{keep_rows, put_header, put_link};
 use store_reader::held_rows::{held_row, hold_row, rows_each};
-use store_reader::{Child, LinkRows, child_in, row_near, rows_of};
-
-// The table's arrays and its base coverage as objects, and how many classes and bases it has.
-#[derive(Clone, Copy)]
-pub struct Arrays {
-    pub mark_array: u32,
-    pub base_array: u32,
-    pub base_coverage: u32,
-    pub classes: u16,
-    pub bases: u16,
-}
-
-// The link rows of the two arrays.
-#[derive(Clone, Copy)]
-struct ArrayRows {
-    marks: LinkRows,
-    bases: LinkRows,
-}
+use store_reader::{child_in, row_near};
 
 // Where the next row goes, and the row of the old array behind those that have been copied.
 #[derive(Clone, Copy)]
@@ -45,29 +30,27 @@ struct Reached {
 fn copy_slot(
     links: &mut [u32],
     counts: [u32; 3],
-    array: u32,
-    rows: LinkRows,
+    array: ArrayLinks,
     near: usize,
     position: u32,
     at: usize,
     parent: u32,
     slot: u32,
 ) -> Reached
-    requires source { Source links.old counts array rows × (position ≤ orders) }
-    requires rows_room { RowsRoom links.old counts at (slot_copy (in_use links.old counts) array position parent slot) }
-    ensures { Copied (came links) at (slot_copy (in_use (came links) counts) array position parent slot) (left links) result.at
-        × (result.old ≤ get_or counts 2 0 + 1) }
+    requires source { Source links.old counts array.object array.rows × (position ≤ orders) }
+    requires rows_room { RowsRoom links.old counts at (slot_copy (in_use links.old counts) array.object position parent slot) }
+    ensures { Copied (came links) at (slot_copy (in_use (came links) counts) array.object position parent slot) (left links) result.at }
 {
     let row = row_near(
         links,
         counts[2] as usize,
-        rows.first,
-        rows.after,
+        array.rows.first,
+        array.rows.after,
         near,
-        array,
+        array.object,
         position,
     );
-    let Child::Of(child) = child_in(links, counts, row, array, position) else {
+    let Some(child) = child_in(links, counts, row, array.object, position) else {
         return Reached { at, old: row };
     };
     put_link(links, at, parent, slot, child);
@@ -81,35 +64,65 @@ fn copy_slot(
 fn copy_marks(
     links: &mut [u32],
     counts: [u32; 3],
-    array: u32,
-    rows: LinkRows,
+    array: ArrayLinks,
     places: &[u16],
     at: usize,
     parent: u32,
 ) -> usize
-    requires source { Source links.old counts array rows × (length places.now ≤ 16777216) }
-    requires rows_room { RowsRoom links.old counts at (mark_copies (in_use links.old counts) array places.now parent) }
-    ensures { Copied (came links) at (mark_copies (in_use (came links) counts) array places.now parent) (left links) result }
+    requires source { Source links.old counts array.object array.rows × (length places.now ≤ 16777216) }
+    requires rows_room { RowsRoom links.old counts at (mark_copies (in_use links.old counts) array.object places.now parent) }
+    ensures { Copied (came links) at (mark_copies (in_use (came links) counts) array.object places.now parent) (left links) result }
 {
     let mut next = at;
-    let mut k = 0;
-    while k < places.len() {
-        let place = places[k] as usize;
+    for (k, &place) in places.iter().enumerate() {
+        let place = place as usize;
         let reached = copy_slot(
             links,
             counts,
             array,
-            rows,
-            rows.first + place,
+            array.rows.first + place,
             (4 + 4 * place) as u32,
             next,
             parent,
             (4 + 4 * k) as u32,
         );
         next = reached.at;
-        k += 1;
     }
     next
+}
+
+// Copies the links of `width` slots of the old array, from slot `first` on, to the base array `parent`, from its slot `slot` on, as rows from row `at` on: the
+// anchors of one base. They are looked for near a row.
+fn copy_base(
+    links: &mut [u32],
+    counts: [u32; 3],
+    array: ArrayLinks,
+    near: usize,
+    first: usize,
+    width: usize,
+    at: usize,
+    parent: u32,
+    slot: usize,
+) -> Reached
+    requires source { Source links.old counts array.object array.rows }
+    requires slots_bound { (base_slot (first + width) ≤ orders) × (base_slot (slot + width) ≤ orders) }
+    requires rows_room { RowsRoom links.old counts at (base_copy (in_use links.old counts) array.object first width parent slot) }
+    ensures { Copied (came links) at (base_copy (in_use (came links) counts) array.object first width parent slot) (left links) result.at }
+{
+    let mut reached = Reached { at, old: near };
+    for k in 0..width {
+        reached = copy_slot(
+            links,
+            counts,
+            array,
+            reached.old,
+            (2 + 2 * (first + k)) as u32,
+            reached.at,
+            parent,
+            (2 + 2 * (slot + k)) as u32,
+        );
+    }
+    reached
 }
 
 // Copies the links of the classes `lo` up to `hi` of each base to the base array `parent`, from row `at` on. Returns where the next row goes. How far the rows
@@ -117,8 +130,7 @@ fn copy_marks(
 fn copy_bases(
     links: &mut [u32],
     counts: [u32; 3],
-    array: u32,
-    rows: LinkRows,
+    array: ArrayLinks,
     bases: usize,
     classes: usize,
     lo: usize,
@@ -127,44 +139,30 @@ fn copy_bases(
     parent: u32,
     held: &mut [u32; 4096],
 ) -> usize
-    requires source { Source links.old counts array rows }
+    requires source { Source links.old counts array.object array.rows }
     requires lo_le_hi { (lo ≤ hi) × (hi ≤ classes) × (classes < 65536) × (2 + 2 * (bases * classes) ≤ orders) }
-    requires rows_room { RowsRoom links.old counts at (base_copies (in_use links.old counts) array bases classes lo hi parent) }
-    ensures { Copied (came links) at (base_copies (in_use (came links) counts) array bases classes lo hi parent) (left links) result }
+    requires rows_room { RowsRoom links.old counts at (base_copies (in_use links.old counts) array.object bases classes lo hi parent) }
+    ensures { Copied (came links) at (base_copies (in_use (came links) counts) array.object bases classes lo hi parent) (left links) result }
 {
     let width = hi - lo;
-    let slots = bases * width;
-    let apart = rows_each(rows, bases, width);
+    let apart = rows_each(array.rows, bases, width);
     let mut next = at;
-    let mut near = held_row(held, 0, rows.first);
-    let mut base = 0;
-    let mut column = 0;
-    let mut old = lo;
-    let mut k = 0;
-    while k < slots {
-        let reached = copy_slot(
+    let mut near = array.rows.first;
+    for base in 0..bases {
+        let reached = copy_base(
             links,
             counts,
             array,
-            rows,
-            near,
-            (2 + 2 * old) as u32,
+            held_row(held, base, near),
+            base * classes + lo,
+            width,
             next,
             parent,
-            (2 + 2 * k) as u32,
+            base * width,
         );
         next = reached.at;
-        near = reached.old;
-        k += 1;
-        old += 1;
-        column += 1;
-        if column == width {
-            hold_row(held, base, near);
-            column = 0;
-            base += 1;
-            old += classes - width;
-            near = held_row(held, base, near + apart);
-        }
+        hold_row(held, base, reached.old);
+        near = reached.old.min(array.rows.after) + apart;
     }
     next
 }
@@ -188,20 +186,19 @@ fn copy_arrays(
     requires rows_room { RowsRoom links.old counts at (array_copies (in_use links.old counts) arrays places.now lo hi parent) }
     ensures { Copied (came links) at (array_copies (in_use (came links) counts) arrays places.now lo hi parent) (left links) result }
 {
-    let middle = copy_marks(
-        links,
-        counts,
-        arrays.mark_array,
-        rows.marks,
-        places,
-        at,
-        parent,
-    );
+    let mark_array = ArrayLinks {
+        object: arrays.mark_array,
+        rows: rows.marks,
+    };
+    let base_array = ArrayLinks {
+        object: arrays.base_array,
+        rows: rows.bases,
+    };
+    let middle = copy_marks(links, counts, mark_array, places, at, parent);
     copy_bases(
         links,
         counts,
-        arrays.base_array,
-        rows.bases,
+        base_array,
         arrays.bases as usize,
         arrays.classes as usize,
         lo as usize,
@@ -270,9 +267,7 @@ fn copy_tables(
     let mut from = start;
     let mut next = at;
     let mut table = first;
-    let mut j = 0;
-    while j < cuts.len() {
-        let lo = cuts[j];
+    for (j, &lo) in cuts.iter().enumerate() {
         let hi = cut_after(cuts, j, arrays.classes);
         let to = part_end(classes, from, hi);
         next = copy_table(
@@ -289,7 +284,6 @@ fn copy_tables(
         );
         table += 4;
         from = to;
-        j += 1;
     }
     next
 }
@@ -309,9 +303,7 @@ fn copy_new(
 {
     let first = counts[1] as usize;
     let count = counts[2] as usize;
-    let marks = rows_of(links, count, arrays.mark_array);
-    let bases = rows_of(links, count, arrays.base_array);
-    let rows = ArrayRows { marks, bases };
+    let rows = ArrayRows::of(links, counts, arrays);
     let lo = cuts[0];
     let end = part_end(classes, 0, lo);
     let at = copy_tables(

@@ -86,9 +86,6 @@ module _ (gs ks cs : List ℕ) (n bases : ℕ) (p : PlannedParts gs ks cs n) (sm
       }
 
 module _ (gs ks cs : List ℕ) (n bases at total j : ℕ) (t : Total gs ks cs n bases at total j) where
-  pub next_few : j < length cs → j + 1 < 65536
-  next_few h = omega (arith, cuts_few gs ks cs n t.known)
-
   module _ (h : j < length cs) (lo hi r : ℕ) (a : lo ≡ from cs j) (b : hi ≡ get_or cs (j + 1) n) (e : PartEnd ks at hi r) where
     e' : PartEnd ks at (get_or cs (j + 1) n) r
     e' = subst (λ (m : ℕ). PartEnd ks at m r) b e

@@ -15,7 +15,7 @@ use Rattle.store_object_rows.proofs.Rounds.{Rounds, rounds_start, rounds_stop, n
 use Rattle.mark_rules.specs.Written.{new_table, new_parts, new_objects}
 use Rattle.mark_new_objects.specs.Planned.{RangeMarks, PlannedParts}
 use Rattle.mark_new_objects.specs.Objects.{parts_of, table_objects, tables_of, objects_of}
-use Rattle.mark_new_objects.proofs.Planning.{cuts_few, kept_parts_lem, kept_marked, table_parts, table_marked}
+use Rattle.mark_new_objects.proofs.Planning.{kept_parts_lem, kept_marked, table_parts, table_marked}
 
 -- the objects of a new table
 objects_many : (gs ks : List ℕ) (bases n : ℕ) (cs : List ℕ) (j : ℕ) → length (table_objects gs ks bases n cs j) ≡ 4
@@ -49,9 +49,6 @@ module _ (d o gs ks cs : List ℕ) (n bases bytes count : ℕ) where
       pub row_small : row + 4 ≤ length o
       row_small = row_fits d o bytes count objects (length cs) 4 d' o' at row j t.rounds h
 
-      pub next_few : j + 1 < 65536
-      next_few = omega (arith, cuts_few gs ks cs n t.known)
-
       module _ (lo hi end : ℕ) (a : lo ≡ from cs j) (b : hi ≡ get_or cs (j + 1) n) (e : PartEnd ks start hi end) where
         e' : PartEnd ks start (get_or cs (j + 1) n) end
         e' = subst (λ (m : ℕ). PartEnd ks start m end) b e
@@ -73,9 +70,11 @@ module _ (d o gs ks cs : List ℕ) (n bases bytes count : ℕ) where
 
         pub turn_room : ObjectsRoom d' o' at row these
         turn_room =
-            subst (λ (new : List (List ℕ)). ObjectsRoom d' o' at row new) objects_are (next_room d o bytes count objects (length cs) 4 d' o' at row j t.rounds h)
+            subst (λ (new : List (List ℕ)). ObjectsRoom d' o' at row new) objects_are
+            (next_room d o bytes count objects (length cs) 4 d' o' at row j t.rounds h)
 
-        pub tables_turn : (d'' o'' : List ℕ) (r : ℕ) → Written d' o' at row these d'' o'' r → Tables d o gs ks cs n bases bytes count d'' o'' end r (row + 4) (j + 1)
+        pub tables_turn : (d'' o'' : List ℕ) (r : ℕ) → Written d' o' at row these d'' o'' r
+            → Tables d o gs ks cs n bases bytes count d'' o'' end r (row + 4) (j + 1)
         tables_turn d'' o'' r w =
             record {
               known = t.known;

@@ -60,7 +60,8 @@ use Rattle.mark_new_objects.specs.Objects.{table_objects, objects_of}
 use Rattle.mark_new_objects.proofs.Marks.{parts_from, parts_from_lem, entries_back}
 
 module _ (gs ks cs : List ℕ) (n : ℕ) where
-  pub planned : (es : List Entry) → Arranged gs ks cs n es → Places n cs → 0 < length cs → Ascends 0 es → length es < 65536 → n < 65536 → PlannedParts gs ks cs n
+  pub planned : (es : List Entry) → Arranged gs ks cs n es → Places n cs → 0 < length cs → Ascends 0 es → length es < 65536 → n < 65536
+      → PlannedParts gs ks cs n
   planned es r p some up few count =
       record {
         parts = arranged_parted gs ks cs n es r p some;
@@ -74,7 +75,8 @@ module _ (gs ks cs : List ℕ) (n : ℕ) where
 
   -- the new objects are those of any marks with these entries
   module _ (ms : List Mark) (bases : ℕ) (r : Arranged gs ks cs n (entries_from ms)) (some : 0 < length cs) where
-    parts_same : (lo hi : ℕ) → within lo hi (paired gs ks) ≡ within lo hi (entries_from ms) → new_parts (marks_from gs ks) bases lo hi ≡ new_parts ms bases lo hi
+    parts_same : (lo hi : ℕ) → within lo hi (paired gs ks) ≡ within lo hi (entries_from ms)
+        → new_parts (marks_from gs ks) bases lo hi ≡ new_parts ms bases lo hi
     parts_same lo hi e =
         parts_from_lem (marks_from gs ks) bases lo hi
         ∙ ap (λ (es : List Entry). parts_from bases lo hi (within lo hi es)) (entries_back (paired gs ks))
@@ -155,7 +157,8 @@ module _ (s : Store) (t : ℕ) (reads : Reads s t) (octets : Bytes s.bytes) wher
   pub stored_ascend : Ascends 0 es
   stored_ascend = let (hi, h, x) = in_order_lem in sorted_ascends es 0 hi x
 
-  pub stored_plan : (gs ks cs : List ℕ) → Arranged gs ks cs (classes_of s t) es → Places (classes_of s t) cs → 0 < length cs → PlannedParts gs ks cs (classes_of s t)
+  pub stored_plan : (gs ks cs : List ℕ) → Arranged gs ks cs (classes_of s t) es → Places (classes_of s t) cs → 0 < length cs
+      → PlannedParts gs ks cs (classes_of s t)
   stored_plan gs ks cs r p some =
       let many : length es ≡ m = ap length entries_are ∙ length-upto mark m in
       planned gs ks cs (classes_of s t) es r p some stored_ascend (omega (arith, bits (mark_array s t) 0)) (bits t class_count_at)

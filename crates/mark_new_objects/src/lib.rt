@@ -42,15 +42,12 @@ pub fn new_length(
     let kept = cuts[0];
     let mut at = part_end(classes, 0, kept);
     let mut total = parts_length(&glyphs[0..at], bases, kept);
-    let mut i = 0;
-    while i < cuts.len() {
-        let lo = cuts[i];
+    for (i, &lo) in cuts.iter().enumerate() {
         let hi = cut_after(cuts, i, class_count);
         let end = part_end(classes, at, hi);
         let parts = parts_length(&glyphs[at..end], bases, hi - lo);
         total += 12 + parts;
         at = end;
-        i += 1;
     }
     total
 }
@@ -121,9 +118,7 @@ fn write_tables(
     let mut from = start;
     let mut at = byte_count;
     let mut row = object_count;
-    let mut j = 0;
-    while j < cuts.len() {
-        let lo = cuts[j];
+    for (j, &lo) in cuts.iter().enumerate() {
         let hi = cut_after(cuts, j, class_count);
         let to = part_end(classes, from, hi);
         at = write_table_objects(
@@ -139,7 +134,6 @@ fn write_tables(
         );
         row += PER_TABLE;
         from = to;
-        j += 1;
     }
     at
 }

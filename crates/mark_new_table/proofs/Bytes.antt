@@ -33,7 +33,9 @@ array_long lo ks =
 
 pub bases_long_lem : (bases n : ℕ) → length (new_base_array bases n) ≡ 2 + 2 * (bases * n)
 unfolding new_base_array
-bases_long_lem bases n = omega (arith, length-append (be16 bases) (replicate (2 * (bases * n)) 0), length-be16 bases, length-replicate {A = ℕ} (2 * (bases * n)) 0)
+bases_long_lem bases n =
+    let many = 2 * (bases * n) in
+    omega (arith, length-append (be16 bases) (replicate many 0), length-be16 bases, length-replicate {A = ℕ} many 0)
 
 -- ---- written
 

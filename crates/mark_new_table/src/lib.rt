@@ -43,10 +43,8 @@ fn write_mark_array(data: &mut [u8], classes: &[u16], lo: u16, hi: u16, at: usiz
 {
     put_u16(data, at, classes.len() as u16);
     let first = at + 2;
-    let mut k: usize = 0;
-    while k < classes.len() {
-        put_mark(data, first + 4 * k, classes[k] - lo);
-        k += 1;
+    for (k, &class) in classes.iter().enumerate() {
+        put_mark(data, first + 4 * k, class - lo);
     }
     first + 4 * classes.len()
 }

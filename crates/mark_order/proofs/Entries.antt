@@ -27,10 +27,12 @@ module _ (b xs : List ℕ) where
   numbers_are = map-upto (λ (e : Entry). e.glyph) (λ i. record { glyph = get_or xs i 0; class = mark_class b i }) (length xs) ∙ upto_get_d xs 0
 
   -- what a sort by class leaves of them
-  pub in_class_order : {ks xs' ks' : List ℕ} → ks ≡ upto (mark_class b) (length xs) → ks' ≡ keys_of (ascending (pairs ks xs)) → xs' ≡ beside_of (ascending (pairs ks xs)) → ByClass (entries_by b xs) xs' ks'
+  pub in_class_order : {ks xs' ks' : List ℕ} → ks ≡ upto (mark_class b) (length xs) → ks' ≡ keys_of (ascending (pairs ks xs))
+      → xs' ≡ beside_of (ascending (pairs ks xs)) → ByClass (entries_by b xs) xs' ks'
   unfolding class_pairs
   in_class_order {ks} e k g =
-      let same : pairs ks xs ≡ pairs (map (λ (x : Entry). x.class) (entries_by b xs)) (map (λ (x : Entry). x.glyph) (entries_by b xs)) = ap₂ pairs (e ∙ sym classes_are) (sym numbers_are) in
+      let same : pairs ks xs ≡ pairs (map (λ (x : Entry). x.class) (entries_by b xs)) (map (λ (x : Entry). x.glyph) (entries_by b xs)) =
+      ap₂ pairs (e ∙ sym classes_are) (sym numbers_are) in
       record { glyphs = g ∙ ap (λ (z : List ℕ). beside_of (ascending z)) same; classes = k ∙ ap (λ (z : List ℕ). keys_of (ascending z)) same }
 
 -- ---- numbered by their places
@@ -66,4 +68,8 @@ module _ (b : List ℕ) (n : ℕ) where
   -- the places ascend, and are below 65,536
   pub places_in_order : n ≤ 65536 → {ps cs : List ℕ} → ByClass (places_by b n) ps cs → OrderedByClass (places_by b n) ps cs
   places_in_order few y =
-      record { up = sorted_ascends (places_by b n) 0 (0 + n) places_sorted; under = sorted_under (places_by b n) 0 (0 + n) 65536 (omega arith) places_sorted; by_class = y }
+      record {
+        up = sorted_ascends (places_by b n) 0 (0 + n) places_sorted;
+        under = sorted_under (places_by b n) 0 (0 + n) 65536 (omega arith) places_sorted;
+        by_class = y;
+      }

@@ -18,10 +18,8 @@ fn classes_into(array: &[u8], classes: &mut [u16])
     requires { 2 + 4 * length classes.old ≤ length array.now }
     ensures { left classes ≡ upto (mark_class array.now) (length (came classes)) }
 {
-    let mut i: usize = 0;
-    while i < classes.len() {
-        classes[i] = u16_at(array, 2 + 4 * i);
-        i += 1;
+    for (i, class) in classes.iter_mut().enumerate() {
+        *class = u16_at(array, 2 + 4 * i);
     }
 }
 

@@ -1,9 +1,9 @@
 -- What the decision rests on: whether the settings are known, the checks that need no scratch, whether there is a cycle, and the cut places. Assumes nothing.
+use Rattle.std.specs.Prelude.{Some, None, Err, Ok, Result}
 use Prim.Native.Nat.{ℕ, ◌*◌, ◌≤◌, ◌<◌}
 use mathlib.Core.Path.{◌≡◌, refl, sym, subst, ◌∙◌}
 use mathlib.Core.Bool.{Bool, true, false, cond, not}
 use mathlib.Core.List.{List, ◌++◌}
-use mathlib.Core.Option.{some, none}
 use native.Mathlib.Omega.{arith}
 use lib.ListN.{length, get_or}
 use lib.Dec.{ltb}
@@ -23,33 +23,30 @@ use Rattle.call_rules.proofs.Cases.{first_skip, first_stands}
 use Rattle.call_rules.proofs.KnownSettings.{unknown_refused}
 use Rattle.call_rules.proofs.Scratch.{LongEnough, long_enough}
 use Rattle.cut_filling.specs.Filling.{Placed}
+use Rattle.call_lists.specs.declared.Plan.{Plan}
 use Rattle.mark_rules.specs.Table.{cut_places}
 use Rattle.mark_rules.specs.Calls.{read_cases, scratch_short, cut_cases}
 use Rattle.mark_checks.specs.declared.MarkTable.{MarkTable}
-use Rattle.mark_checks.specs.declared.Checked.{Checked}
-use Rattle.mark_checks.specs.declared.Checked.TheVariants as Checked
 use Rattle.mark_checks.specs.Called.{Passed, Calls}
 use Rattle.mark_checks.proofs.Opened.{opened_fits}
 use Rattle.mark_checks.proofs.Calling.{reads_pass}
-use Rattle.mark_plan.specs.declared.Plan.{Plan}
-use Rattle.mark_plan.specs.declared.Decision.TheVariants.{Cut, Settled}
 use Rattle.mark_plan.specs.Cutting.{Looked}
 use Rattle.mark_plan.specs.Decided.{Planned, Decided}
 
 -- ---- the call has its answer
 
-settles : {how : Settings} {s : Store} {t : ℕ} {w : Scratch} {a : Answer} {cuts : List ℕ} → first_case (cut_cases how s t w) ≡ some (number a)
-    → Decided how s t w (Settled a) cuts
+settles : {how : Settings} {s : Store} {t : ℕ} {w : Scratch} {a : Answer} {cuts : List ℕ} → first_case (cut_cases how s t w) ≡ Some (number a)
+    → Decided how s t w (Err a) cuts
 settles e = record { answers = e; plans = λ p x. let z : ◌≡◌ {A = ℕ} 0 1 = cc in absurd (omega arith) }
 
-pub decided_settled : {how : Settings} → known how ≡ true → {s : Store} {t : ℕ} (w : Scratch) {x : Checked} {a : Answer} {cuts : List ℕ}
-    → Calls s t (lengths_of w) x → x ≡ Checked.Settled a → Decided how s t w (Settled a) cuts
+pub decided_settled : {how : Settings} → known how ≡ true → {s : Store} {t : ℕ} (w : Scratch) {x : Result MarkTable Answer} {a : Answer} {cuts : List ℕ}
+    → Calls s t (lengths_of w) x → x ≡ Err a → Decided how s t w (Err a) cuts
 decided_settled {how} l w {a = a} c y = settles (c.refuses a y how l w refl)
 
 -- ---- 12
 
 module _ (how : Settings) {b : Bool} (e : b ≡ known how) where
-  pub decided_unknown : not b ≡ true → {s : Store} {t : ℕ} {w : Scratch} {cuts : List ℕ} → Decided how s t w (Settled BadEdition) cuts
+  pub decided_unknown : not b ≡ true → {s : Store} {t : ℕ} {w : Scratch} {cuts : List ℕ} → Decided how s t w (Err BadEdition) cuts
   unfolding cut_cases
   decided_unknown h {s} {t} =
       let refused = unknown_refused how (sym e ∙ not-true b h) in
@@ -74,7 +71,7 @@ module _ {s : Store} {t : ℕ} (w : Scratch) {p : MarkTable} (k : Passed s t (le
   not_short = rw (← k.opens.glyphs, ← k.opens.classes) k.long
 
   -- all but the cycle has been asked
-  last : (how : Settings) → known how ≡ true → first_case (cut_cases how s t w) ≡ cond (on_cycle s t) (some (number BadLinks)) none
+  last : (how : Settings) → known how ≡ true → first_case (cut_cases how s t w) ≡ cond (on_cycle s t) (Some (number BadLinks)) None
   unfolding cut_cases first_case
   last how l = first_skip (settings_cases how ++ read_cases s t) _ (reads_pass k.opens how l) ∙ rw (not_short, k.slots)
 
@@ -97,12 +94,14 @@ module _ {s : Store} {t : ℕ} (w : Scratch) {p : MarkTable} (k : Passed s t (le
         }
 
     module _ {how : Settings} (l : known how ≡ true) {cuts : List ℕ} where
-      pub decided_cycle : (get_or z t 0 ≡ 0 → ⊥) → Decided how s t w (Settled BadLinks) cuts
+      pub decided_cycle : (get_or z t 0 ≡ 0 → ⊥) → Decided how s t w (Err BadLinks) cuts
       decided_cycle ne = settles (last how l ∙ rw (← tells, lt-ltb 0 (get_or z t 0) (omega arith)))
 
-      pub decided_cut : {n : ℕ} → get_or z t 0 ≡ 0 → Placed (cut_places how s t) w.cuts cuts n → Decided how s t w (Cut (record { table = p; cuts = n })) cuts
+      pub decided_cut : {n : ℕ} → get_or z t 0 ≡ 0 → Placed (cut_places how s t) w.cuts cuts n → Decided how s t w (Ok (record { table = p; cuts = n })) cuts
       decided_cut {n} h x =
           record {
             answers = last how l ∙ rw (← tells, le-ltb 0 (get_or z t 0) (omega arith));
-            plans = λ q y. let same : record { table = p; cuts = n } ≡ q = cc in subst (λ (r : Plan). Planned how s t w r cuts) same (record { passed = k; placed = x });
+            plans = λ q y.
+                let same : record { table = p; cuts = n } ≡ q = cc in
+                subst (λ (r : Plan MarkTable). Planned how s t w r cuts) same (record { passed = k; placed = x });
           }

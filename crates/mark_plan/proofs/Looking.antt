@@ -31,7 +31,8 @@ module _ {s : Store} {t : ℕ} {p : MarkTable} {w set gs ks cuts : List ℕ} (k 
   cover_inside =
       let i = part-inside o.reads.sounds o.base_coverage in
       let used = child_used_lem s t (opened_fits o) 4 p.base_coverage.object o.base_coverage.child in
-      record { row = i.row; ordered = i.ordered; inside = omega (arith, ((opened_fits o).object p.base_coverage.object used).inside, (opened_fits o).bytes_most) }
+      let fits = opened_fits o in
+      record { row = i.row; ordered = i.ordered; inside = omega (arith, (fits.object p.base_coverage.object used).inside, fits.bytes_most) }
 
   -- a mark for each place, and an entry for it in the scratch
   marks_covered : p.marks.count ≤ p.glyphs
@@ -48,7 +49,8 @@ module _ {s : Store} {t : ℕ} {p : MarkTable} {w set gs ks cuts : List ℕ} (k 
   marks = p.marks.count
 
   module _ {b : List ℕ} (e : b ≡ bytes_of s p.marks.object) (few : marks < 65536) where
-    pub places_ready : ((length (part ks 0 marks) ≡ length (part gs 0 marks)) × (length (part gs 0 marks) < 65536)) × (2 + 4 * length (part gs 0 marks) ≤ length b)
+    pub places_ready : ((length (part ks 0 marks) ≡ length (part gs 0 marks)) × (length (part gs 0 marks) < 65536))
+        × (2 + 4 * length (part gs 0 marks) ≤ length b)
     places_ready =
         let many = front_long gs marks glyphs_room in (
           (omega (arith, many, front_long ks marks classes_room), omega (arith, many)),
@@ -82,6 +84,7 @@ module _ {s : Store} {t : ℕ} {p : MarkTable} {w set gs ks cuts : List ℕ} (k 
           }
 
       -- the marks' places by class stand in the fronts
-      pub points_ready : p.classes < 65536 → {x : TableInfo} → x ≡ info_of s.objects p → length ps ≡ length (part gs 0 marks) → length cs ≡ length (part ks 0 marks)
+      pub points_ready : p.classes < 65536 → {x : TableInfo} → x ≡ info_of s.objects p → length ps ≡ length (part gs 0 marks)
+          → length cs ≡ length (part ks 0 marks)
           → PointsReady s t x (part (back gs marks ps) 0 marks) (part (back ks marks cs) 0 marks) w cuts
       points_ready low {x} same a c = rw (same, front_again gs marks glyphs_room ps a, front_again ks marks classes_room cs c) (ready low)

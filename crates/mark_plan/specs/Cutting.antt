@@ -5,6 +5,7 @@ use Rattle.store_walk.specs.Marks.{no_row, Marks}
 use Rattle.mark_rules.specs.Table.{all_at_slots}
 use Rattle.mark_checks.specs.declared.MarkTable.{MarkTable}
 use Rattle.mark_checks.specs.Opens.{Opens}
+use Rattle.mark_arrays.specs.Arrays.{arrays_of}
 use Rattle.mark_points.specs.declared.table_info.TableInfo.{TableInfo}
 
 -- the table's own numbers, a start of 16 plus the base coverage's length, and the marks from 2 on
@@ -12,10 +13,7 @@ abbrev pub info_of : List ℕ → MarkTable → TableInfo
 info_of o p =
     let c = p.base_coverage.object in
     record {
-      mark_array = p.marks.object;
-      base_array = p.bases.object;
-      classes = p.classes;
-      bases = p.bases.count;
+      arrays = arrays_of p;
       start = 16 + (get_or o (2 * c + 1) 0 - get_or o (2 * c) 0);
       epoch = 2;
     }

@@ -8,6 +8,7 @@ ghost use Rattle.mark_rules.specs.Table.{cut_places};
 ghost use Rattle.mark_plan.specs.Cutting.{info_of, Looked};
 
 use call_rules::Settings;
+use mark_arrays::Arrays;
 use mark_checks::MarkTable;
 use mark_order::order_places;
 use mark_points::{TableInfo, compute_split_points};
@@ -18,15 +19,10 @@ fn info_of(objects: &[u32], opened: MarkTable) -> TableInfo
     requires { Inside 16777216 objects.now opened.base_coverage.object }
     ensures { result ≡ info_of objects.now opened }
 {
-    let cover = opened.base_coverage;
-    let marks = opened.marks;
-    let bases = opened.bases;
+    let cover = opened.base_coverage.object;
     TableInfo {
-        mark_array: marks.object,
-        base_array: bases.object,
-        classes: opened.classes,
-        bases: bases.count,
-        start: 16 + size_of(objects, cover.object as usize),
+        arrays: Arrays::of(opened),
+        start: 16 + size_of(objects, cover as usize),
         epoch: 2,
     }
 }
@@ -51,9 +47,8 @@ pub fn cut_table(
         → Looked (store_came_with «data» objects links counts) t opened (came walk) (came glyph_set) (came glyphs) (came classes) (came cuts)
         → Placed (cut_places settings (store_came_with «data» objects links counts) t) (came cuts) (left cuts) result }
 {
-    let marks = opened.marks;
-    let count = marks.count as usize;
-    let array = bytes_of(data, objects, marks.object as usize);
+    let count = opened.marks.count as usize;
+    let array = bytes_of(data, objects, opened.marks.object as usize);
     let info = info_of(objects, opened);
     order_places(
         array,

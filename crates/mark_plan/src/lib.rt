@@ -11,32 +11,17 @@ ghost use Rattle.call_rules.specs.Settings.{known};
 ghost use Rattle.call_rules.specs.Scratch.{lengths_of};
 ghost use Rattle.call_rules.specs.Moments.{scratch_came, scratch_left, scratch_now};
 ghost use Rattle.call_rules.specs.Outcomes.{outcome};
-ghost use Rattle.call_lists.specs.Handed.{handed, handed_by};
 ghost use Rattle.mark_rules.specs.Calls.{mark_plan_call};
 ghost use Rattle.mark_checks.specs.Called.{Passed};
-ghost use Rattle.mark_plan.specs.Decided.{decided_as, Decided, planned_cuts, HandingOut};
+ghost use Rattle.mark_plan.specs.Decided.{Decided};
 
-use call_lists::list_places;
-use call_rules::{Answer, Lengths, Settings, is_known, number_of};
+use call_lists::{Plan, hand_out};
+use call_rules::{Answer, Lengths, Settings, give_out, is_known};
 use call_scratch::clear_scratch;
 use cutting::cut_table;
+use mark_checks::MarkTable;
 use mark_checks::call::check_call;
-use mark_checks::{Checked, MarkTable};
 use store_walk::begin_walk;
-
-// A table that is not refused, and how many cuts it gets; they stand at the front of the scratch.
-#[derive(Clone, Copy)]
-pub struct Plan {
-    pub table: MarkTable,
-    pub cuts: usize,
-}
-
-// What is decided: cuts, or the call has its answer, which for a table of another format is 0.
-#[derive(Clone, Copy)]
-pub enum Decision {
-    Cut(Plan),
-    Settled(Answer),
-}
 
 // The rest of check 7, by a walk of all that the table leads to, and then the cut places. The scratch may hold anything.
 pub fn decide_cuts(
@@ -52,19 +37,19 @@ pub fn decide_cuts(
     glyphs: &mut [u16],
     classes: &mut [u16],
     cuts: &mut [u16],
-) -> Decision
+) -> Result<Plan<MarkTable>, Answer>
     requires settings_value { known settings ≡ true }
     requires passed { Passed (store_now_with «data» objects links counts) table (lengths_of (scratch_now walk glyph_set glyphs classes cuts)) opened }
     ensures { Decided settings (store_came_with «data» objects links counts) table (scratch_came walk glyph_set glyphs classes cuts) result (left cuts) }
 {
     begin_walk(objects, links, counts, table, 12, walk);
     if walk[table as usize] != 0 {
-        return Decision::Settled(Answer::BadLinks);
+        return Err(Answer::BadLinks);
     }
     let count = cut_table(
         data, objects, links, counts, settings, opened, walk, glyph_set, glyphs, classes, cuts,
     );
-    Decision::Cut(Plan {
+    Ok(Plan {
         table: opened,
         cuts: count,
     })
@@ -83,44 +68,18 @@ pub fn decide(
     glyphs: &mut [u16],
     classes: &mut [u16],
     cuts: &mut [u16],
-) -> Decision
+) -> Result<Plan<MarkTable>, Answer>
     ensures { Decided settings (store_came_with «data» objects links counts) table (scratch_came walk glyph_set glyphs classes cuts) result (left cuts) }
 {
     if !is_known(settings) {
-        return Decision::Settled(Answer::BadEdition);
+        return Err(Answer::BadEdition);
     }
-    let lengths = Lengths {
-        walk: walk.len(),
-        glyph_set: glyph_set.len(),
-        glyphs: glyphs.len(),
-        classes: classes.len(),
-        cuts: cuts.len(),
-    };
-    let checked = check_call(data, objects, links, counts, table, lengths);
-    match checked {
-        Checked::Settled(answer) => Decision::Settled(answer),
-        Checked::Open(opened) => decide_cuts(
-            data, objects, links, counts, table, settings, opened, walk, glyph_set, glyphs,
-            classes, cuts,
-        ),
-    }
-}
-
-// Hands out what was decided: the answer, and where it is 0 the places and their count.
-fn hand_out(decision: Decision, cuts: &[u16], places: &mut [u16], place_count: &mut u32) -> u32
-    requires { HandingOut decision cuts.now }
-    ensures { handed result (left place_count) (left places) ≡ handed_by (decided_as decision) (planned_cuts decision cuts.now) (came places) }
-{
-    match decision {
-        Decision::Settled(answer) => {
-            *place_count = 0;
-            number_of(answer)
-        }
-        Decision::Cut(plan) => {
-            let count = plan.cuts;
-            list_places(&cuts[0..count], places, place_count)
-        }
-    }
+    let lengths = Lengths::of(walk, glyph_set, glyphs, classes, cuts);
+    let opened = check_call(data, objects, links, counts, table, lengths)?;
+    decide_cuts(
+        data, objects, links, counts, table, settings, opened, walk, glyph_set, glyphs, classes,
+        cuts,
+    )
 }
 
 // The cut places of a table of any store, in `places`, and how many there are. Scratch is zero after it.
@@ -147,7 +106,7 @@ pub fn cut_plan_markbasepos(
     let decision = decide(
         data, objects, links, counts, table, settings, walk, glyph_set, glyphs, classes, cuts,
     );
-    let answer = hand_out(decision, cuts, places, place_count);
+    let listed = hand_out(decision, cuts, places);
     clear_scratch(walk, glyph_set, glyphs, classes, cuts);
-    answer
+    give_out(listed, place_count)
 }

@@ -146,7 +146,7 @@ module _ {s : Store} {t : ℕ} {x : TableInfo} {ps cs : List ℕ} (u : Described
   pub marks_most : marks_in s t ≤ 4194304
   marks_most = omega (arith, marks_size_lem, size_most s described_fits (mark_array s t) arrays_used.0)
 
-  pub slots_most : base_slot (x.bases * x.classes) ≤ orders
+  pub slots_most : base_slot (x.arrays.bases * x.arrays.classes) ≤ orders
   slots_most = rw (u.bases, u.classes) (omega (arith, bases_size, size_most s described_fits (base_array s t) arrays_used.1))
 
   at_slots_lem : (all_at s (mark_array s t) is_mark_slot ≡ true) × (all_at s (base_array s t) is_base_slot ≡ true)
@@ -246,7 +246,7 @@ module _ {s : Store} {t : ℕ} {x : TableInfo} {ps cs : List ℕ} (u : Described
 
   module _ (a i : ℕ) where
     -- the rows of the classes from a up to i, with those of class i
-    pub class_more : a ≤ i → i < x.classes → (k : ℕ) → k < s.link_count
+    pub class_more : a ≤ i → i < x.arrays.classes → (k : ℕ) → k < s.link_count
         → also_class s (rows_of s (of_classes s t) a i) x i (its i) k ≡ rows_of s (of_classes s t) a (i + 1) k
     unfolding of_classes
     class_more order inside k h =

@@ -7,6 +7,7 @@ use native.Mathlib.Omega.{arith}
 use lib.ListN.{length}
 use Rattle.folds.specs.Lists.{part}
 use Rattle.folds.proofs.Joined.{or-second}
+use Rattle.folds.proofs.Tests.{by_test}
 use Rattle.ot_layouts.specs.MarkBasePos.{base_cover_at}
 use Rattle.store_rules.specs.Store.{Store, lent, size_of, linked_at}
 use Rattle.store_rules.specs.Reach.{item_size, rows_of}
@@ -26,7 +27,7 @@ use Rattle.mark_rules.specs.Rules.{partial_cover, mark_rule}
 use Rattle.mark_rules.specs.Table.{classes_of, bases_in, marks_of_class, of_classes, rule_of, cut_places}
 use Rattle.mark_points.specs.declared.table_info.TableInfo.{TableInfo}
 use Rattle.mark_points.specs.declared.Columns.{Columns}
-use Rattle.mark_points.specs.Anchors.{also_class}
+use Rattle.mark_points.specs.Anchors.{Goes, also_class, WalksClass, WalksAtCut}
 use Rattle.mark_points.specs.Points.{Described, PointsReady, cutting_at, Below}
 use Rattle.mark_points.proofs.ClassLinks.{described_fits, class_more, class_none}
 use Rattle.mark_points.proofs.MarkCounts.{start_few, start_none, ends_at, ends_inside, marks_are, covered, covered_more, covered_none, covered_few}
@@ -59,11 +60,13 @@ module _ (how : Settings) (s : Store) (t : ℕ) where
   beside_is a i = refl
 
   -- at a cut
-  again_is : second how.edition ≡ true → (i cost : ℕ) → (cost_at_cut (rule_of how s t) i cost ≡ (rule_of how s t).cost i i) × (seen_from (rule_of how s t).edition i ≡ i)
+  again_is : second how.edition ≡ true → (i cost : ℕ)
+      → (cost_at_cut (rule_of how s t) i cost ≡ (rule_of how s t).cost i i) × (seen_from (rule_of how s t).edition i ≡ i)
   unfolding rule_of mark_rule cost_at_cut seen_from
   again_is e i cost = (rw e, rw e)
 
-  stays_is : second how.edition ≡ false → (i cost : ℕ) → (cost_at_cut (rule_of how s t) i cost ≡ cost) × (seen_from (rule_of how s t).edition i ≡ i + 1)
+  stays_is : second how.edition ≡ false → (i cost : ℕ)
+      → (cost_at_cut (rule_of how s t) i cost ≡ cost) × (seen_from (rule_of how s t).edition i ≡ i + 1)
   unfolding rule_of mark_rule cost_at_cut seen_from
   stays_is e i cost = (rw e, rw e)
 
@@ -96,7 +99,7 @@ columns_start how {s} {t} {x} v {f} begins =
 -- ---- one class more
 
 module _ {how : Settings} {s : Store} {t : ℕ} {x : TableInfo} {ps cs d : List ℕ} {i : ℕ} {p : Columns} {w l : List ℕ}
-    (v : Below how s t x ps cs d i p w l) (inside : i < x.classes) where
+    (v : Below how s t x ps cs d i p w l) (inside : i < x.arrays.classes) where
   abbrev rule : Rule
   rule = rule_of how s t
 
@@ -135,13 +138,14 @@ module _ {how : Settings} {s : Store} {t : ℕ} {x : TableInfo} {ps cs d : List 
     with_class a = also_class s (rows a) x i (part ps p.from to)
 
     -- what a walk of the class has added are its rows
-    class_grown : (a : ℕ) → a ≤ i → {e : ℕ} {w' : List ℕ} {size : ℕ} → Grown s (rows a) (with_class a) e w' size → Grown s (rows a) (rows_of s (of_classes s t) a (i + 1)) e w' size
+    class_grown : (a : ℕ) → a ≤ i → {e : ℕ} {w' : List ℕ} {size : ℕ} → Grown s (rows a) (with_class a) e w' size
+        → Grown s (rows a) (rows_of s (of_classes s t) a (i + 1)) e w' size
     class_grown a order g =
         grown_same (described_fits v.described) (class_more v.described a i order inside) (rw (v.from, ends_at v.described i v.from end) at g)
 
     -- what a class costs that reaches so much
     abbrev costing : ℕ → ℕ
-    costing size = 2 * x.bases + 4 * (to - p.from) + size
+    costing size = 2 * x.arrays.bases + 4 * (to - p.from) + size
 
     class_costs : (a : ℕ) → a ≤ i → {e : ℕ} {w' : List ℕ} {size : ℕ} → Grown s (rows a) (with_class a) e w' size → costing size ≡ rule.cost a i
     class_costs a order g = omega (arith, cost_is how s t a i, v.described.bases, many, grown_item (of_classes s t) a i (class_grown a order g))
@@ -151,7 +155,7 @@ module _ {how : Settings} {s : Store} {t : ℕ} {x : TableInfo} {ps cs d : List 
       pub next_epoch : (a : ℕ) → Marks s (rows_of s (of_classes s t) a a) (x.epoch + p.filling.cuts + 1) w'
       next_epoch a = marks_next (described_fits v.described) g.marks (λ k h. class_none v.described a k)
 
-      module _ {b : Bool} (weighs : IsDue p.filling i (costing size) (p.partial + 2 * (to - p.from)) how.edition b) (few : x.bases < 65536) where
+      module _ {b : Bool} (weighs : IsDue p.filling i (costing size) (p.partial + 2 * (to - p.from)) how.edition b) (few : x.arrays.bases < 65536) where
         stands : rule.beside (cutting_at how s t i).first i ≡ p.partial + 2 * (to - p.from)
         unfolding partial_cover
         stands = omega (arith, beside_is how s t (cutting_at how s t i).first i, v.coverage, one_more_class)
@@ -173,7 +177,8 @@ module _ {how : Settings} {s : Store} {t : ℕ} {x : TableInfo} {ps cs d : List 
         class_added stays {f'} add =
             let listed : Listed f' (go_on (cutting_at how s t i) (costing size)) d l = add (cutting_at how s t i) d l v.filled.listed in
             let costs = class_costs seen v.order g in
-            let e : cutting_at how s t (i + 1) ≡ go_on (cutting_at how s t i) (costing size) = goes_on rule i (looks_is how s t i) (costing size) costs (is_due_lem ∙ stays) in
+            let e : cutting_at how s t (i + 1) ≡ go_on (cutting_at how s t i) (costing size) =
+            goes_on rule i (looks_is how s t i) (costing size) costs (is_due_lem ∙ stays) in
             let first : (cutting_at how s t (i + 1)).first ≡ (cutting_at how s t i).first = ap (λ (c : Cutting). c.first) e in
             let still : (cutting_at how s t (i + 1)).seen ≡ seen = ap (λ (c : Cutting). c.seen) e in
             let same : f'.cuts ≡ p.filling.cuts = omega (arith, listed.fills.cuts, v.filled.listed.fills.cuts) in
@@ -193,9 +198,11 @@ module _ {how : Settings} {s : Store} {t : ℕ} {x : TableInfo} {ps cs d : List 
               → Below how s t x ps cs d (i + 1) (record { filling = f'; from = to; partial = 4 + 2 * (to - p.from) }) w'' l'
           unfolding cut_here
           class_restarts at_cut most order seen-is marks =
-              let listed : Listed f' (cut_here rule (cutting_at how s t i) i (costing size)) d l' = begins rule (cutting_at how s t i) d (costing size) starts at_cut v.filled.listed in
+              let listed : Listed f' (cut_here rule (cutting_at how s t i) i (costing size)) d l' =
+              begins rule (cutting_at how s t i) d (costing size) starts at_cut v.filled.listed in
               let costs = class_costs seen v.order g in
-              let e : cutting_at how s t (i + 1) ≡ cut_here rule (cutting_at how s t i) i (costing size) = cuts_here rule i (looks_is how s t i) (costing size) costs (is_due_lem ∙ due-now) in
+              let e : cutting_at how s t (i + 1) ≡ cut_here rule (cutting_at how s t i) i (costing size) =
+              cuts_here rule i (looks_is how s t i) (costing size) costs (is_due_lem ∙ due-now) in
               let first : (cutting_at how s t (i + 1)).first ≡ i = ap (λ (c : Cutting). c.first) e in
               let now = ap (λ (c : Cutting). c.seen) e ∙ seen-is in
               let epoch : x.epoch + p.filling.cuts + 1 ≡ x.epoch + f'.cuts = omega (arith, one_more rule v.filled (costing size) listed) in
@@ -222,17 +229,68 @@ module _ {how : Settings} {s : Store} {t : ℕ} {x : TableInfo} {ps cs d : List 
               let (costs, from_next) = stays_is how s t not-again i (costing size) in
               rw still (class_restarts (costs ∙ ap costing (sym same)) (omega (arith, size_few g)) (omega arith) from_next (next_epoch (i + 1)))
 
+-- ---- a class as the code weighs it, whatever the bytes of the store
+
+module _ (c : List ℕ) {how : Settings} {b o l : List ℕ} {t : ℕ} {x : TableInfo} {ps cs d : List ℕ} {i : ℕ} {p : Columns} {w cuts : List ℕ}
+    (v : Below how (lent b o l c) t x ps cs d i p w cuts) (inside : i < x.arrays.classes) where
+  early : x.epoch + p.filling.cuts + 1 < 2147483648
+  early = omega (arith, v.described.epochs, v.filled.few, inside)
+
+  -- the class can be walked
+  pub goes_now : Goes o l c (x.epoch + p.filling.cuts) w
+  goes_now = (_, record { bytes = b; is_sound = v.described.reads.sounds; marks = v.marks; early = omega (arith, early) })
+
+  module _ {to : ℕ} (end : ClassEnd cs p.from i to) {w' : List ℕ} {size : ℕ}
+      (walks : WalksClass o l c x i (part ps p.from to) (x.epoch + p.filling.cuts) w w' size) where
+    abbrev before : ℕ → Bool
+    before = rows_of (lent b o l c) (of_classes (lent b o l c) t) (cutting_at how (lent b o l c) t i).seen i
+
+    walked : Grown (lent b o l c) before (also_class (lent b o l c) before x i (part ps p.from to)) (x.epoch + p.filling.cuts) w' size
+    walked = walks.grown b before v.described.reads.sounds v.marks
+
+    pub class_few : (to ≤ 4194304) × (size ≤ 16777216)
+    class_few = ((marks_few v inside end).2, size_few v inside walked)
+
+    -- and again, in the next epoch
+    pub goes_again : Goes o l c (x.epoch + p.filling.cuts + 1) w'
+    goes_again =
+        (_, record { bytes = b; is_sound = v.described.reads.sounds; marks = next_epoch v inside end walked i; early = early })
+
+    module _ {w'' : List ℕ} {size' : ℕ}
+        (at_cut : WalksAtCut o l c x i (part ps p.from to) size how.edition (x.epoch + p.filling.cuts + 1) w' w'' size') where
+      abbrev none : ℕ → Bool
+      none = rows_of (lent b o l c) (of_classes (lent b o l c) t) i i
+
+      walked_again : second how.edition ≡ true
+          → Grown (lent b o l c) none (also_class (lent b o l c) none x i (part ps p.from to)) (x.epoch + p.filling.cuts + 1) w'' size'
+      walked_again e = (at_cut.again e).grown b none v.described.reads.sounds (next_epoch v inside end walked i)
+
+      pub again_few : size' ≤ 16777216
+      again_few =
+          by_test (second how.edition)
+          (λ e. size_few v inside (walked_again e))
+          (λ e. omega (arith, (at_cut.stays e).0, class_few))
+
+      pub class_cut : {due : Bool} → IsDue p.filling i (costing v inside end size) (p.partial + 2 * (to - p.from)) how.edition due
+          → x.arrays.bases < 65536 → due ≡ true → {f' : Filling} {cuts' : List ℕ}
+          → Cut p.filling i (costing v inside end size') x.start cuts f' cuts'
+          → Below how (lent b o l c) t x ps cs d (i + 1) (record { filling = f'; from = to; partial = 4 + 2 * (to - p.from) }) w'' cuts'
+      class_cut weighs few now begins =
+          by_test (second how.edition)
+          (λ e. class_again v inside end walked weighs few now begins e (walked_again e))
+          (λ e. class_stays v inside end walked weighs few now begins e (at_cut.stays e))
+
 -- ---- after the last class
 
 pub columns_stop : {how : Settings} {s : Store} {t : ℕ} {x : TableInfo} {ps cs d : List ℕ} {i : ℕ} {p : Columns} {w l : List ℕ}
-    → Below how s t x ps cs d i p w l → i ≡ x.classes → Placed (cut_places how s t) d l p.filling.cuts
+    → Below how s t x ps cs d i p w l → i ≡ x.arrays.classes → Placed (cut_places how s t) d l p.filling.cuts
 unfolding cut_places
 columns_stop {how} {s} {t} v e = all_placed (rule_of how s t) v.filled (e ∙ v.described.classes ∙ sym (count_is_lem how s t))
 
 -- ---- the loop, whatever the bytes of the store and the table
 
 pub record Going (how : Settings) (o l c : List ℕ) (x : TableInfo) (ps cs w₀ d : List ℕ) (i : ℕ) (p : Columns) (w cuts : List ℕ) : Type 0 where
-  pub inside : i ≤ x.classes
+  pub inside : i ≤ x.arrays.classes
   pub walk : length w ≡ length w₀
   pub long : length cuts ≡ length d
   pub below : (b : List ℕ) (t : ℕ) → PointsReady (lent b o l c) t x ps cs w₀ d → Below how (lent b o l c) t x ps cs d i p w cuts

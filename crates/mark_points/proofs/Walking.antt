@@ -58,7 +58,8 @@ module _ {s : Store} (p q : ℕ) {lo hi : ℕ} (f : Fits s) (short : q + 1 ≤ o
   pub slot_offsets : Offsets s.links lo hi
   slot_offsets k a b =
       let h : k < s.link_count = omega (arith, next.within) in
-      eqb-true (kind_of s k) 0 (of_offset p (link_at s k) (span_own p q (q + 1) (link_at s k) (sym (span_rows s f p q (q + 1) first next short k h) ∙ and_intro (leb lo k) (ltb k hi) (le-leb lo k a) (lt-ltb k hi b))))
+      let own = sym (span_rows s f p q (q + 1) first next short k h) ∙ and_intro (leb lo k) (ltb k hi) (le-leb lo k a) (lt-ltb k hi b) in
+      eqb-true (kind_of s k) 0 (of_offset p (link_at s k) (span_own p q (q + 1) (link_at s k) own))
 
   pub slot_grown : {from : ℕ → Bool} {e : ℕ} {w w' : List ℕ} {r : ℕ} → Marks s from e w → Walked s from lo hi e w w' r
       → Grown s from (also_at s from p (q ∷ [])) e w' r
@@ -153,4 +154,5 @@ slots_of_lem h ps =
 pub walking_all : {o l c : List ℕ} {p : ℕ} (h : ℕ → ℕ) (ps : List ℕ) {e : ℕ} {w₀ w : List ℕ} {j size : ℕ}
     → Walking o l c p (λ k. h (get_or ps k 0)) e w₀ (length ps) j w size → length ps ≤ j
     → WalksAt o l c p (map h ps) e w₀ w size
-walking_all {o} {l} {c} {p} h ps {e} {w₀} {w} {j} {size} v end = subst (λ (qs : List ℕ). WalksAt o l c p qs e w₀ w size) (slots_of_lem h ps) (walking_stop v end)
+walking_all {o} {l} {c} {p} h ps {e} {w₀} {w} {j} {size} v end =
+    subst (λ (qs : List ℕ). WalksAt o l c p qs e w₀ w size) (slots_of_lem h ps) (walking_stop v end)

@@ -3,12 +3,11 @@ use Rattle.std.specs.Prelude.{ℕ, ◌+◌, ◌*◌, ◌≤◌, ◌≡◌, Bool,
 use Rattle.folds.specs.Folds.{upto}
 use Rattle.ot_layouts.specs.MarkBasePos.{mark_slot, base_slot}
 use Rattle.store_rules.specs.Store.{Store, lent, sound}
-use Rattle.store_reader.specs.declared.LinkRows.{LinkRows}
+use Rattle.mark_arrays.specs.declared.ArrayLinks.{ArrayLinks}
 use Rattle.store_reader.specs.Rows.{ParentRows}
 use Rattle.store_walk.specs.Marks.{also_at, Marks, WalkReady, Grown}
 use Rattle.cut_rules.specs.Cuts.{second}
 use Rattle.mark_points.specs.declared.table_info.TableInfo.{TableInfo}
-use Rattle.mark_points.specs.declared.anchors.ArrayRows.{ArrayRows}
 use Rattle.mark_points.specs.declared.anchors.Slot.{Slot}
 
 -- the slots of class c in a base array of n classes: one a base
@@ -19,14 +18,9 @@ column_slots bases n c = upto (λ j. base_slot (j * n + c)) bases
 abbrev pub Goes : List ℕ → List ℕ → List ℕ → ℕ → List ℕ → Type 0
 Goes o l c e w = (from : ℕ → Bool) × WalkReady o l c from e w
 
--- and the rows of object p are known
-abbrev pub Walkable : List ℕ → List ℕ → List ℕ → ℕ → LinkRows → ℕ → List ℕ → Type 0
-Walkable o l c p rows e w = ParentRows l (get_or c 2 0) p rows × Goes o l c e w
-
--- the rows of both arrays are
-pub record RowsKnown (l c : List ℕ) (x : TableInfo) (rows : ArrayRows) : Type 0 where
-  pub marks : ParentRows l (get_or c 2 0) x.mark_array rows.marks
-  pub bases : ParentRows l (get_or c 2 0) x.base_array rows.bases
+-- and the rows of array a are known
+abbrev pub Walkable : List ℕ → List ℕ → List ℕ → ArrayLinks → ℕ → List ℕ → Type 0
+Walkable o l c a e w = ParentRows l (get_or c 2 0) a.object a.rows × Goes o l c e w
 
 -- the rows of object p at these positions were walked, whatever the bytes of the store and the rows that had been walked
 pub record WalksAt (o l c : List ℕ) (p : ℕ) (qs : List ℕ) (e : ℕ) (w w' : List ℕ) (r : ℕ) : Type 0 where
@@ -41,7 +35,9 @@ pub record WalksSlot (o l c : List ℕ) (p q e : ℕ) (w w' : List ℕ) (r : Slo
 
 -- row k is one of `from`, or of the column of class i, or of a mark at one of these places
 abbrev pub also_class : Store → (ℕ → Bool) → TableInfo → ℕ → List ℕ → ℕ → Bool
-also_class s from x i ps = also_at s (also_at s from x.base_array (column_slots x.bases x.classes i)) x.mark_array (map mark_slot ps)
+also_class s from x i ps =
+    let a = x.arrays in
+    also_at s (also_at s from a.base_array (column_slots a.bases a.classes i)) a.mark_array (map mark_slot ps)
 
 -- the rows of class i were walked
 pub record WalksClass (o l c : List ℕ) (x : TableInfo) (i : ℕ) (ps : List ℕ) (e : ℕ) (w w' : List ℕ) (r : ℕ) : Type 0 where

@@ -19,14 +19,14 @@ use Rattle.mark_points.specs.declared.Columns.{Columns}
 pub record Described (s : Store) (t : ℕ) (x : TableInfo) (ps cs : List ℕ) : Type 0 where
   pub reads : Reads s t
   pub slots : all_at_slots s t ≡ true
-  pub marks_at : x.mark_array ≡ mark_array s t
-  pub bases_at : x.base_array ≡ base_array s t
-  pub classes : x.classes ≡ classes_of s t
-  pub bases : x.bases ≡ bases_in s t
+  pub marks_at : x.arrays.mark_array ≡ mark_array s t
+  pub bases_at : x.arrays.base_array ≡ base_array s t
+  pub classes : x.arrays.classes ≡ classes_of s t
+  pub bases : x.arrays.bases ≡ bases_in s t
   pub start : x.start ≡ 16 + size_of s (linked_at s t base_cover_at)
   pub ordered : OrderedByClass (mark_places s t) ps cs
   -- an epoch for each table that may come
-  pub epochs : x.epoch + x.classes < 2147483648
+  pub epochs : x.epoch + x.arrays.classes < 2147483648
 
 -- what a caller has seen before it asks for the cut places: nothing has the epoch's mark, and there is an entry for each cut
 pub record PointsReady (s : Store) (t : ℕ) (x : TableInfo) (ps cs w l : List ℕ) : Type 0 where

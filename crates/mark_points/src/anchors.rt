@@ -4,19 +4,14 @@ ghost use Rattle.std.specs.Prelude.{map, ◌+◌, ◌*◌, ◌≤◌, ◌<◌};
 ghost use Rattle.store_reader.specs.Rows.{orders};
 ghost use Rattle.ot_layouts.specs.MarkBasePos.{mark_slot, base_slot};
 ghost use Rattle.folds.specs.Moments.{came, left};
-ghost use Rattle.mark_points.specs.Anchors.{column_slots, RowsKnown, Goes, Walkable, WalksAt, WalksSlot, WalksClass, WalksAtCut};
+ghost use Rattle.mark_arrays.specs.Arrays.{RowsKnown};
+ghost use Rattle.mark_points.specs.Anchors.{column_slots, Goes, Walkable, WalksAt, WalksSlot, WalksClass, WalksAtCut};
 
 use crate::table_info::TableInfo;
+use mark_arrays::{ArrayLinks, ArrayRows};
 use store_reader::held_rows::{held_row, hold_row, rows_each};
-use store_reader::{LinkRows, next_row, row_near};
+use store_reader::{next_row, row_near};
 use store_walk::subgraph_size;
-
-// The link rows of the mark array and of the base array.
-#[derive(Clone, Copy)]
-pub struct ArrayRows {
-    pub marks: LinkRows,
-    pub bases: LinkRows,
-}
 
 // What a slot's anchor adds, the first row at or past the slot, and the first row past it: there is a link where these are two.
 #[derive(Clone, Copy)]
@@ -39,33 +34,31 @@ pub fn class_size(
     held: &mut [u32; 4096],
     walk: &mut [u32],
 ) -> u64
-    requires class_lt_classes { (class < info.classes) × (base_slot (info.bases * info.classes) ≤ orders) }
-    requires rows_known { RowsKnown links.now counts info rows × Goes objects.now links.now counts epoch walk.old }
+    requires class_lt_classes { (class < info.arrays.classes) × (base_slot (info.arrays.bases * info.arrays.classes) ≤ orders) }
+    requires rows_known { RowsKnown links.now counts info.arrays rows × Goes objects.now links.now counts epoch walk.old }
     ensures { WalksClass objects.now links.now counts info class places.now epoch (came walk) (left walk) result }
 {
+    let base_array = ArrayLinks {
+        object: info.arrays.base_array,
+        rows: rows.bases,
+    };
+    let mark_array = ArrayLinks {
+        object: info.arrays.mark_array,
+        rows: rows.marks,
+    };
     let bases = column_size(
         objects,
         links,
         counts,
-        info.base_array,
-        rows.bases,
-        info.bases,
-        info.classes,
+        base_array,
+        info.arrays.bases,
+        info.arrays.classes,
         class,
         epoch,
         held,
         walk,
     );
-    let marks = marks_size(
-        objects,
-        links,
-        counts,
-        info.mark_array,
-        rows.marks,
-        places,
-        epoch,
-        walk,
-    );
+    let marks = marks_size(objects, links, counts, mark_array, places, epoch, walk);
     bases + marks
 }
 
@@ -84,8 +77,8 @@ pub fn class_size_at_cut(
     held: &mut [u32; 4096],
     walk: &mut [u32],
 ) -> u64
-    requires class_lt_classes { (class < info.classes) × (base_slot (info.bases * info.classes) ≤ orders) }
-    requires rows_known { RowsKnown links.now counts info rows × Goes objects.now links.now counts epoch walk.old }
+    requires class_lt_classes { (class < info.arrays.classes) × (base_slot (info.arrays.bases * info.arrays.classes) ≤ orders) }
+    requires rows_known { RowsKnown links.now counts info.arrays rows × Goes objects.now links.now counts epoch walk.old }
     ensures { WalksAtCut objects.now links.now counts info class places.now size edition epoch (came walk) (left walk) result }
 {
     if edition == 2 {
@@ -101,20 +94,27 @@ fn slot_size(
     objects: &[u32],
     links: &[u32],
     counts: [u32; 3],
-    array: u32,
-    rows: LinkRows,
+    array: ArrayLinks,
     near: usize,
     position: u32,
     epoch: u32,
     walk: &mut [u32],
 ) -> Slot
     requires position_bound { position + 1 ≤ orders }
-    requires walkable { Walkable objects.now links.now counts array rows epoch walk.old }
-    ensures { WalksSlot objects.now links.now counts array position epoch (came walk) (left walk) result }
+    requires walkable { Walkable objects.now links.now counts array epoch walk.old }
+    ensures { WalksSlot objects.now links.now counts array.object position epoch (came walk) (left walk) result }
 {
     let count = counts[2] as usize;
-    let row = row_near(links, count, rows.first, rows.after, near, array, position);
-    let next = next_row(links, count, row, array, position + 1);
+    let row = row_near(
+        links,
+        count,
+        array.rows.first,
+        array.rows.after,
+        near,
+        array.object,
+        position,
+    );
+    let next = next_row(links, count, row, array.object, position + 1);
     let size = subgraph_size(objects, links, counts, row, next, epoch, walk);
     Slot { size, row, next }
 }
@@ -125,8 +125,7 @@ fn column_size(
     objects: &[u32],
     links: &[u32],
     counts: [u32; 3],
-    array: u32,
-    rows: LinkRows,
+    array: ArrayLinks,
     bases: u16,
     classes: u16,
     class: u16,
@@ -135,21 +134,19 @@ fn column_size(
     walk: &mut [u32],
 ) -> u64
     requires class_lt_classes { (class < classes) × (base_slot (bases * classes) ≤ orders) }
-    requires walkable { Walkable objects.now links.now counts array rows epoch walk.old }
-    ensures { WalksAt objects.now links.now counts array (column_slots bases classes class) epoch (came walk) (left walk) result }
+    requires walkable { Walkable objects.now links.now counts array epoch walk.old }
+    ensures { WalksAt objects.now links.now counts array.object (column_slots bases classes class) epoch (came walk) (left walk) result }
 {
-    let each = rows_each(rows, bases as usize, 0);
-    let mut near = rows.first;
+    let each = rows_each(array.rows, bases as usize, 0);
+    let mut near = array.rows.first;
     let mut size: u64 = 0;
-    let mut base: u16 = 0;
-    while base < bases {
+    for base in 0..bases {
         let slot = (base as usize) * (classes as usize) + (class as usize);
         let anchor = slot_size(
             objects,
             links,
             counts,
             array,
-            rows,
             held_row(held, base as usize, near),
             (2 + 2 * slot) as u32,
             epoch,
@@ -158,7 +155,6 @@ fn column_size(
         hold_row(held, base as usize, anchor.next);
         near = anchor.row + each;
         size += anchor.size;
-        base += 1;
     }
     size
 }
@@ -168,32 +164,28 @@ fn marks_size(
     objects: &[u32],
     links: &[u32],
     counts: [u32; 3],
-    array: u32,
-    rows: LinkRows,
+    array: ArrayLinks,
     places: &[u16],
     epoch: u32,
     walk: &mut [u32],
 ) -> u64
-    requires { Walkable objects.now links.now counts array rows epoch walk.old }
-    ensures { WalksAt objects.now links.now counts array (map mark_slot places.now) epoch (came walk) (left walk) result }
+    requires { Walkable objects.now links.now counts array epoch walk.old }
+    ensures { WalksAt objects.now links.now counts array.object (map mark_slot places.now) epoch (came walk) (left walk) result }
 {
     let mut size: u64 = 0;
-    let mut i: usize = 0;
-    while i < places.len() {
-        let place = places[i] as usize;
+    for &place in places {
+        let place = place as usize;
         let anchor = slot_size(
             objects,
             links,
             counts,
             array,
-            rows,
-            rows.first + place,
+            array.rows.first + place,
             (4 + 4 * place) as u32,
             epoch,
             walk,
         );
         size += anchor.size;
-        i += 1;
     }
     size
 }

@@ -4,14 +4,14 @@
 ghost use Rattle.std.specs.Prelude.{List, ℕ, ◌<◌};
 ghost use Rattle.store_rules.specs.Store.{lent};
 ghost use Rattle.folds.specs.Moments.{came, left};
-ghost use Rattle.mark_points.specs.Anchors.{RowsKnown};
+ghost use Rattle.mark_arrays.specs.Arrays.{RowsKnown};
 ghost use Rattle.mark_points.specs.Points.{PointsReady, Below, Weighs, FindsPlaces};
 
-use crate::anchors::{ArrayRows, class_size, class_size_at_cut};
+use crate::anchors::{class_size, class_size_at_cut};
 use call_rules::Settings;
 use cut_filling::Filling;
 use glyph_class_parts::class_end;
-use store_reader::rows_of;
+use mark_arrays::ArrayRows;
 
 pub mod anchors;
 pub mod table_info;
@@ -41,23 +41,18 @@ pub fn compute_split_points(
     requires { (b : List ℕ) × (t : ℕ) × PointsReady (lent b objects.now links.now counts) t info places.now classes.now walk.old cuts.old }
     ensures { FindsPlaces settings objects.now links.now counts info places.now classes.now (came walk) (came cuts) (left cuts) result }
 {
-    let count = counts[2] as usize;
-    let marks = rows_of(links, count, info.mark_array);
-    let bases = rows_of(links, count, info.base_array);
-    let rows = ArrayRows { marks, bases };
+    let rows = ArrayRows::of(links, counts, info.arrays);
     let mut columns = Columns {
         filling: Filling::new(info.start as u64),
         from: 0,
         partial: 4,
     };
     let mut held = [0u32; 4096];
-    let mut class: u16 = 0;
-    while class < info.classes {
+    for class in 0..info.arrays.classes {
         columns = weigh_class(
             objects, links, counts, info, settings, rows, columns, class, places, classes,
             &mut held, walk, cuts,
         );
-        class += 1;
     }
     columns.filling.cuts
 }
@@ -78,8 +73,8 @@ fn weigh_class(
     walk: &mut [u32],
     cuts: &mut [u16],
 ) -> Columns
-    requires rows_known { RowsKnown links.now counts info rows }
-    requires class_lt_classes { (class < info.classes)
+    requires rows_known { RowsKnown links.now counts info.arrays rows }
+    requires class_lt_classes { (class < info.arrays.classes)
         ×
         ((b : List ℕ)
         × (t : ℕ)
@@ -97,7 +92,7 @@ fn weigh_class(
     let size = class_size(
         objects, links, counts, info, rows, class, own, epoch, held, walk,
     );
-    let slots = 2 * (info.bases as u64) + 4 * marks;
+    let slots = 2 * (info.arrays.bases as u64) + 4 * marks;
     let alone = 4 + 2 * marks;
     let partial = columns.partial + 2 * marks;
     if filling.is_due(class, slots + size, partial, settings.edition) {

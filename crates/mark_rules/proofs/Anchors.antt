@@ -1,9 +1,9 @@
 -- The links of the arrays stand at their slots, and those of a range of classes lead to the anchors of these classes. Assumes nothing.
+use Rattle.std.specs.Prelude.{Some}
 use Prim.Native.Nat.{ℕ, ◌+◌, ◌*◌, ◌/◌, ◌%◌, ◌<◌, ◌≤◌}
 use mathlib.Core.Path.{◌≡◌, refl, sym, ap, ◌∙◌}
 use mathlib.Core.Bool.{Bool, true, ◌&&◌}
 use mathlib.Core.Logic.{◌⊎◌, inl, inr, ⊎_elim}
-use mathlib.Core.Option.{some}
 use native.Mathlib.Omega.{arith}
 use native.Mathlib.Nat.{div-add-mod, mod-lt, mul_comm, mul-le-mul_right}
 use lib.ListN.{length}
@@ -23,11 +23,11 @@ use Rattle.mark_rules.proofs.Checks.{Parts, AtSlots}
 module _ (s : Store) (t : ℕ) where
   -- c is the anchor of a mark of the classes lo up to hi
   abbrev pub MarkAnchor : ℕ → ℕ → ℕ → Type 0
-  MarkAnchor lo hi c = (i : ℕ) × (i < marks_in s t) × (lo ≤ mark_class (mark_bytes s t) i) × (mark_class (mark_bytes s t) i < hi) × (mark_anchor s t i ≡ some c)
+  MarkAnchor lo hi c = (i : ℕ) × (i < marks_in s t) × (lo ≤ mark_class (mark_bytes s t) i) × (mark_class (mark_bytes s t) i < hi) × (mark_anchor s t i ≡ Some c)
 
   -- or of a base for one of them
   abbrev pub BaseAnchor : ℕ → ℕ → ℕ → Type 0
-  BaseAnchor lo hi c = (j : ℕ) × (k : ℕ) × (j < bases_in s t) × (k < classes_of s t) × (lo ≤ k) × (k < hi) × (base_anchor s t j k ≡ some c)
+  BaseAnchor lo hi c = (j : ℕ) × (k : ℕ) × (j < bases_in s t) × (k < classes_of s t) × (lo ≤ k) × (k < hi) × (base_anchor s t j k ≡ Some c)
 
   abbrev pub Anchor : ℕ → ℕ → ℕ → Type 0
   Anchor lo hi c = MarkAnchor lo hi c ⊎ BaseAnchor lo hi c
@@ -58,11 +58,11 @@ module _ (s : Store) (t : ℕ) where
 
   module _ (f : Fits s) (parts : Parts s t) (slots : AtSlots s t) where
     -- an array is as long as its bytes
-    array_size : (q c : ℕ) → child_at s t q ≡ some c → size_of s (linked_at s t q) ≡ length (linked_bytes s t q)
+    array_size : (q c : ℕ) → child_at s t q ≡ Some c → size_of s (linked_at s t q) ≡ length (linked_bytes s t q)
     array_size q c e = sym (size_bytes s f (linked_at s t q) (omega (arith, linked_is s t q c e, child_used_lem s t f q c e)))
 
     -- what a row leads to, by its place
-    row_leads : (k p q : ℕ) → k < s.link_count → offset_of p (link_at s k) ≡ true → position_of s k ≡ q → child_at s p q ≡ some (child_of s k)
+    row_leads : (k p q : ℕ) → k < s.link_count → offset_of p (link_at s k) ≡ true → position_of s k ≡ q → child_at s p q ≡ Some (child_of s k)
     row_leads k p q l a b = ap (child_at s p) (sym b) ∙ offset_child s f k p l a
 
     -- ---- a row of an array stands at one of its slots

@@ -1,8 +1,8 @@
 -- What is known of a table once the checks of a reading are passed. Assumes nothing.
+use Rattle.std.specs.Prelude.{Some, None}
 use Prim.Native.Nat.{ℕ, ◌+◌, ◌*◌, ◌<◌}
 use mathlib.Core.Path.{◌≡◌, ap}
 use mathlib.Core.Bool.{Bool, true, ◌&&◌}
-use mathlib.Core.Option.{some, none}
 use native.Mathlib.Omega.{arith}
 use lib.ListN.{length}
 use lib.Dec.{eqb, ltb}
@@ -37,7 +37,7 @@ use Rattle.mark_rules.specs.Reads.{Reads}
 
 -- ---- 1 to 5
 
-pub no_case_reads : (s : Store) (t : ℕ) → first_case (read_cases s t) ≡ none → Reads s t
+pub no_case_reads : (s : Store) (t : ℕ) → first_case (read_cases s t) ≡ None → Reads s t
 unfolding read_cases
 no_case_reads s t h =
     let (a1, h1) = first_head _ _ h in
@@ -56,7 +56,7 @@ no_case_reads s t h =
       enough = ltb-false (length (glyphs_of s t)) (marks_in s t) a7;
     }
 
-pub reads_no_case : (s : Store) (t : ℕ) → Reads s t → first_case (read_cases s t) ≡ none
+pub reads_no_case : (s : Store) (t : ℕ) → Reads s t → first_case (read_cases s t) ≡ None
 unfolding read_cases first_case
 reads_no_case s t r =
     rw (
@@ -72,14 +72,14 @@ reads_no_case s t r =
 -- ---- 4: the parts are there, and readable
 
 pub record Parts (s : Store) (t : ℕ) : Type 0 where
-  pub cover : (c : ℕ) × (child_at s t cover_at ≡ some c)
+  pub cover : (c : ℕ) × (child_at s t cover_at ≡ Some c)
   pub cover_reads : cover_readable (linked_bytes s t cover_at) ≡ true
-  pub base_cover : (c : ℕ) × (child_at s t base_cover_at ≡ some c)
+  pub base_cover : (c : ℕ) × (child_at s t base_cover_at ≡ Some c)
   pub base_cover_reads : cover_readable (linked_bytes s t base_cover_at) ≡ true
-  pub marks : (c : ℕ) × (child_at s t mark_array_at ≡ some c)
+  pub marks : (c : ℕ) × (child_at s t mark_array_at ≡ Some c)
   pub marks_long : length (mark_bytes s t) ≡ 2 + 4 * marks_in s t
   pub classes_low : (i : ℕ) → i < marks_in s t → mark_class (mark_bytes s t) i < classes_of s t
-  pub bases : (c : ℕ) × (child_at s t base_array_at ≡ some c)
+  pub bases : (c : ℕ) × (child_at s t base_array_at ≡ Some c)
   pub bases_long : length (base_bytes s t) ≡ 2 + 2 * (bases_in s t * classes_of s t)
 
 module _ (s : Store) (t : ℕ) where

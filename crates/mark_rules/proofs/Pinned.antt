@@ -1,9 +1,9 @@
 -- Mark-to-base tables held against small whole stores, as one check; each list pins what its comment says. Assumes nothing.
+use Rattle.std.specs.Prelude.{Option, Some, None}
 use Prim.Native.Nat.{ℕ, ◌+◌}
 use mathlib.Core.Path.{◌≡◌, refl}
 use mathlib.Core.Bool.{Bool, true, false, cond, ◌&&◌, ◌||◌}
 use mathlib.Core.List.{List, [], ◌∷◌, ◌++◌, map}
-use mathlib.Core.Option.{Option, some, none}
 use lib.ListN.{length, get_or, replicate}
 use lib.Dec.{leb, eqb}
 use Rattle.folds.specs.Folds.{all}
@@ -205,10 +205,10 @@ orders =
 -- ---- splits, at given places
 
 unfoldable pub same_anchors : Option Anchors → Option Anchors → Bool
-same_anchors none none = true
-same_anchors (some a) (some b) = eqb a.mark b.mark && eqb a.base b.base
-same_anchors (some a) none = false
-same_anchors none (some b) = false
+same_anchors None None = true
+same_anchors (Some a) (Some b) = eqb a.mark b.mark && eqb a.base b.base
+same_anchors (Some a) None = false
+same_anchors None (Some b) = false
 
 -- table 0 of s, split into the tables us of s': all of these mark and base glyphs attach as before
 unfoldable pub same_attachments : Store → Store → List ℕ → List ℕ → List ℕ → Bool

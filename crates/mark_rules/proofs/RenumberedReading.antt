@@ -1,10 +1,10 @@
 -- An attachment reading looks at the table, at what it leads to, and at where that leads: where these are the same under other numbers in another
 -- store, so is the reading, with anchors under these numbers. Assumes nothing.
+use Rattle.std.specs.Prelude.{Option, Some, None, unwrap_or}
 use Prim.Native.Nat.{ℕ, ◌+◌, ◌*◌}
 use mathlib.Core.Path.{◌≡◌, refl, sym, ap, ap₂, ◌∙◌}
 use mathlib.Core.Bool.{Bool, not, ◌&&◌}
 use mathlib.Core.List.{List, [], ◌∷◌}
-use mathlib.Core.Option.{Option, some, none, get_or}
 use native.Mathlib.Numerals.{add-one}
 use lib.ListN.{length}
 use lib.Dec.{leb, ltb, eqb}
@@ -38,17 +38,17 @@ cases_by sounds past b parts few =
     ∷ []
 
 -- a part is there and reads
-part_by : (new : ℕ → ℕ) (o : Option ℕ) (b b' : ℕ → List ℕ) (reads : List ℕ → Bool) → ((c : ℕ) → o ≡ some c → b' (new c) ≡ b c)
-    → (is_some (mapped new o) && reads (b' (get_or (mapped new o) 0))) ≡ (is_some o && reads (b (get_or o 0)))
-part_by new none b b' reads e = refl
-part_by new (some c) b b' reads e = ap reads (e c refl)
+part_by : (new : ℕ → ℕ) (o : Option ℕ) (b b' : ℕ → List ℕ) (reads : List ℕ → Bool) → ((c : ℕ) → o ≡ Some c → b' (new c) ≡ b c)
+    → (is_some (mapped new o) && reads (b' (unwrap_or (mapped new o) 0))) ≡ (is_some o && reads (b (unwrap_or o 0)))
+part_by new None b b' reads e = refl
+part_by new (Some c) b b' reads e = ap reads (e c refl)
 
 -- ---- an attachment under new numbers
 
 -- with both anchors under their new numbers
 abbrev attach_then : (ℕ → ℕ) → Option Anchors → Option Anchors
-attach_then new none = none
-attach_then new (some a) = some (anchors (new a.mark) (new a.base))
+attach_then new None = None
+attach_then new (Some a) = Some (anchors (new a.mark) (new a.base))
 
 -- where a mark is, and where a base is, over coverage and array
 abbrev place_by : List ℕ → ℕ → ℕ → Option ℕ
@@ -61,32 +61,32 @@ attach_by mark base array classes mark_at base_at =
     and_then base λ j.
     and_then (mark_at (mark_slot i)) λ a.
     and_then (base_at (base_slot (j * classes + mark_class array i))) λ c.
-    some (anchors a c)
+    Some (anchors a c)
 
 attach_by_lem : (new : ℕ → ℕ) (mark base : Option ℕ) (array : List ℕ) (classes : ℕ) (mark_at base_at : ℕ → Option ℕ)
     → attach_by mark base array classes (λ q. mapped new (mark_at q)) (λ q. mapped new (base_at q)) ≡ attach_then new (attach_by mark base array classes mark_at base_at)
 unfolding and_then
-attach_by_lem new none base array classes mark_at base_at = refl
-attach_by_lem new (some i) none array classes mark_at base_at = refl
-attach_by_lem new (some i) (some j) array classes mark_at base_at = go (mark_at (mark_slot i)) (base_at (base_slot (j * classes + mark_class array i)))
+attach_by_lem new None base array classes mark_at base_at = refl
+attach_by_lem new (Some i) None array classes mark_at base_at = refl
+attach_by_lem new (Some i) (Some j) array classes mark_at base_at = go (mark_at (mark_slot i)) (base_at (base_slot (j * classes + mark_class array i)))
   where
     go : (x y : Option ℕ)
-        → and_then (mapped new x) (λ a. and_then (mapped new y) λ c. some (anchors a c)) ≡ attach_then new (and_then x λ a. and_then y λ c. some (anchors a c))
-    go none y = refl
-    go (some a) none = refl
-    go (some a) (some c) = refl
+        → and_then (mapped new x) (λ a. and_then (mapped new y) λ c. Some (anchors a c)) ≡ attach_then new (and_then x λ a. and_then y λ c. Some (anchors a c))
+    go None y = refl
+    go (Some a) None = refl
+    go (Some a) (Some c) = refl
 
 reported_then : (new : ℕ → ℕ) (n : ℕ) (o : Option Anchors) → reported n (attach_then new o) ≡ outcome_then new (reported n o)
 unfolding reported outcome_then anchor_then
-reported_then new n none = refl
-reported_then new n (some a) =
+reported_then new n None = refl
+reported_then new n (Some a) =
     λ i. record { answer = n; found = 1; anchors = anchor_then new (sym (add-one a.mark) i) ∷ anchor_then new (sym (add-one a.base) i) ∷ [] }
 
 module _ {new : ℕ → ℕ} {s s' : Store} {u : ℕ} (same : SameUnder new s s' u) where
   part_same : (q : ℕ) (reads : List ℕ → Bool)
       → (is_some (child_at s' (new u) q) && reads (linked_bytes s' (new u) q)) ≡ (is_some (child_at s u q) && reads (linked_bytes s u q))
   part_same q reads =
-      ap (λ (o : Option ℕ). is_some o && reads (bytes_of s' (get_or o 0))) (same.links q)
+      ap (λ (o : Option ℕ). is_some o && reads (bytes_of s' (unwrap_or o 0))) (same.links q)
       ∙ part_by new (child_at s u q) (bytes_of s) (bytes_of s') reads (same.child_bytes q)
 
   -- 4, of a table with so many classes
@@ -127,7 +127,7 @@ module _ {new : ℕ → ℕ} {s s' : Store} {u : ℕ} (same : SameUnder new s s'
 
   -- ---- the two anchors
 
-  anchor_then_lem : (q c r : ℕ) → child_at s u q ≡ some c → child_at s' (linked_at s' (new u) q) r ≡ mapped new (child_at s (linked_at s u q) r)
+  anchor_then_lem : (q c r : ℕ) → child_at s u q ≡ Some c → child_at s' (linked_at s' (new u) q) r ≡ mapped new (child_at s (linked_at s u q) r)
   anchor_then_lem q c r e =
       ap (λ (o : ℕ). child_at s' o r) (linked_is s' (new u) q (new c) (child_under same q c e))
       ∙ same.child_links q c e r
@@ -156,5 +156,5 @@ module _ {new : ℕ → ℕ} {s s' : Store} {u : ℕ} (same : SameUnder new s s'
   reading_then m b = ap (λ (o : Option ℕ). settle_mark o (attach_of s' (new u) m b)) checks_same ∙ go (first_case (read_cases s u)) refl
     where
       go : (o : Option ℕ) → first_case (read_cases s u) ≡ o → settle_mark o (attach_of s' (new u) m b) ≡ outcome_then new (settle_mark o (attach_of s u m b))
-      go (some n) e = reported_then new n none
-      go none e = ap (reported 0) (attach_then_lem m b (parts_read s u (no_case_reads s u e).parts)) ∙ reported_then new 0 (attach_of s u m b)
+      go (Some n) e = reported_then new n None
+      go None e = ap (reported 0) (attach_then_lem m b (parts_read s u (no_case_reads s u e).parts)) ∙ reported_then new 0 (attach_of s u m b)

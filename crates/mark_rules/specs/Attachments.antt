@@ -1,6 +1,5 @@
 -- The attachment of a mark glyph and a base glyph: "mark and base anchor objects". Assumes nothing.
-use Rattle.std.specs.Prelude.{ℕ, List, [], ◌∷◌, ltb}
-use Rattle.std.proofs.Math.Option.{Option, some, none}
+use Rattle.std.specs.Prelude.{ℕ, List, [], ◌∷◌, ltb, Option, Some, None}
 use Rattle.folds.specs.Lists.{given, and_then}
 use Rattle.ot_layouts.specs.Coverage.{cover_place}
 use Rattle.ot_layouts.specs.MarkBasePos.{cover_at, base_cover_at, mark_class}
@@ -32,16 +31,16 @@ attach_of s t m b =
     and_then (base_place s t b) λ j.
     and_then (mark_anchor s t i) λ a.
     and_then (base_anchor s t j (mark_class (mark_bytes s t) i)) λ c.
-    some (anchors a c)
+    Some (anchors a c)
 
 -- an attachment, and where there is none another
 unfoldable pub or_attach : Option Anchors → Option Anchors → Option Anchors
-or_attach (some a) o = some a
-or_attach none o = o
+or_attach (Some a) o = Some a
+or_attach None o = o
 
 -- "reading the kept table and then the new ones in order": the first of the tables with an attachment decides
 unfoldable pub attach_among : Store → List ℕ → ℕ → ℕ → Option Anchors
-attach_among s [] m b = none
+attach_among s [] m b = None
 attach_among s (u ∷ us) m b = or_attach (attach_of s u m b) (attach_among s us m b)
 
 -- all of this file's definitions, for checks that compute

@@ -1,6 +1,5 @@
 -- The calls on MarkBasePos tables: "Given exactly if (first that applies, in this order)", and the outcome of each. Assumes nothing.
-use Rattle.std.specs.Prelude.{ℕ, ◌+◌, Bool, not, ◌||◌, List, [], ◌∷◌, ◌++◌, length, leb, ltb, eqb}
-use Rattle.std.proofs.Math.Option.{Option, some, none}
+use Rattle.std.specs.Prelude.{ℕ, ◌+◌, Bool, not, ◌||◌, List, [], ◌∷◌, ◌++◌, length, leb, ltb, eqb, Option, Some, None}
 use Rattle.folds.specs.Lists.{is_empty}
 use Rattle.ot_layouts.specs.MarkBasePos.{format_of, table_size}
 use Rattle.store_rules.specs.Store.{Store, sound, bytes_of}
@@ -77,13 +76,13 @@ pub record MarkOutcome : Type 0 where
 
 -- an answer with an attachment: of each object its number plus one, as devices are told; with none "no attachment" and two zeros
 unfoldable pub reported : ℕ → Option Anchors → MarkOutcome
-reported n (some a) = record { answer = n; found = 1; anchors = (a.mark + 1) ∷ (a.base + 1) ∷ [] }
-reported n none = record { answer = n; found = 0; anchors = 0 ∷ 0 ∷ [] }
+reported n (Some a) = record { answer = n; found = 1; anchors = (a.mark + 1) ∷ (a.base + 1) ∷ [] }
+reported n None = record { answer = n; found = 0; anchors = 0 ∷ 0 ∷ [] }
 
 -- "refuses by 1 to 5 in this order", as a pair reading does, with no attachment
 unfoldable pub settle_mark : Option ℕ → Option Anchors → MarkOutcome
-settle_mark (some n) a = reported n none
-settle_mark none a = reported 0 a
+settle_mark (Some n) a = reported n None
+settle_mark None a = reported 0 a
 
 -- the outcome of an attachment reading
 unfoldable pub mark_call : Store → ℕ → ℕ → ℕ → MarkOutcome

@@ -1,6 +1,5 @@
 -- A MarkBasePos table in a store: its parts, its marks and its bases' anchors, and its cuts. Assumes nothing.
-use Rattle.std.specs.Prelude.{ℕ, ◌+◌, ◌*◌, Bool, ◌&&◌, ◌||◌, List, length, get_or, leb, ltb}
-use Rattle.std.proofs.Math.Option.{Option}
+use Rattle.std.specs.Prelude.{ℕ, ◌+◌, ◌*◌, Bool, ◌&&◌, ◌||◌, List, length, get_or, leb, ltb, Option}
 use Rattle.folds.specs.Folds.{upto}
 use Rattle.folds.specs.Lists.{is_some, sift}
 use Rattle.ot_layouts.specs.Coverage.{cover_readable, cover_glyphs}

@@ -1,6 +1,5 @@
 -- "What is written" for MarkBasePos, from the old store, the table and its cuts. Assumes nothing.
-use Rattle.std.specs.Prelude.{ℕ, ◌+◌, ◌-◌, ◌*◌, ◌/◌, ◌%◌, List, [], ◌∷◌, ◌++◌, map, length, get_or, replicate}
-use Rattle.std.proofs.Math.Option.{Option, none}
+use Rattle.std.specs.Prelude.{ℕ, ◌+◌, ◌-◌, ◌*◌, ◌/◌, ◌%◌, List, [], ◌∷◌, ◌++◌, map, length, get_or, replicate, Option, None}
 use Rattle.folds.specs.Folds.{flat, upto}
 use Rattle.folds.specs.Lists.{join}
 use Rattle.ot_layouts.specs.Numbers.{be16, words}
@@ -22,7 +21,7 @@ new_table lo hi = words (1 ∷ 0 ∷ 0 ∷ (hi - lo) ∷ 0 ∷ 0 ∷ [])
 
 -- what a list of marks has past its end
 abbrev pub no_mark : Mark
-no_mark = record { glyph = 0; class = 0; anchor = none }
+no_mark = record { glyph = 0; class = 0; anchor = None }
 
 -- its coverage, of its marks
 unfoldable pub new_coverage : List Mark → List ℕ

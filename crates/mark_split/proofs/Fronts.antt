@@ -1,8 +1,8 @@
 -- A plan's cuts at the front of the scratch: what deciding leaves there, and what is lent on. Assumes nothing.
+use Rattle.std.specs.Prelude.{None, Ok, Result}
 use Prim.Native.Nat.{ℕ, ◌≤◌}
 use mathlib.Core.Path.{◌≡◌, sym, ap, subst, ◌∙◌}
 use mathlib.Core.List.{List}
-use mathlib.Core.Option.{none}
 use native.Mathlib.Omega.{arith}
 use lib.ListN.{length}
 use Rattle.folds.specs.Lists.{part, Bytes}
@@ -10,26 +10,27 @@ use Rattle.folds.proofs.Fronts.{front_long}
 use Rattle.store_rules.specs.Store.{Store}
 use Rattle.call_rules.specs.declared.Settings.{Settings}
 use Rattle.call_rules.specs.Scratch.{Scratch, lengths_of}
-use Rattle.call_rules.specs.Answers.{first_case}
+use Rattle.call_rules.specs.Answers.{first_case, refusal}
 use Rattle.call_rules.proofs.Scratch.{long_enough}
 use Rattle.cut_rules.specs.Places.{Places}
 use Rattle.cut_filling.proofs.Turns.{placed_front}
+use Rattle.call_rules.specs.declared.Answer.{Answer}
+use Rattle.call_lists.specs.declared.Plan.{Plan}
 use Rattle.mark_rules.specs.Table.{classes_of, cut_places}
 use Rattle.mark_rules.specs.Calls.{cut_cases}
 use Rattle.mark_rules.proofs.NewCounts.{table_cuts}
 use Rattle.mark_checks.proofs.Opened.{marks_are}
-use Rattle.mark_plan.specs.declared.Plan.{Plan}
-use Rattle.mark_plan.specs.declared.Decision.{Decision}
-use Rattle.mark_plan.specs.declared.Decision.TheVariants.{Cut}
-use Rattle.mark_plan.specs.Decided.{decided_as, Decided}
+use Rattle.mark_checks.specs.declared.MarkTable.{MarkTable}
+use Rattle.mark_plan.specs.Decided.{Decided}
 use Rattle.mark_plan.proofs.Planning.{can_hand_out}
 use Rattle.mark_split.specs.Splitting.{Cuttable, PlanReady}
 
 -- ---- as decided
 
-module _ {how : Settings} {s : Store} {t : ℕ} {w : Scratch} {d : Decision} {cuts : List ℕ} (x : Decided how s t w d cuts) {p : Plan} (y : d ≡ Cut p) where
-  pub none_applies : first_case (cut_cases how s t w) ≡ none
-  none_applies = x.answers ∙ ap decided_as y
+module _ {how : Settings} {s : Store} {t : ℕ} {w : Scratch} {d : Result (Plan MarkTable) Answer} {cuts : List ℕ}
+    (x : Decided how s t w d cuts) {p : Plan MarkTable} (y : d ≡ Ok p) where
+  pub none_applies : first_case (cut_cases how s t w) ≡ None
+  none_applies = x.answers ∙ ap refusal y
 
   pub at_places : part cuts 0 p.cuts ≡ cut_places how s t
   at_places = placed_front (x.plans p y).placed
@@ -53,7 +54,7 @@ module _ {how : Settings} {s : Store} {t : ℕ} {w : Scratch} {d : Decision} {cu
 
 -- ---- lent on
 
-module _ {s : Store} {t : ℕ} {p : Plan} {gs ks set cuts : List ℕ} (k : PlanReady s t p gs ks set cuts) where
+module _ {s : Store} {t : ℕ} {p : Plan MarkTable} {gs ks set cuts : List ℕ} (k : PlanReady s t p gs ks set cuts) where
   pub classes_room : p.table.marks.count ≤ length ks
   classes_room = omega (arith, marks_are k.opens, k.opens.reads.enough, k.opens.glyphs, k.class_room)
 

@@ -1,6 +1,6 @@
 -- A split at any places: its needs in hand, there is room for them or not. Assumes nothing.
 use Prim.Native.Nat.{ℕ, ◌≤◌}
-use mathlib.Core.Path.{◌≡◌, ◌∙◌}
+use mathlib.Core.Path.{◌≡◌, ap, ◌∙◌}
 use mathlib.Core.Bool.{Bool, true, false}
 use mathlib.Core.List.{List}
 use lib.ListN.{length}
@@ -10,6 +10,7 @@ use Rattle.store_rules.specs.Appended.{new_number}
 use Rattle.call_rules.specs.declared.Needs.{Needs}
 use Rattle.call_rules.specs.Needs.{InUse, lent_of, short_by}
 use Rattle.call_rules.proofs.Room.{sound_in_use}
+use Rattle.call_rules.specs.declared.Lent.{Lent}
 use Rattle.call_lists.proofs.Split.{asked, not_carried, has_carried}
 use Rattle.mark_rules.specs.Written.{per_table, new_tables}
 use Rattle.mark_checks.specs.declared.MarkTable.{MarkTable}
@@ -26,8 +27,12 @@ module _ {b r l : List ℕ} (c : List ℕ) {t : ℕ} {p : MarkTable} {gs ks set 
   abbrev s : Store
   s = lent b r l c
 
-  pub in_use_lem : InUse (lent_of s list) c
-  in_use_lem = let u = sound_in_use s list k.arranging.opens.reads.sounds in record { bytes = u.bytes; objects = u.objects; links = u.links }
+  module _ {n : Lent} (e : n ≡ lent_of s list) where
+    pub in_use_lem : InUse n c
+    in_use_lem = rw e (let u = sound_in_use s list k.arranging.opens.reads.sounds in record { bytes = u.bytes; objects = u.objects; links = u.links })
+
+    pub short_is : {x : Bool} (needs : Needs) → x ≡ short_by n c needs → x ≡ short_by (lent_of s list) c needs
+    short_is needs f = f ∙ ap (λ (m : Lent). short_by m c needs) e
 
   module _ {gs' ks' : List ℕ} {n : Needs} (m : Measured s t gs' ks' cs n) {short : Bool} (e : short ≡ short_by (lent_of s list) c n) where
     pub no_room_lem : short ≡ true → CutIfRoom s t cs list false s list

@@ -8,34 +8,29 @@ ghost use Rattle.ot_ranges.specs.Ascending.{Ascending};
 ghost use Rattle.folds.specs.Moments.{came, left};
 ghost use Rattle.ot_class_def_reader.specs.Lookup.{range_class};
 
-use ot_layouts::{Header, Kind, Reading};
-use ot_ranges::{Found, range_of, ranges_fit};
+use ot_layouts::{Header, Kind};
+use ot_ranges::{range_of, ranges_fit};
 use ot_wire::u16_at;
 
-pub fn read_ranges(part: &[u8]) -> Reading
+pub fn read_ranges(part: &[u8]) -> Option<Header>
     requires in_bounds { 4 ≤ length part.now }
     requires part_value { u16_at part.now 0 ≡ 2 }
     ensures { result ≡ class_def_of part.now }
 {
-    let count = u16_at(part, 2) as usize;
-    if ranges_fit(part, count) {
-        Reading::Readable(Header {
-            kind: Kind::Ranges,
-            count,
-        })
-    } else {
-        Reading::Unreadable
-    }
+    let count = usize::from(u16_at(part, 2));
+    ranges_fit(part, count).then_some(Header {
+        kind: Kind::Ranges,
+        count,
+    })
 }
 
 pub fn class_in_ranges(part: &[u8], count: usize, glyph: u16) -> u16
     requires { ranges_fit part.now count ≡ true }
     ensures { result ≡ range_class part.now count glyph }
 {
-    let place = range_of(part, count, glyph);
-    match place {
-        Found::At(k) => u16_at(part, 8 + 6 * k),
-        Found::Nowhere => 0,
+    match range_of(part, count, glyph) {
+        Some(k) => u16_at(part, 8 + 6 * k),
+        None => 0,
     }
 }
 
@@ -44,11 +39,7 @@ pub fn ends_below(part: &[u8], count: usize, k: usize, glyph: u16) -> bool
     requires { length part.now ≡ 4 + 6 * count }
     ensures { result ≡ (ltb k count && ltb (end_at part.now k) glyph) }
 {
-    if k < count {
-        u16_at(part, 6 + 6 * k) < glyph
-    } else {
-        false
-    }
+    k < count && u16_at(part, 6 + 6 * k) < glyph
 }
 
 // The class beside range `k` where there is one and it starts no higher than the glyph, else 0.
@@ -56,13 +47,11 @@ pub fn class_beside(part: &[u8], count: usize, k: usize, glyph: u16) -> u16
     requires { length part.now ≡ 4 + 6 * count }
     ensures { result ≡ cond (ltb k count && leb (start_at part.now k) glyph) (beside_at part.now k) 0 }
 {
-    if count <= k {
-        return 0;
+    if k < count && u16_at(part, 4 + 6 * k) <= glyph {
+        u16_at(part, 8 + 6 * k)
+    } else {
+        0
     }
-    if glyph < u16_at(part, 4 + 6 * k) {
-        return 0;
-    }
-    u16_at(part, 8 + 6 * k)
 }
 
 // The classes of ascending glyphs, in order, at the front of `out`: ranges and glyphs are walked together.
@@ -74,13 +63,13 @@ pub fn range_classes(part: &[u8], count: usize, glyphs: &[u16], out: &mut [u16])
 {
     let mut k: usize = 0;
     let mut i: usize = 0;
+    // each turn goes one further in one of the two
     while i < glyphs.len() {
         let glyph = glyphs[i];
         if ends_below(part, count, k, glyph) {
             k += 1;
         } else {
-            let class = class_beside(part, count, k, glyph);
-            out[i] = class;
+            out[i] = class_beside(part, count, k, glyph);
             i += 1;
         }
     }

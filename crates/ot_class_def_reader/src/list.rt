@@ -6,25 +6,19 @@ ghost use Rattle.ot_layouts.specs.ClassDef.{class_def_of};
 ghost use Rattle.folds.specs.Moments.{came, left};
 ghost use Rattle.ot_class_def_reader.specs.Lookup.{list_class};
 
-use ot_layouts::{Header, Kind, Reading};
+use ot_layouts::{Header, Kind};
 use ot_wire::u16_at;
 
-pub fn read_list(part: &[u8]) -> Reading
+pub fn read_list(part: &[u8]) -> Option<Header>
     requires { u16_at part.now 0 ≡ 1 }
     ensures { result ≡ class_def_of part.now }
 {
     if part.len() < 6 {
-        return Reading::Unreadable;
+        return None;
     }
-    let start = u16_at(part, 2) as usize;
-    let count = u16_at(part, 4) as usize;
-    if part.len() != 6 + 2 * count {
-        return Reading::Unreadable;
-    }
-    if 65536 < start + count {
-        return Reading::Unreadable;
-    }
-    Reading::Readable(Header {
+    let start = usize::from(u16_at(part, 2));
+    let count = usize::from(u16_at(part, 4));
+    (part.len() == 6 + 2 * count && start + count <= 65536).then_some(Header {
         kind: Kind::List,
         count,
     })
@@ -38,7 +32,7 @@ pub fn class_in_list(part: &[u8], count: usize, glyph: u16) -> u16
     if glyph < start {
         return 0;
     }
-    let place = (glyph - start) as usize;
+    let place = usize::from(glyph - start);
     if place < count {
         u16_at(part, 6 + 2 * place)
     } else {
@@ -52,10 +46,7 @@ pub fn list_classes(part: &[u8], count: usize, glyphs: &[u16], out: &mut [u16])
     requires glyphs_in_bounds { length glyphs.now ≤ length out.old }
     ensures { left out ≡ put (came out) 0 (map (list_class part.now count) glyphs.now) }
 {
-    let mut i: usize = 0;
-    while i < glyphs.len() {
-        let class = class_in_list(part, count, glyphs[i]);
-        out[i] = class;
-        i += 1;
+    for (i, &glyph) in glyphs.iter().enumerate() {
+        out[i] = class_in_list(part, count, glyph);
     }
 }

@@ -1,4 +1,5 @@
 pub mod Entries
+pub mod Rest
 pub mod Ends
 pub mod Heads
 pub mod Written

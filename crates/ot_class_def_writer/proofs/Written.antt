@@ -14,7 +14,7 @@ use Rattle.folds.proofs.Tests.{or_none}
 use Rattle.folds.proofs.FromTheFront.{length_even}
 use Rattle.ot_layouts.specs.Numbers.{be16}
 use Rattle.ot_layouts.specs.Coverage.{runs}
-use Rattle.ot_layouts.specs.ClassDef.{span, named, class_in, class_ranges, in_ranges, class_def_bytes}
+use Rattle.ot_layouts.specs.ClassDef.{named, class_in, class_ranges, in_ranges, class_def_bytes}
 use Rattle.ot_layouts.proofs.Numbers.{length-be16}
 use Rattle.ot_layouts.proofs.RangeBytes.{ranged_length}
 use Rattle.ot_class_def_writer.specs.Entries.{reduced_entries, Outlines}

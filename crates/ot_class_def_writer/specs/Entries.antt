@@ -2,6 +2,7 @@
 use Rattle.std.specs.Prelude.{ℕ, ◌+◌, ◌-◌, ◌≤◌, ◌<◌, ◌≡◌, Bool, true, false, ◌&&◌, List, [], ◌∷◌, length, get_or, eqb, ltb}
 use Rattle.ot_layouts.specs.Coverage.{Entry, runs}
 use Rattle.ot_layouts.specs.ClassDef.{first_glyph, span, named}
+use Rattle.ot_class_def_writer.specs.declared.covered.Entries.{Entries}
 use Rattle.ot_class_def_writer.specs.declared.named.Outline.{Outline}
 
 -- each glyph with its class, "classes reduced by its first"
@@ -9,6 +10,10 @@ unfoldable pub reduced_entries : List ℕ → List ℕ → ℕ → List Entry
 reduced_entries [] cs first = []
 reduced_entries (g ∷ gs) [] first = []
 reduced_entries (g ∷ gs) (c ∷ cs) first = record { glyph = g; class = c - first } ∷ reduced_entries gs cs first
+
+-- the entries of a value that has the two lists
+abbrev pub entries_of : Entries → List Entry
+entries_of e = reduced_entries e.glyphs.now e.classes.now e.first
 
 -- the entry behind k has the next glyph, and the same class
 unfoldable pub joins_at : List ℕ → List ℕ → ℕ → Bool
@@ -42,3 +47,7 @@ pub record Outlines (gs cs : List ℕ) (first : ℕ) (o : Outline) : Type 0 wher
   pub low : o.start < 65536
   pub span_is : o.span ≡ span (named (reduced_entries gs cs first))
   pub spans : o.span ≤ 65536
+
+-- the outline of the entries of a value that has the two lists
+abbrev pub OutlineOf : Entries → Outline → Type 0
+OutlineOf e o = Outlines e.glyphs.now e.classes.now e.first o

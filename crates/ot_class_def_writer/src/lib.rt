@@ -1,6 +1,7 @@
 // OpenType's ClassDef written: the classes of glyphs in a row, or in ranges where that is shorter or a row can't count them.
 #![tactic(auto)]
 
+pub mod covered;
 pub mod in_ranges;
 pub mod list;
 pub mod named;
@@ -13,9 +14,8 @@ ghost use Rattle.ot_ranges.specs.Ascending.{Ascending};
 ghost use Rattle.folds.specs.Moments.{came, left};
 ghost use Rattle.ot_class_def_writer.specs.Entries.{reduced_entries};
 
-use in_ranges::write_ranges;
-use list::write_list;
-use named::{outline_of, ranges_win};
+use covered::Entries;
+use named::ranges_win;
 
 // How many bytes the class definition of these glyphs and classes has, the classes reduced by `first`.
 pub fn class_def_length(glyphs: &[u16], classes: &[u16], first: u16) -> usize
@@ -23,7 +23,12 @@ pub fn class_def_length(glyphs: &[u16], classes: &[u16], first: u16) -> usize
     requires ascending { Ascending glyphs.now }
     ensures { result ≡ length (class_def_bytes (reduced_entries glyphs.now classes.now first)) }
 {
-    let outline = outline_of(glyphs, classes, first);
+    let entries = Entries {
+        glyphs,
+        classes,
+        first,
+    };
+    let outline = entries.outline();
     let runs = outline.runs;
     let span = outline.span;
     if ranges_win(runs, span) {
@@ -48,12 +53,17 @@ pub fn write_class_def(
     ensures out_value { left out ≡ put (came out) at (class_def_bytes (reduced_entries glyphs.now classes.now first)) }
     ensures value { result ≡ at + length (class_def_bytes (reduced_entries glyphs.now classes.now first)) }
 {
-    let outline = outline_of(glyphs, classes, first);
+    let entries = Entries {
+        glyphs,
+        classes,
+        first,
+    };
+    let outline = entries.outline();
     let runs = outline.runs;
     let span = outline.span;
     if ranges_win(runs, span) {
-        write_ranges(glyphs, classes, first, runs, out, at)
+        entries.write_ranges(runs, out, at)
     } else {
-        write_list(glyphs, classes, first, outline, out, at)
+        entries.write_list(outline, out, at)
     }
 }

@@ -2,12 +2,12 @@
 ghost use Rattle.std.specs.Prelude.{◌≡◌, ◌&&◌, ◌++◌, ◌+◌, ◌-◌, ◌*◌, ◌≤◌, ◌<◌, length, get_or, ltb, eqb};
 ghost use Rattle.folds.specs.Lists.{put};
 ghost use Rattle.ot_layouts.specs.Numbers.{be16};
-ghost use Rattle.ot_layouts.specs.Coverage.{plain, Ascends};
 ghost use Rattle.ot_layouts.specs.ClassDef.{named};
 ghost use Rattle.folds.specs.Moments.{came, left};
-ghost use Rattle.ot_class_def_writer.specs.Entries.{reduced_entries, Outlines};
+ghost use Rattle.ot_class_def_writer.specs.Entries.{entries_of, OutlineOf};
 ghost use Rattle.ot_class_def_writer.specs.Written.{class_row};
 
+use crate::covered::Entries;
 use crate::named::Outline;
 use ot_wire::put_u16;
 
@@ -15,76 +15,53 @@ use ot_wire::put_u16;
 pub fn reduced(class: u16, first: u16) -> u16
     ensures { result ≡ class - first }
 {
-    if first < class { class - first } else { 0 }
+    class.saturating_sub(first)
 }
 
-// Whether entry `k` is that of the glyph.
-pub fn stands(glyphs: &[u16], k: usize, glyph: usize) -> bool
-    ensures { result ≡ (ltb k (length glyphs.now) && eqb (get_or glyphs.now k 0) glyph) }
-{
-    if k < glyphs.len() {
-        glyphs[k] as usize == glyph
-    } else {
-        false
+impl Entries<'_> {
+    // Whether entry `k` is that of the glyph.
+    pub fn stands(&self, k: usize, glyph: usize) -> bool
+        ensures { result ≡ (ltb k (length self.now.glyphs.now) && eqb (get_or self.now.glyphs.now k 0) glyph) }
+    {
+        k < self.glyphs.len() && usize::from(self.glyphs[k]) == glyph
     }
-}
 
-// Writes the class of each glyph from the first named to the last, 0 for those between.
-pub fn put_classes(
-    glyphs: &[u16],
-    classes: &[u16],
-    first: u16,
-    outline: Outline,
-    out: &mut [u8],
-    at: usize,
-)
-    requires classes_len { length classes.now ≡ length glyphs.now }
-    requires ascends { Ascends 0 (plain glyphs.now) }
-    requires outlines { Outlines glyphs.now classes.now first outline }
-    requires span_in_bounds { at + 2 * outline.span ≤ length out.old }
-    ensures { left out ≡ put (came out) at (class_row (named (reduced_entries glyphs.now classes.now first)) outline.start outline.span) }
-{
-    let start = outline.start;
-    let span = outline.span;
-    let mut k = outline.from;
-    let mut j: usize = 0;
-    while j < span {
-        if stands(glyphs, k, start + j) {
-            put_u16(out, at + 2 * j, reduced(classes[k], first));
-            k += 1;
-            j += 1;
-        } else {
+    // Writes the class of each glyph from the first named to the last, 0 for those between.
+    pub fn put_classes(&self, outline: Outline, out: &mut [u8], at: usize)
+        requires outlines { OutlineOf self.now outline }
+        requires span_in_bounds { at + 2 * outline.span ≤ length out.old }
+        ensures { left out ≡ put (came out) at (class_row (named (entries_of self.now)) outline.start outline.span) }
+    {
+        let start = outline.start;
+        let span = outline.span;
+        let mut k = outline.from;
+        for j in 0..span {
+            if self.stands(k, start + j) {
+                put_u16(out, at + 2 * j, reduced(self.classes[k], self.first));
+                k += 1;
+                continue;
+            }
             put_u16(out, at + 2 * j, 0);
-            j += 1;
         }
     }
-}
 
-// Writes format 1 at `at`, and returns where it ends.
-pub fn write_list(
-    glyphs: &[u16],
-    classes: &[u16],
-    first: u16,
-    outline: Outline,
-    out: &mut [u8],
-    at: usize,
-) -> usize
-    requires classes_len { length classes.now ≡ length glyphs.now }
-    requires ascends { Ascends 0 (plain glyphs.now) }
-    requires outlines { Outlines glyphs.now classes.now first outline }
-    requires span_bound { outline.span < 65536 }
-    requires span_in_bounds { at + (6 + 2 * outline.span) ≤ length out.old }
-    ensures out_value { left out
-        ≡ put (came out) at
-        (be16 1 ++ be16 outline.start ++ be16 outline.span ++ class_row (named (reduced_entries glyphs.now classes.now first))
-        outline.start outline.span) }
-    ensures value { result ≡ at + (6 + 2 * outline.span) }
-{
-    let start = outline.start;
-    let span = outline.span;
-    put_u16(out, at, 1);
-    put_u16(out, at + 2, start as u16);
-    put_u16(out, at + 4, span as u16);
-    put_classes(glyphs, classes, first, outline, out, at + 6);
-    at + 6 + 2 * span
+    // Writes format 1 at `at`, and returns where it ends.
+    pub fn write_list(&self, outline: Outline, out: &mut [u8], at: usize) -> usize
+        requires outlines { OutlineOf self.now outline }
+        requires span_bound { outline.span < 65536 }
+        requires span_in_bounds { at + (6 + 2 * outline.span) ≤ length out.old }
+        ensures out_value { left out
+            ≡ put (came out) at
+            (be16 1 ++ be16 outline.start ++ be16 outline.span ++ class_row (named (entries_of self.now))
+            outline.start outline.span) }
+        ensures value { result ≡ at + (6 + 2 * outline.span) }
+    {
+        let start = outline.start;
+        let span = outline.span;
+        put_u16(out, at, 1);
+        put_u16(out, at + 2, start as u16);
+        put_u16(out, at + 4, span as u16);
+        self.put_classes(outline, out, at + 6);
+        at + 6 + 2 * span
+    }
 }

@@ -4,10 +4,9 @@ ghost use Rattle.folds.specs.Folds.{run};
 ghost use Rattle.folds.specs.Lists.{put};
 ghost use Rattle.ot_layouts.specs.Coverage.{ranges_fit, indexed, cover_glyphs, cover_place};
 ghost use Rattle.folds.specs.Moments.{came, left};
-ghost use Rattle.ot_coverage_reader.specs.Coverage.{AsRanges, place_found};
+ghost use Rattle.ot_coverage_reader.specs.Coverage.{AsRanges};
 
-use crate::Place;
-use ot_ranges::{Found, range_of};
+use ot_ranges::range_of;
 use ot_wire::u16_at;
 
 // Whether each range is numbered by the glyphs before it.
@@ -16,16 +15,14 @@ pub fn indices_fit(part: &[u8], count: usize) -> bool
     ensures { result ≡ indexed part.now count }
 {
     let mut total: usize = 0;
-    let mut k: usize = 0;
-    while k < count {
-        let start = u16_at(part, 4 + 6 * k) as usize;
-        let end = u16_at(part, 6 + 6 * k) as usize;
-        let index = u16_at(part, 8 + 6 * k) as usize;
+    for k in 0..count {
+        let start = usize::from(u16_at(part, 4 + 6 * k));
+        let end = usize::from(u16_at(part, 6 + 6 * k));
+        let index = usize::from(u16_at(part, 8 + 6 * k));
         if index != total {
             return false;
         }
-        total = total + (end + 1 - start);
-        k += 1;
+        total += end + 1 - start;
     }
     true
 }
@@ -39,26 +36,21 @@ pub fn count_in_ranges(part: &[u8], count: usize) -> usize
         return 0;
     }
     let last = count - 1;
-    let start = u16_at(part, 4 + 6 * last) as usize;
-    let end = u16_at(part, 6 + 6 * last) as usize;
-    let index = u16_at(part, 8 + 6 * last) as usize;
+    let start = usize::from(u16_at(part, 4 + 6 * last));
+    let end = usize::from(u16_at(part, 6 + 6 * last));
+    let index = usize::from(u16_at(part, 8 + 6 * last));
     index + (end + 1 - start)
 }
 
 // The glyph's place: that of the range's start, and on from there.
-pub fn place_in_ranges(part: &[u8], count: usize, glyph: u16) -> Place
+pub fn place_in_ranges(part: &[u8], count: usize, glyph: u16) -> Option<usize>
     requires { AsRanges part.now count }
-    ensures { place_found result ≡ cover_place part.now glyph }
+    ensures { result ≡ cover_place part.now glyph }
 {
-    let found = range_of(part, count, glyph);
-    match found {
-        Found::At(k) => {
-            let start = u16_at(part, 4 + 6 * k);
-            let index = u16_at(part, 8 + 6 * k) as usize;
-            Place::At(index + (glyph - start) as usize)
-        }
-        Found::Nowhere => Place::Nowhere,
-    }
+    let k = range_of(part, count, glyph)?;
+    let start = u16_at(part, 4 + 6 * k);
+    let index = usize::from(u16_at(part, 8 + 6 * k));
+    Some(index + usize::from(glyph - start))
 }
 
 // Writes `count` numbers from `from` on to `out`, at `at`.
@@ -67,10 +59,8 @@ fn run_into(out: &mut [u16], at: usize, from: usize, count: usize)
     requires count_bound { from + count ≤ 65536 }
     ensures { left out ≡ put (came out) at (run from count) }
 {
-    let mut j: usize = 0;
-    while j < count {
+    for j in 0..count {
         out[at + j] = (from + j) as u16;
-        j += 1;
     }
 }
 
@@ -81,13 +71,11 @@ pub fn ranges_into(part: &[u8], count: usize, out: &mut [u16])
     ensures { left out ≡ put (came out) 0 (cover_glyphs part.now) }
 {
     let mut at: usize = 0;
-    let mut k: usize = 0;
-    while k < count {
-        let start = u16_at(part, 4 + 6 * k) as usize;
-        let end = u16_at(part, 6 + 6 * k) as usize;
+    for k in 0..count {
+        let start = usize::from(u16_at(part, 4 + 6 * k));
+        let end = usize::from(u16_at(part, 6 + 6 * k));
         let size = end + 1 - start;
         run_into(out, at, start, size);
-        at = at + size;
-        k += 1;
+        at += size;
     }
 }

@@ -4,82 +4,57 @@
 pub mod in_ranges;
 pub mod list;
 
-ghost use Rattle.std.specs.Prelude.{◌≡◌, ◌≤◌, length};
+ghost use Rattle.std.specs.Prelude.{◌≡◌, ◌≤◌, length, Some};
 ghost use Rattle.folds.specs.Lists.{put};
 ghost use Rattle.ot_layouts.specs.Coverage.{coverage_of, cover_glyphs, cover_place};
 ghost use Rattle.folds.specs.Moments.{came, left};
-ghost use Rattle.ot_coverage_reader.specs.Coverage.{place_found};
 
 use in_ranges::{count_in_ranges, indices_fit, place_in_ranges, ranges_into};
 use list::{list_fits, list_into, place_in_list};
-use ot_layouts::{Header, Kind, Reading};
+use ot_layouts::{Header, Kind};
 use ot_ranges::ranges_fit;
 use ot_wire::u16_at;
 
-// A glyph's place in the coverage.
-#[derive(Clone, Copy)]
-pub enum Place {
-    At(usize),
-    Nowhere,
-}
-
-// What the bytes are: a list or ranges with their count, or no Coverage.
-pub fn read_coverage(part: &[u8]) -> Reading
+// What the bytes are: a list or ranges with their count; nothing, where they are no Coverage.
+pub fn read_coverage(part: &[u8]) -> Option<Header>
     ensures { result ≡ coverage_of part.now }
 {
     if part.len() < 4 {
-        return Reading::Unreadable;
+        return None;
     }
-    let format = u16_at(part, 0);
-    let count = u16_at(part, 2) as usize;
-    if format == 1 {
-        if list_fits(part, count) {
-            return Reading::Readable(Header {
-                kind: Kind::List,
-                count,
-            });
-        } else {
-            return Reading::Unreadable;
-        }
+    let count = usize::from(u16_at(part, 2));
+    match u16_at(part, 0) {
+        1 => list_fits(part, count).then_some(Header {
+            kind: Kind::List,
+            count,
+        }),
+        2 => (ranges_fit(part, count) && indices_fit(part, count)).then_some(Header {
+            kind: Kind::Ranges,
+            count,
+        }),
+        _ => None,
     }
-    if format == 2 {
-        if ranges_fit(part, count) {
-            if indices_fit(part, count) {
-                return Reading::Readable(Header {
-                    kind: Kind::Ranges,
-                    count,
-                });
-            } else {
-                return Reading::Unreadable;
-            }
-        } else {
-            return Reading::Unreadable;
-        }
-    }
-    Reading::Unreadable
 }
 
 // How many glyphs it covers.
 pub fn glyph_count(part: &[u8], header: Header) -> usize
-    requires { coverage_of part.now ≡ Reading.Readable header }
+    requires { coverage_of part.now ≡ Some header }
     ensures { (result ≡ length (cover_glyphs part.now)) × (result ≤ 65536) }
 {
-    let kind = header.kind;
     let count = header.count;
-    match kind {
+    match header.kind {
         Kind::List => count,
         Kind::Ranges => count_in_ranges(part, count),
     }
 }
 
 // The glyph's place among the covered ones.
-pub fn place_of(part: &[u8], header: Header, glyph: u16) -> Place
-    requires { coverage_of part.now ≡ Reading.Readable header }
-    ensures { place_found result ≡ cover_place part.now glyph }
+pub fn place_of(part: &[u8], header: Header, glyph: u16) -> Option<usize>
+    requires { coverage_of part.now ≡ Some header }
+    ensures { result ≡ cover_place part.now glyph }
 {
-    let kind = header.kind;
     let count = header.count;
-    match kind {
+    match header.kind {
         Kind::List => place_in_list(part, count, glyph),
         Kind::Ranges => place_in_ranges(part, count, glyph),
     }
@@ -87,13 +62,12 @@ pub fn place_of(part: &[u8], header: Header, glyph: u16) -> Place
 
 // Writes all covered glyphs, in order, at the front of `out`.
 pub fn glyphs_into(part: &[u8], header: Header, out: &mut [u16])
-    requires part_value { coverage_of part.now ≡ Reading.Readable header }
+    requires part_value { coverage_of part.now ≡ Some header }
     requires part_in_bounds { length (cover_glyphs part.now) ≤ length out.old }
     ensures { left out ≡ put (came out) 0 (cover_glyphs part.now) }
 {
-    let kind = header.kind;
     let count = header.count;
-    match kind {
+    match header.kind {
         Kind::List => list_into(part, count, out),
         Kind::Ranges => ranges_into(part, count, out),
     }

@@ -9,24 +9,12 @@ ghost use Rattle.ot_coverage_writer.specs.Joins.{joins_next};
 use ot_ranges::put_range;
 use ot_wire::put_u16;
 
-// A glyph as a number to which one can be added.
-fn wide(x: u16) -> usize
-    ensures { (result ≡ x) × (result < 65536) }
-{
-    x as usize
-}
-
 // Whether there is a glyph after the one at `k`, and it is one more.
 fn joins_next(glyphs: &[u16], k: usize) -> bool
     requires { k < length glyphs.now }
     ensures { result ≡ joins_next glyphs.now k }
 {
-    let next = k + 1;
-    if next < glyphs.len() {
-        wide(glyphs[k]) + 1 == wide(glyphs[next])
-    } else {
-        false
-    }
+    k + 1 < glyphs.len() && u32::from(glyphs[k]) + 1 == u32::from(glyphs[k + 1])
 }
 
 // How many runs the glyphs make: one ends at each glyph that the next one does not join.
@@ -34,14 +22,11 @@ pub fn run_count(glyphs: &[u16]) -> usize
     ensures { (result ≡ length (runs (plain glyphs.now))) × (result ≤ length glyphs.now) }
 {
     let mut count: usize = 0;
-    let mut k: usize = 0;
-    while k < glyphs.len() {
+    for k in 0..glyphs.len() {
         if joins_next(glyphs, k) {
-            k += 1;
-        } else {
-            count += 1;
-            k += 1;
+            continue;
         }
+        count += 1;
     }
     count
 }
@@ -63,10 +48,8 @@ pub fn write_list(glyphs: &[u16], out: &mut [u8], at: usize)
 {
     put_head(out, at, 1, glyphs.len() as u16);
     let first = at + 4;
-    let mut k: usize = 0;
-    while k < glyphs.len() {
+    for k in 0..glyphs.len() {
         put_u16(out, first + 2 * k, glyphs[k]);
-        k += 1;
     }
 }
 
@@ -81,15 +64,12 @@ pub fn write_ranges(glyphs: &[u16], count: usize, out: &mut [u8], at: usize)
     put_head(out, at, 2, count as u16);
     let mut end = at + 4;
     let mut from: usize = 0;
-    let mut k: usize = 0;
-    while k < glyphs.len() {
+    for k in 0..glyphs.len() {
         if joins_next(glyphs, k) {
-            k += 1;
-        } else {
-            put_range(out, end, glyphs[from], glyphs[k], from as u16);
-            end += 6;
-            k += 1;
-            from = k;
+            continue;
         }
+        put_range(out, end, glyphs[from], glyphs[k], from as u16);
+        end += 6;
+        from = k + 1;
     }
 }

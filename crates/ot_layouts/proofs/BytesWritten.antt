@@ -1,10 +1,10 @@
 -- What is written for a Coverage and for a ClassDef are bytes: each number fits its two. Assumes nothing.
+use Rattle.std.specs.Prelude.{Option, Some, None}
 use Prim.Native.Nat.{ℕ, ◌+◌, ◌-◌, ◌*◌, ◌<◌, ◌≤◌}
 use mathlib.Core.Path.{◌≡◌}
 use mathlib.Core.Bool.{Bool, true, false, cond, not, ◌&&◌}
 use mathlib.Core.List.{List, [], ◌∷◌}
 use mathlib.Core.Logic.{⊎_elim}
-use mathlib.Core.Option.{Option, some, none}
 use native.Mathlib.Omega.{arith}
 use lib.ListN.{length}
 use lib.Dec.{eqb, ltb, leb}
@@ -115,5 +115,5 @@ class_of_bits b h g = go (eqb (u16_at b 0) 1) (leb (u16_at b 2) g && ltb g (u16_
     go : (x y : Bool) (o : Option ℕ) → cond x (cond y (u16_at b (6 + 2 * (g - u16_at b 2))) 0) (beside_or b o) < 65536
     go true true o = h (6 + 2 * (g - u16_at b 2))
     go true false o = omega arith
-    go false y (some k) = h (8 + 6 * k)
-    go false y none = omega arith
+    go false y (Some k) = h (8 + 6 * k)
+    go false y None = omega arith

@@ -1,4 +1,5 @@
 -- What it says of a ClassDef that it is readable: by its bytes, and by its header. Assumes nothing.
+use Rattle.std.specs.Prelude.{Some, None}
 use Prim.Native.Nat.{ℕ, ◌+◌, ◌-◌, ◌*◌, ◌≤◌, ◌<◌}
 use mathlib.Core.Path.{◌≡◌, refl, ap, ◌∙◌}
 use mathlib.Core.Bool.{Bool, true, false, cond, ◌&&◌, ◌||◌}
@@ -14,7 +15,6 @@ use Rattle.ot_layouts.specs.Coverage.{start_at, end_at, ranges_fit, kind_of, rea
 use Rattle.ot_layouts.specs.ClassDef.{class_readable, class_def_of, beside_or, class_of}
 use Rattle.ot_layouts.specs.declared.Kind.{Kind}
 use Rattle.ot_layouts.specs.declared.Header.{Header}
-use Rattle.ot_layouts.specs.declared.Reading.TheVariants.{Readable, Unreadable}
 use Rattle.ot_layouts.proofs.RangesRead.{not_long}
 
 -- format 1, with n classes
@@ -48,32 +48,32 @@ module _ (b : List ℕ) where
   unfolding class_readable
   by_second f = rw f
 
-  list_reading : u16_at b 0 ≡ 1 → class_def_of b ≡ cond listed (Readable (record { kind = Kind.List; count = u16_at b 4 })) Unreadable
+  pub list_reading : u16_at b 0 ≡ 1 → class_def_of b ≡ cond listed (Some (record { kind = Kind.List; count = u16_at b 4 })) None
   unfolding class_def_of
   list_reading f = rw (by_first f, f)
 
-  pub list_readable : u16_at b 0 ≡ 1 → length b ≡ 6 + 2 * u16_at b 4 → u16_at b 2 + u16_at b 4 ≤ 65536 → Readable (record { kind = Kind.List; count = u16_at b 4 }) ≡ class_def_of b
+  pub list_readable : u16_at b 0 ≡ 1 → length b ≡ 6 + 2 * u16_at b 4 → u16_at b 2 + u16_at b 4 ≤ 65536 → Some (record { kind = Kind.List; count = u16_at b 4 }) ≡ class_def_of b
   list_readable f l e = rw (list_reading f, eq-eqb (length b) (6 + 2 * u16_at b 4) l, le-leb (u16_at b 2 + u16_at b 4) 65536 e)
 
-  pub list_not_long : u16_at b 0 ≡ 1 → (length b ≡ 6 + 2 * u16_at b 4 → ⊥) → Unreadable ≡ class_def_of b
+  pub list_not_long : u16_at b 0 ≡ 1 → (length b ≡ 6 + 2 * u16_at b 4 → ⊥) → None ≡ class_def_of b
   list_not_long f l = rw (list_reading f, ne_eqb (length b) (6 + 2 * u16_at b 4) l)
 
-  pub list_too_far : u16_at b 0 ≡ 1 → 65536 < u16_at b 2 + u16_at b 4 → Unreadable ≡ class_def_of b
+  pub list_too_far : u16_at b 0 ≡ 1 → 65536 < u16_at b 2 + u16_at b 4 → None ≡ class_def_of b
   list_too_far f e = rw (list_reading f, and_second (eqb (length b) (6 + 2 * u16_at b 4)) _ (lt-leb (u16_at b 2 + u16_at b 4) 65536 e))
 
-  pub ranges_reading : u16_at b 0 ≡ 2 → cond (ranges_fit b (u16_at b 2)) (Readable (record { kind = Kind.Ranges; count = u16_at b 2 })) Unreadable ≡ class_def_of b
+  pub ranges_reading : u16_at b 0 ≡ 2 → cond (ranges_fit b (u16_at b 2)) (Some (record { kind = Kind.Ranges; count = u16_at b 2 })) None ≡ class_def_of b
   unfolding class_def_of
   ranges_reading f = rw (by_second f, f)
 
-  pub no_format : (u16_at b 0 ≡ 1 → ⊥) → (u16_at b 0 ≡ 2 → ⊥) → Unreadable ≡ class_def_of b
+  pub no_format : (u16_at b 0 ≡ 1 → ⊥) → (u16_at b 0 ≡ 2 → ⊥) → None ≡ class_def_of b
   unfolding class_def_of class_readable
   no_format one two = rw (ne_eqb (u16_at b 0) 1 one, ne_eqb (u16_at b 0) 2 two)
 
-  pub too_short_lem : length b < 4 → Unreadable ≡ class_def_of b
+  pub too_short_lem : length b < 4 → None ≡ class_def_of b
   unfolding class_def_of class_readable
   too_short_lem h = rw (ne_eqb (length b) (6 + 2 * u16_at b 4) (λ e. omega arith), not_long b (u16_at b 2) (λ e. omega arith)) (go (eqb (u16_at b 0) 1) (eqb (u16_at b 0) 2))
     where
-      go : (x y : Bool) → Unreadable ≡ reading (x && false && leb (u16_at b 2 + u16_at b 4) 65536 || y && false) (u16_at b 0) (cond x (u16_at b 4) (u16_at b 2))
+      go : (x y : Bool) → None ≡ reading (x && false && leb (u16_at b 2 + u16_at b 4) 65536 || y && false) (u16_at b 0) (cond x (u16_at b 4) (u16_at b 2))
       go true true = refl
       go true false = refl
       go false true = refl
@@ -81,7 +81,7 @@ module _ (b : List ℕ) where
 
 -- ---- by its header
 
-module _ (b : List ℕ) (h : Header) (r : class_def_of b ≡ Readable h) where
+module _ (b : List ℕ) (h : Header) (r : class_def_of b ≡ Some h) where
   -- the test that was made, and the header
   header_read : (class_readable b ≡ true) × (h ≡ record { kind = kind_of (u16_at b 0); count = cond (eqb (u16_at b 0) 1) (u16_at b 4) (u16_at b 2) })
   unfolding class_def_of
@@ -90,7 +90,7 @@ module _ (b : List ℕ) (h : Header) (r : class_def_of b ≡ Readable h) where
       n : ℕ
       n = cond (eqb (u16_at b 0) 1) (u16_at b 4) (u16_at b 2)
 
-      go : (t : Bool) → class_readable b ≡ t → reading t (u16_at b 0) n ≡ Readable h → (class_readable b ≡ true) × (h ≡ record { kind = kind_of (u16_at b 0); count = n })
+      go : (t : Bool) → class_readable b ≡ t → reading t (u16_at b 0) n ≡ Some h → (class_readable b ≡ true) × (h ≡ record { kind = kind_of (u16_at b 0); count = n })
       go true e q = (e, cc)
       go false e q = let z : ◌≡◌ {A = ℕ} 0 1 = cc in absurd (omega arith)
 

@@ -1,10 +1,10 @@
 -- ClassDef: what is written for entries in ascending order is readable, and gives each glyph its class. Assumes nothing.
+use Rattle.std.specs.Prelude.{Option, Some, None}
 use Prim.Native.Nat.{ℕ, zero, suc, ◌+◌, ◌-◌, ◌*◌, ◌<◌, ◌≤◌}
 use mathlib.Core.Path.{◌≡◌, refl, sym, ap, ap₂, ◌∙◌}
 use mathlib.Core.Bool.{Bool, true, false, cond, not, ◌&&◌}
 use mathlib.Core.List.{List, [], ◌∷◌, ◌++◌, append-nil}
 use mathlib.Core.Logic.{◌⊎◌, inl, inr}
-use mathlib.Core.Option.{Option, some, none}
 use native.Mathlib.Omega.{arith}
 use lib.ListN.{length, get_or}
 use lib.Dec.{eqb, leb, ltb}
@@ -26,18 +26,18 @@ use Rattle.ot_layouts.proofs.Classes.{in_run, class_run, class_runs, class_named
 
 -- what f gives at the index that is found
 abbrev found_or : (ℕ → ℕ) → Option ℕ → ℕ
-found_or f (some k) = f k
-found_or f none = 0
+found_or f (Some k) = f k
+found_or f None = 0
 
 found_same : (p : ℕ → Bool) (n : ℕ) (f g : ℕ → ℕ) → ((k : ℕ) → k < n → f k ≡ g k) → found_or f (first_at p n) ≡ found_or g (first_at p n)
 unfolding first_at
 found_same p zero f g h = refl
 found_same p (suc n) f g h = go (first_at p n) (p n) (found_same p n f g (λ k l. h k (omega arith)))
   where
-    go : (o : Option ℕ) (b : Bool) → found_or f o ≡ found_or g o → found_or f (or_else o (cond b (some n) none)) ≡ found_or g (or_else o (cond b (some n) none))
-    go (some k) b e = e
-    go none true e = h n (omega arith)
-    go none false e = refl
+    go : (o : Option ℕ) (b : Bool) → found_or f o ≡ found_or g o → found_or f (or_else o (cond b (Some n) None)) ≡ found_or g (or_else o (cond b (Some n) None))
+    go (Some k) b e = e
+    go None true e = h n (omega arith)
+    go None false e = refl
 
 -- the class of the first run that has g
 class_found : (rs : List Run) (g : ℕ) → found_or (λ k. (get_or rs k no_run).class) (first_at (λ k. in_run (get_or rs k no_run) g) (length rs)) ≡ class_run rs g
@@ -47,14 +47,14 @@ class_found (r ∷ rs) g =
     ap (found_or (λ k. (get_or (r ∷ rs) k no_run).class)) (first_cons (λ k. in_run (get_or (r ∷ rs) k no_run) g) (length rs))
     ∙ go (in_run r g) (first_at (λ k. in_run (get_or rs k no_run) g) (length rs)) (class_found rs g)
   where
-    go : (b : Bool) (o : Option ℕ) → found_or (λ k. (get_or rs k no_run).class) o ≡ class_run rs g → found_or (λ k. (get_or (r ∷ rs) k no_run).class) (cond b (some 0) (later 1 o)) ≡ cond b r.class (class_run rs g)
+    go : (b : Bool) (o : Option ℕ) → found_or (λ k. (get_or rs k no_run).class) o ≡ class_run rs g → found_or (λ k. (get_or (r ∷ rs) k no_run).class) (cond b (Some 0) (later 1 o)) ≡ cond b r.class (class_run rs g)
     go true o e = refl
-    go false (some k) e = let z : 1 + k ≡ suc k = omega arith in ap (λ (i : ℕ). (get_or (r ∷ rs) i no_run).class) z ∙ e
-    go false none e = e
+    go false (Some k) e = let z : 1 + k ≡ suc k = omega arith in ap (λ (i : ℕ). (get_or (r ∷ rs) i no_run).class) z ∙ e
+    go false None e = e
 
 beside_found : (b : List ℕ) (o : Option ℕ) → beside_or b o ≡ found_or (beside_at b) o
-beside_found b (some k) = refl
-beside_found b none = refl
+beside_found b (Some k) = refl
+beside_found b None = refl
 
 module _ (rs : List Run) where
   ranges_class : (g : ℕ) → class_of (ranged rs) g ≡ class_run rs g

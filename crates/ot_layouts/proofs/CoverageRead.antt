@@ -1,4 +1,5 @@
 -- What it says of a Coverage that it is readable: by its bytes, and by its header. Assumes nothing.
+use Rattle.std.specs.Prelude.{Some, None}
 use Prim.Native.Nat.{ℕ, zero, suc, ◌+◌, ◌*◌, ◌≤◌, ◌<◌}
 use mathlib.Core.Path.{◌≡◌, refl, sym, ap, subst, ◌∙◌}
 use mathlib.Core.Bool.{Bool, true, false, cond, ◌&&◌, ◌||◌}
@@ -19,7 +20,6 @@ use Rattle.ot_layouts.specs.Numbers.{u16_at}
 use Rattle.ot_layouts.specs.Coverage.{glyph_at, start_at, beside_at, end_at, size_at, list_fits, ranges_fit, indexed, cover_readable, kind_of, reading, coverage_of, cover_glyphs}
 use Rattle.ot_layouts.specs.declared.Kind.{Kind}
 use Rattle.ot_layouts.specs.declared.Header.{Header}
-use Rattle.ot_layouts.specs.declared.Reading.TheVariants.{Readable, Unreadable}
 use Rattle.ot_layouts.proofs.RangesRead.{RangesRead, ranges_read, not_long}
 
 -- ---- a list
@@ -153,13 +153,13 @@ module _ (b : List ℕ) (h : cover_readable b ≡ true) where
 
 -- ---- by its header
 
-module _ (b : List ℕ) (h : Header) (r : coverage_of b ≡ Readable h) where
+module _ (b : List ℕ) (h : Header) (r : coverage_of b ≡ Some h) where
   -- the test that was made, and the header
   pub header_read : (cover_readable b ≡ true) × (h ≡ record { kind = kind_of (u16_at b 0); count = u16_at b 2 })
   unfolding coverage_of
   header_read = go (cover_readable b) refl r
     where
-      go : (t : Bool) → cover_readable b ≡ t → reading t (u16_at b 0) (u16_at b 2) ≡ Readable h → (cover_readable b ≡ true) × (h ≡ record { kind = kind_of (u16_at b 0); count = u16_at b 2 })
+      go : (t : Bool) → cover_readable b ≡ t → reading t (u16_at b 0) (u16_at b 2) ≡ Some h → (cover_readable b ≡ true) × (h ≡ record { kind = kind_of (u16_at b 0); count = u16_at b 2 })
       go true e q = (e, cc)
       go false e q = let z : ◌≡◌ {A = ℕ} 0 1 = cc in absurd (omega arith)
 
@@ -187,29 +187,29 @@ module _ (b : List ℕ) (h : Header) (r : coverage_of b ≡ Readable h) where
 -- ---- by the tests that a reader makes
 
 module _ (b : List ℕ) where
-  pub too_short_lem : length b < 4 → Unreadable ≡ coverage_of b
+  pub too_short_lem : length b < 4 → None ≡ coverage_of b
   unfolding coverage_of cover_readable
   too_short_lem h = rw (list_not_long b (u16_at b 2) (λ e. omega arith), not_long b (u16_at b 2) (λ e. omega arith)) (go (eqb (u16_at b 0) 1) (eqb (u16_at b 0) 2))
     where
-      go : (x y : Bool) → Unreadable ≡ reading (x && false || y && false && indexed b (u16_at b 2)) (u16_at b 0) (u16_at b 2)
+      go : (x y : Bool) → None ≡ reading (x && false || y && false && indexed b (u16_at b 2)) (u16_at b 0) (u16_at b 2)
       go true true = refl
       go true false = refl
       go false true = refl
       go false false = refl
 
 module _ (b : List ℕ) (f n : ℕ) (pf : f ≡ u16_at b 0) (pn : n ≡ u16_at b 2) where
-  pub by_list : (t : Bool) → f ≡ 1 → t ≡ list_fits b n → cond t (Readable (record { kind = Kind.List; count = n })) Unreadable ≡ coverage_of b
+  pub by_list : (t : Bool) → f ≡ 1 → t ≡ list_fits b n → cond t (Some (record { kind = Kind.List; count = n })) None ≡ coverage_of b
   unfolding coverage_of cover_readable
   by_list t e q = rw (← pf, ← pn, e, ← q) (go t)
     where
-      go : (x : Bool) → cond x (Readable (record { kind = Kind.List; count = n })) Unreadable ≡ reading (x || false) 1 n
+      go : (x : Bool) → cond x (Some (record { kind = Kind.List; count = n })) None ≡ reading (x || false) 1 n
       go true = refl
       go false = refl
 
-  pub by_ranges : (t u : Bool) → f ≡ 2 → t ≡ ranges_fit b n → u ≡ indexed b n → cond (t && u) (Readable (record { kind = Kind.Ranges; count = n })) Unreadable ≡ coverage_of b
+  pub by_ranges : (t u : Bool) → f ≡ 2 → t ≡ ranges_fit b n → u ≡ indexed b n → cond (t && u) (Some (record { kind = Kind.Ranges; count = n })) None ≡ coverage_of b
   unfolding coverage_of cover_readable
   by_ranges t u e q r = rw (← pf, ← pn, e, q, r)
 
-  pub by_none : (f ≡ 1 → ⊥) → (f ≡ 2 → ⊥) → Unreadable ≡ coverage_of b
+  pub by_none : (f ≡ 1 → ⊥) → (f ≡ 2 → ⊥) → None ≡ coverage_of b
   unfolding coverage_of cover_readable
   by_none one two = rw (← pf, ne_eqb f 1 one, ne_eqb f 2 two)

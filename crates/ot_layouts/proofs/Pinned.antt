@@ -1,9 +1,10 @@
 -- OpenType's layouts held against small tables, as one check; each line pins what its comment says. Assumes nothing.
+use Rattle.ot_layouts.specs.declared.Header.{Header}
+use Rattle.std.specs.Prelude.{Option, Some, None}
 use Prim.Native.Nat.{ℕ, zero, suc, ◌+◌}
 use mathlib.Core.Path.{◌≡◌, refl}
 use mathlib.Core.Bool.{Bool, true, false, not, ◌&&◌}
 use mathlib.Core.List.{List, [], ◌∷◌, ◌++◌}
-use mathlib.Core.Option.{Option, some, none}
 use lib.IntN.{ℤ, pos, negsuc}
 use lib.ListN.{length, replicate}
 use lib.Dec.{leb, eqb}
@@ -44,13 +45,11 @@ use Rattle.ot_layouts.specs.MarkBasePos.{
 use Rattle.ot_layouts.specs.Lookup as Lookup
 use Rattle.ot_layouts.specs.Lookup.{lookup_count, list_exact, is_list_slot, lookup_type, subtable_count, lookup_exact, is_subtable_slot}
 use Rattle.ot_layouts.specs.declared.Kind.{Kind}
-use Rattle.ot_layouts.specs.declared.Reading.{Reading}
-use Rattle.ot_layouts.specs.declared.Reading.TheVariants.{Readable, Unreadable}
 
 -- a place that was found; 99 where there is none
 unfoldable pub placed : Option ℕ → ℕ
-placed (some n) = n
-placed none = 99
+placed (Some n) = n
+placed None = 99
 
 abbrev isℤ : ℤ → ℤ → Bool
 isℤ (pos a) (pos b) = eqb a b
@@ -63,9 +62,9 @@ unfoldable pub kind_number : Kind → ℕ
 kind_number Kind.List = 1
 kind_number Kind.Ranges = 2
 
-unfoldable pub header : Reading → List ℕ
-header (Readable h) = kind_number h.kind ∷ h.count ∷ []
-header Unreadable = []
+unfoldable pub header : Option Header → List ℕ
+header (Some h) = kind_number h.kind ∷ h.count ∷ []
+header None = []
 
 -- `u16_at`, `be16`, `signed16`: big-endian, zero past the end, and the sign at 32,768
 unfoldable pub numbers : List Bool

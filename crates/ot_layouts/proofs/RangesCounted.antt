@@ -1,10 +1,10 @@
 -- A class definition that is written in ranges has fewer than 65,536 of them, which is what two bytes can count. Assumes nothing.
+use Rattle.std.specs.Prelude.{Some, None}
 use Prim.Native.Nat.{ℕ, zero, suc, ◌+◌, ◌-◌, ◌*◌, ◌<◌, ◌≤◌}
 use mathlib.Core.Path.{◌≡◌, sym, ap, ◌∙◌}
 use mathlib.Core.Bool.{Bool, true, false, ◌&&◌, and-false}
 use mathlib.Core.List.{List, [], ◌∷◌}
 use mathlib.Core.Logic.{◌⊎◌, inl, inr, ⊎_elim}
-use mathlib.Core.Option.{some, none}
 use native.Mathlib.Omega.{arith}
 use native.Mathlib.Nat.{eq-or-lt_of_le, le_of_suc-le-suc, not-suc-le-zero}
 use lib.ListN.{length, get_or}
@@ -31,11 +31,11 @@ module _ (b : List ℕ) (bits : (i : ℕ) → u16_at b i < 65536) (two : eqb (u1
   abbrev has : ℕ → ℕ → Bool
   has g k = leb (start_at b k) g && leb g (end_at b k)
 
-  class_at : (g k : ℕ) → first_at (has g) (u16_at b 2) ≡ some k → class_of b g ≡ beside_at b k
+  class_at : (g k : ℕ) → first_at (has g) (u16_at b 2) ≡ Some k → class_of b g ≡ beside_at b k
   unfolding class_of
   class_at g k e = rw two (ap (beside_or b) e)
 
-  class_none : (g : ℕ) → first_at (has g) (u16_at b 2) ≡ none → class_of b g ≡ 0
+  class_none : (g : ℕ) → first_at (has g) (u16_at b 2) ≡ None → class_of b g ≡ 0
   unfolding class_of
   class_none g e = rw two (ap (beside_or b) e)
 

@@ -1,11 +1,10 @@
 -- ClassDef: its bytes read, and written for entries in ascending order. Assumes nothing.
-use Rattle.std.specs.Prelude.{ℕ, ◌+◌, ◌-◌, ◌*◌, Bool, cond, not, ◌&&◌, ◌||◌, List, [], ◌∷◌, ◌++◌, length, leb, ltb, eqb}
-use Rattle.std.proofs.Math.Option.{Option, some, none}
+use Rattle.ot_layouts.specs.declared.Header.{Header}
+use Rattle.std.specs.Prelude.{ℕ, ◌+◌, ◌-◌, ◌*◌, Bool, cond, not, ◌&&◌, ◌||◌, List, [], ◌∷◌, ◌++◌, length, leb, ltb, eqb, Option, Some, None}
 use Rattle.folds.specs.Folds.{flat, first_at}
 use Rattle.folds.specs.Lists.{sift}
 use Rattle.ot_layouts.specs.Numbers.{u16_at, be16}
 use Rattle.ot_layouts.specs.Coverage.{Entry, Run, start_at, end_at, beside_at, ranges_fit, reading, runs}
-use Rattle.ot_layouts.specs.declared.Reading.{Reading}
 
 -- ---- read
 
@@ -16,13 +15,13 @@ class_readable b =
     || eqb (u16_at b 0) 2 && ranges_fit b (u16_at b 2)
 
 -- read into a header, as a Coverage is; the count of format 1 stands behind its start glyph
-unfoldable pub class_def_of : List ℕ → Reading
+unfoldable pub class_def_of : List ℕ → Option Header
 class_def_of b = reading (class_readable b) (u16_at b 0) (cond (eqb (u16_at b 0) 1) (u16_at b 4) (u16_at b 2))
 
 -- the class of the range that was found; "A glyph not named has class 0."
 abbrev pub beside_or : List ℕ → Option ℕ → ℕ
-beside_or b (some k) = beside_at b k
-beside_or b none = 0
+beside_or b (Some k) = beside_at b k
+beside_or b None = 0
 
 -- the class of glyph g by a readable one
 unfoldable pub class_of : List ℕ → ℕ → ℕ

@@ -1,12 +1,10 @@
 -- Coverage: its bytes read, and written for glyphs in ascending order. Assumes nothing.
-use Rattle.std.specs.Prelude.{ℕ, ◌+◌, ◌-◌, ◌*◌, ◌<◌, ◌≤◌, Bool, cond, ◌&&◌, ◌||◌, List, [], ◌∷◌, ◌++◌, map, length, leb, ltb, eqb}
-use Rattle.std.proofs.Math.Option.{Option}
+use Rattle.ot_layouts.specs.declared.Header.{Header}
+use Rattle.std.specs.Prelude.{ℕ, ◌+◌, ◌-◌, ◌*◌, ◌<◌, ◌≤◌, Bool, cond, ◌&&◌, ◌||◌, List, [], ◌∷◌, ◌++◌, map, length, leb, ltb, eqb, Option, Some, None}
 use Rattle.folds.specs.Folds.{all, sum, before, flat, upto, run}
 use Rattle.folds.specs.Lists.{find}
 use Rattle.ot_layouts.specs.Numbers.{u16_at, be16, words}
 use Rattle.ot_layouts.specs.declared.Kind.{Kind}
-use Rattle.ot_layouts.specs.declared.Reading.{Reading}
-use Rattle.ot_layouts.specs.declared.Reading.TheVariants.{Readable, Unreadable}
 
 -- ---- read
 
@@ -53,11 +51,11 @@ abbrev pub kind_of : ℕ → Kind
 kind_of f = cond (eqb f 1) Kind.List Kind.Ranges
 
 -- a header of that format and count where the test holds
-abbrev pub reading : Bool → ℕ → ℕ → Reading
-reading b f n = cond b (Readable (record { kind = kind_of f; count = n })) Unreadable
+abbrev pub reading : Bool → ℕ → ℕ → Option Header
+reading b f n = cond b (Some (record { kind = kind_of f; count = n })) None
 
 -- "Coverage is read into a header that says list or ranges, with the count."
-unfoldable pub coverage_of : List ℕ → Reading
+unfoldable pub coverage_of : List ℕ → Option Header
 coverage_of b = reading (cover_readable b) (u16_at b 0) (u16_at b 2)
 
 -- the glyphs that a readable one covers, in order

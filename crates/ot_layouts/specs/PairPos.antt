@@ -1,6 +1,5 @@
 -- PairPos formats 1 and 2: what stands where in a table and in a pair set. Assumes nothing.
-use Rattle.std.specs.Prelude.{ℕ, zero, suc, ◌+◌, ◌-◌, ◌*◌, ◌%◌, Bool, true, cond, ◌&&◌, ◌||◌, List, [], ◌∷◌, ◌++◌, map, length, drop, leb, eqb}
-use Rattle.std.proofs.Math.Option.{Option, none}
+use Rattle.std.specs.Prelude.{ℕ, zero, suc, ◌+◌, ◌-◌, ◌*◌, ◌%◌, Bool, true, cond, ◌&&◌, ◌||◌, List, [], ◌∷◌, ◌++◌, map, length, drop, leb, eqb, Option, None}
 use Rattle.folds.specs.Folds.{first_at}
 use Rattle.folds.specs.Lists.{among}
 use Rattle.ot_layouts.specs.Numbers.{u16_at}
@@ -123,7 +122,7 @@ values_at size r = 4 + (2 + size) * r
 
 -- "the first record in that set with the second glyph"
 unfoldable pub first_record : List ℕ → ℕ → ℕ → Option ℕ
-first_record b size g = cond (set_readable b size) (first_at (λ r. eqb (u16_at b (2 + (2 + size) * r)) g) (u16_at b 0)) none
+first_record b size g = cond (set_readable b size) (first_at (λ r. eqb (u16_at b (2 + (2 + size) * r)) g) (u16_at b 0)) None
 
 -- "strictly ascending": n records stand at the front of b, the first glyph is no less than `least`, and each is above the one before it
 unfoldable pub ascending : ℕ → ℕ → ℕ → List ℕ → Bool

@@ -71,16 +71,9 @@ pub enum Kind {
     Ranges,
 }
 
-// What a Coverage or a ClassDef is read into: a list or ranges, and how many glyphs or ranges.
+// What a readable Coverage or ClassDef is read into: a list or ranges, and how many glyphs or ranges.
 #[derive(Clone, Copy)]
 pub struct Header {
     pub kind: Kind,
     pub count: usize,
-}
-
-// What reading a Coverage or a ClassDef answers.
-#[derive(Clone, Copy)]
-pub enum Reading {
-    Readable(Header),
-    Unreadable,
 }

@@ -20,21 +20,14 @@ pub fn is_one_of(start: u32, count: u16, position: u32) -> bool
         return false;
     }
     let past = position - start;
-    if 2 * (count as u32) <= past {
-        return false;
-    }
-    past % 2 == 0
+    past < 2 * u32::from(count) && past % 2 == 0
 }
 
 // Whether a lookup list has exactly its length.
 pub fn list_exact(list: &[u8]) -> bool
     ensures { result ≡ list_exact list.now }
 {
-    if list.len() < 2 {
-        return false;
-    }
-    let lookups = u16_at(list, 0) as usize;
-    list.len() == 2 + 2 * lookups
+    list.len() >= 2 && list.len() == 2 + 2 * usize::from(lookup_count(list))
 }
 
 // How many lookups a list has, empty slots counted.
@@ -52,8 +45,8 @@ pub fn lookup_exact(lookup: &[u8]) -> bool
     if lookup.len() < 6 {
         return false;
     }
-    let subtables = subtable_count(lookup) as usize;
-    let set = filters(lookup) as usize;
+    let subtables = usize::from(subtable_count(lookup));
+    let set = usize::from(filters(lookup));
     lookup.len() == 6 + 2 * subtables + 2 * set
 }
 

@@ -40,11 +40,8 @@ fn marks_readable(array: &[u8], classes: u16) -> bool
     if array.len() < 2 {
         return false;
     }
-    let marks = u16_at(array, 0) as usize;
-    if array.len() != 2 + 4 * marks {
-        return false;
-    }
-    classes_below(array, marks, classes)
+    let marks = usize::from(u16_at(array, 0));
+    array.len() == 2 + 4 * marks && classes_below(array, marks, classes)
 }
 
 // Whether each of so many marks has a class below `classes`.
@@ -52,14 +49,7 @@ fn classes_below(array: &[u8], marks: usize, classes: u16) -> bool
     requires { 2 + 4 * marks ≤ length array.now }
     ensures { result ≡ all (λ i. ltb (mark_class array.now i) classes) marks }
 {
-    let mut i: usize = 0;
-    while i < marks {
-        if classes <= u16_at(array, 2 + 4 * i) {
-            return false;
-        }
-        i += 1;
-    }
-    true
+    (0..marks).all(|i| u16_at(array, 2 + 4 * i) < classes)
 }
 
 // Whether a base array has exactly its length.
@@ -69,8 +59,8 @@ fn bases_readable(array: &[u8], classes: u16) -> bool
     if array.len() < 2 {
         return false;
     }
-    let bases = u16_at(array, 0) as usize;
-    array.len() == 2 + 2 * (bases * (classes as usize))
+    let bases = usize::from(u16_at(array, 0));
+    array.len() == 2 + 2 * (bases * usize::from(classes))
 }
 
 // Whether a link may stand at `position`.
@@ -88,34 +78,19 @@ pub fn is_slot(holder: Holder, position: u32) -> bool
 fn is_table_slot(position: u32) -> bool
     ensures { result ≡ is_table_slot position }
 {
-    if position == 2 {
-        return true;
-    }
-    if position == 4 {
-        return true;
-    }
-    if position == 8 {
-        return true;
-    }
-    position == 10
+    matches!(position, 2 | 4 | 8 | 10)
 }
 
 // Behind a mark's class.
 fn is_mark_slot(position: u32) -> bool
     ensures { result ≡ is_mark_slot position }
 {
-    if position < 4 {
-        return false;
-    }
-    position % 4 == 0
+    4 <= position && position % 4 == 0
 }
 
 // Behind the count of bases.
 fn is_base_slot(position: u32) -> bool
     ensures { result ≡ is_base_slot position }
 {
-    if position < 2 {
-        return false;
-    }
-    position % 2 == 0
+    2 <= position && position % 2 == 0
 }

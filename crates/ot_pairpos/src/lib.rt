@@ -43,14 +43,11 @@ pub fn open(table: &[u8]) -> Opened
     if table.len() < 2 {
         return Opened::Bad;
     }
-    let format = u16_at(table, 0);
-    if format == 1 {
-        return open_format1(table);
+    match u16_at(table, 0) {
+        1 => open_format1(table),
+        2 => open_format2(table),
+        _ => Opened::Other,
     }
-    if format == 2 {
-        return open_format2(table);
-    }
-    Opened::Other
 }
 
 fn open_format1(table: &[u8]) -> Opened
@@ -61,7 +58,7 @@ fn open_format1(table: &[u8]) -> Opened
         return Opened::Bad;
     }
     let count = u16_at(table, 8);
-    if table.len() != 10 + 2 * (count as usize) {
+    if table.len() != 10 + 2 * usize::from(count) {
         return Opened::Bad;
     }
     Opened::Pair(Layout {
@@ -98,8 +95,8 @@ fn open_format2(table: &[u8]) -> Opened
     let count = u16_at(table, 12);
     let columns = u16_at(table, 14);
     let unit = record_size(value1, value2);
-    let item = unit * (columns as usize);
-    if table.len() != 16 + item * (count as usize) {
+    let item = unit * usize::from(columns);
+    if table.len() != 16 + item * usize::from(count) {
         return Opened::Bad;
     }
     Opened::Pair(Layout {
@@ -122,22 +119,17 @@ pub fn is_slot(layout: Layout, position: usize) -> bool
     ensures { (b : List ℕ) → layout ≡ layout_of b → result ≡ is_slot (shape_of b) position }
 {
     if layout.format == 1 {
-        return is_slot1(position);
+        is_slot1(position)
+    } else {
+        is_slot2(layout.unit, layout.value1, layout.value2, position)
     }
-    is_slot2(layout.unit, layout.value1, layout.value2, position)
 }
 
 // Format 1: at the coverage, or at a pair set's slot.
 fn is_slot1(position: usize) -> bool
     ensures { (b : List ℕ) → result ≡ is_slot (shape1 b) position }
 {
-    if position == 2 {
-        return true;
-    }
-    if position < 10 {
-        return false;
-    }
-    (position - 10) % 2 == 0
+    position == 2 || (10 <= position && (position - 10) % 2 == 0)
 }
 
 // Format 2: at the coverage or a class definition, or at a device of a value record.
@@ -147,23 +139,14 @@ fn is_slot2(unit: usize, value1: u16, value2: u16, position: usize) -> bool
     if position < 16 {
         return is_head2(position);
     }
-    if unit == 0 {
-        return false;
-    }
-    is_device_slot(value1, value2, (position - 16) % unit)
+    unit != 0 && is_device_slot(value1, value2, (position - 16) % unit)
 }
 
 // Where the header of format 2 has its links.
 fn is_head2(position: usize) -> bool
     ensures { result ≡ among position (own_in 2 ++ shared_in 2) }
 {
-    if position == 2 {
-        return true;
-    }
-    if position == 8 {
-        return true;
-    }
-    position == 10
+    matches!(position, 2 | 8 | 10)
 }
 
 // Whether a device stands at byte `offset` of a pair's two value records.
@@ -176,7 +159,8 @@ fn is_device_slot(value1: u16, value2: u16, offset: usize) -> bool
     let k = offset / 2;
     let first = field_count(value1);
     if k < first {
-        return is_device(value1, k);
+        is_device(value1, k)
+    } else {
+        is_device(value2, k - first)
     }
-    is_device(value2, k - first)
 }

@@ -1,16 +1,8 @@
 -- The range that has a glyph, of a Coverage or a ClassDef of format 2, and the bytes of a range. Assumes nothing.
-use Rattle.std.specs.Prelude.{ℕ, Bool, ◌&&◌, List, ◌++◌, leb}
-use Rattle.std.proofs.Math.Option.{Option, some, none}
+use Rattle.std.specs.Prelude.{ℕ, Bool, ◌&&◌, List, ◌++◌, leb, Option}
 use Rattle.folds.specs.Folds.{first_at}
 use Rattle.ot_layouts.specs.Numbers.{be16}
 use Rattle.ot_layouts.specs.Coverage.{start_at, end_at}
-use Rattle.ot_ranges.specs.declared.Found.{Found}
-use Rattle.ot_ranges.specs.declared.Found.TheVariants.{At, Nowhere}
-
--- which range was found, if any
-abbrev pub range_found : Found → Option ℕ
-range_found (At k) = some k
-range_found Nowhere = none
 
 -- range k has glyph g
 abbrev pub in_range : List ℕ → ℕ → ℕ → Bool

@@ -5,16 +5,10 @@ ghost use Rattle.std.specs.Prelude.{◌≡◌, true, ◌+◌, ◌≤◌, ◌<◌
 ghost use Rattle.folds.specs.Lists.{put};
 ghost use Rattle.ot_layouts.specs.Coverage.{ranges_fit};
 ghost use Rattle.folds.specs.Moments.{came, left};
-ghost use Rattle.ot_ranges.specs.Ranges.{range_found, range_of, range_bytes};
+ghost use Rattle.ot_ranges.specs.Ranges.{range_of, range_bytes};
 
+use halving::partition_point;
 use ot_wire::{put_u16, u16_at};
-
-// Where among the ranges a glyph is.
-#[derive(Clone, Copy)]
-pub enum Found {
-    At(usize),
-    Nowhere,
-}
 
 // Whether `count` ranges fill the table, each with its start above the end before it and no higher than its own end.
 pub fn ranges_fit(part: &[u8], count: usize) -> bool
@@ -25,10 +19,9 @@ pub fn ranges_fit(part: &[u8], count: usize) -> bool
         return false;
     }
     let mut next: usize = 0;
-    let mut k: usize = 0;
-    while k < count {
-        let start = u16_at(part, 4 + 6 * k) as usize;
-        let end = u16_at(part, 6 + 6 * k) as usize;
+    for k in 0..count {
+        let start = usize::from(u16_at(part, 4 + 6 * k));
+        let end = usize::from(u16_at(part, 6 + 6 * k));
         if start < next {
             return false;
         }
@@ -36,33 +29,21 @@ pub fn ranges_fit(part: &[u8], count: usize) -> bool
             return false;
         }
         next = end + 1;
-        k += 1;
     }
     true
 }
 
-// The range that has the glyph, by halving: the ranges before `lo` end below it and those from `hi` on start above it.
-pub fn range_of(part: &[u8], count: usize, glyph: u16) -> Found
+// The range that has the glyph: the first that does not end below it, where that one starts no higher.
+pub fn range_of(part: &[u8], count: usize, glyph: u16) -> Option<usize>
     requires { ranges_fit part.now count ≡ true }
-    ensures { range_found result ≡ range_of part.now count glyph }
+    ensures { result ≡ range_of part.now count glyph }
 {
-    let mut lo: usize = 0;
-    let mut hi: usize = count;
-    while lo < hi {
-        let mid = lo + (hi - lo) / 2;
-        let start = u16_at(part, 4 + 6 * mid);
-        let end = u16_at(part, 6 + 6 * mid);
-        if end < glyph {
-            lo = mid + 1;
-        } else {
-            if glyph < start {
-                hi = mid;
-            } else {
-                return Found::At(mid);
-            }
-        }
+    let k = partition_point(0, count, |k| u16_at(part, 6 + 6 * k) < glyph);
+    if k < count && u16_at(part, 4 + 6 * k) <= glyph {
+        Some(k)
+    } else {
+        None
     }
-    Found::Nowhere
 }
 
 // Writes a range at `at`.

@@ -12,7 +12,7 @@ const FIRST_DEVICE: usize = 4;
 pub fn field_count(format: u16) -> usize
     ensures { result ≡ field_count format }
 {
-    u16::count_ones(format & 0xff) as usize
+    (format & 0xff).count_ones() as usize
 }
 
 // Whether `format` has field `j` of the table.
@@ -30,7 +30,7 @@ pub fn position(format: u16, j: usize) -> usize
     ensures { result ≡ position format j }
 {
     let below = ot_layouts::field_at(j).mask - 1;
-    u16::count_ones(format & below) as usize
+    (format & below).count_ones() as usize
 }
 
 // Whether a device stands at position `k`: the devices are the rows of the table from `FIRST_DEVICE` on, so they stand behind the plain fields.

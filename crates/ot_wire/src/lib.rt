@@ -11,7 +11,7 @@ pub fn u16_at(s: &[u8], i: usize) -> u16
     requires { i + 1 < length s.now }
     ensures { result ≡ u16_at s.now i }
 {
-    256 * (s[i] as u16) + (s[i + 1] as u16)
+    u16::from_be_bytes([s[i], s[i + 1]])
 }
 
 // Writes the two bytes of `v` at `at`.
@@ -19,6 +19,5 @@ pub fn put_u16(out: &mut [u8], at: usize, v: u16)
     requires { at + 1 < length out.old }
     ensures { left out ≡ put (came out) at (be16 v) }
 {
-    out[at] = (v / 256) as u8;
-    out[at + 1] = (v % 256) as u8;
+    out[at..at + 2].copy_from_slice(&v.to_be_bytes());
 }

@@ -1,11 +1,10 @@
 -- The kept table and each new one are the tables of their ranges. Assumes nothing.
+use Rattle.std.specs.Prelude.{Option, Some, unwrap_or}
 use Prim.Native.Nat.{ℕ, ◌+◌, ◌-◌, ◌*◌, ◌<◌, ◌≤◌}
 use mathlib.Core.Path.{◌≡◌, ap, ap₂, ◌∙◌}
 use mathlib.Core.Bool.{false}
 use mathlib.Core.List.{List, [], map}
 use mathlib.Core.Logic.{◌⊎◌, inl, inr, ⊎_elim}
-use mathlib.Core.Option
-use mathlib.Core.Option.{Option, some}
 use native.Mathlib.Omega.{arith}
 use lib.ListN.{length, get_or}
 use lib.Dec.{eqb}
@@ -44,13 +43,13 @@ module _ (s : Store) (t : ℕ) (cs : List ℕ) (g : Ready s t cs) where
   s' = split_store s t cs
 
   -- what t leads to is in use, and is as it was
-  pub child_kept : (q c : ℕ) → child_at s t q ≡ some c → (bytes_of s' c ≡ bytes_of s c) × ((p : ℕ) → child_at s' c p ≡ child_at s c p)
+  pub child_kept : (q c : ℕ) → child_at s t q ≡ Some c → (bytes_of s' c ≡ bytes_of s c) × ((p : ℕ) → child_at s' c p ≡ child_at s c p)
   child_kept q c e =
       let l = child_used_lem s t g.fit q c e in
       let n = child_other s t g.fit g.acyclic q c e in
       (other_bytes s t cs g c l n, λ p. others_child s t cs g c p l n)
 
-  class2_same : (two : eqb sh.format 1 ≡ false) → (c : ℕ) × (child_at s t 10 ≡ some c) × (bytes_of s' c ≡ bytes_of s c)
+  class2_same : (two : eqb sh.format 1 ≡ false) → (c : ℕ) × (child_at s t 10 ≡ Some c) × (bytes_of s' c ≡ bytes_of s c)
   class2_same two = let (c, e) = g.parts.class2 two in (c, e, (child_kept 10 c e).0)
 
   -- ---- the own parts of a table of items lo up to hi
@@ -110,7 +109,7 @@ module _ (s : Store) (t : ℕ) (cs : List ℕ) (g : Ready s t cs) where
           links = λ q h k. new_item s t cs g j q l h k;
           cover = (u + 1, omega arith, new_cover s t cs g j l, cover_new_lem);
           class1 = λ two. (u + 2, omega arith, new_class1 s t cs g j l two, class_new_lem two);
-          class2 = λ two. let (c, e, f) = class2_same two in (c, new_class2 s t cs g j l two ∙ ap (λ (o : Option ℕ). some (Option.get_or o 0)) e, e, f);
+          class2 = λ two. let (c, e, f) = class2_same two in (c, new_class2 s t cs g j l two ∙ ap (λ (o : Option ℕ). Some (unwrap_or o 0)) e, e, f);
         }
 
   -- ---- the kept table
@@ -201,7 +200,7 @@ module _ (s : Store) (t : ℕ) (cs : List ℕ) (g : Ready s t cs) where
         wide = λ two i h m. let f = format_two (bytes_of s t) two in kept_at i (inr (omega arith)) (omega arith);
         rows = λ two i h m. kept_at i (inr (omega (arith, count_in_header (bytes_of s t)))) (omega arith) ∙ ap (λ (n : ℕ). get_or (bytes_of s t) n 0) (omega arith);
         links = λ q h m. kept_child s t cs g q (inl (omega arith)) ∙ item_kept q h ∙ ap (child_at s t) (omega arith);
-        cover = let (d, e) = g.parts.cover in (v, omega arith, header_kept 2 (omega arith) ∙ rw e (ap some (child_cover d)), cover_kept);
-        class1 = λ two. let (d, e) = g.parts.class1 two in (v + 1, omega arith, header_kept 8 (omega arith) ∙ rw e (ap some (child_class1 two d)), class_kept two);
-        class2 = λ two. let f = format_two (bytes_of s t) two in let (d, e, h) = class2_same two in (d, kept_child s t cs g 10 (inl (omega arith)) ∙ rw e (ap some (child_class2 two d)), e, h);
+        cover = let (d, e) = g.parts.cover in (v, omega arith, header_kept 2 (omega arith) ∙ rw e (ap Some (child_cover d)), cover_kept);
+        class1 = λ two. let (d, e) = g.parts.class1 two in (v + 1, omega arith, header_kept 8 (omega arith) ∙ rw e (ap Some (child_class1 two d)), class_kept two);
+        class2 = λ two. let f = format_two (bytes_of s t) two in let (d, e, h) = class2_same two in (d, kept_child s t cs g 10 (inl (omega arith)) ∙ rw e (ap Some (child_class2 two d)), e, h);
       }

@@ -1,10 +1,10 @@
 -- The links after a split: those that stay, then those of each new table; and where each of them leads. Assumes nothing.
+use Rattle.std.specs.Prelude.{Some}
 use Prim.Native.Nat.{ℕ, ◌+◌, ◌*◌, ◌<◌, ◌≤◌}
 use mathlib.Core.Path.{◌≡◌, refl, sym, ap, ◌∙◌}
 use mathlib.Core.Bool.{Bool, true, false, not}
 use mathlib.Core.List.{List, ◌++◌, map}
 use mathlib.Core.Logic.{◌⊎◌}
-use mathlib.Core.Option.{some}
 use native.Mathlib.Omega.{arith}
 use lib.ListN.{length}
 use lib.Dec.{eqb}
@@ -109,15 +109,15 @@ module _ (s : Store) (t : ℕ) (cs : List ℕ) (g : Ready s t cs) where
       ∙ rw (lookup_above (kept sh.own t v) (stays s t cs) s.object_count u q (omega arith) (kept_parent sh.own t v) (links_of s) old_parents)
       (lookup_piece (piece s t cs) (length cs) j u q l (λ i ne. table_none s t sh (new_number s (per_table sh) i) (from cs i) (to sh.count cs i) u q (λ e. tables_apart sh i j ne (omega arith)))))
 
-  pub new_cover : (j : ℕ) → j < length cs → child_at s' (new_number s (per_table sh) j) 2 ≡ some (new_number s (per_table sh) j + 1)
+  pub new_cover : (j : ℕ) → j < length cs → child_at s' (new_number s (per_table sh) j) 2 ≡ Some (new_number s (per_table sh) j + 1)
   unfolding table_links
   new_cover j l = child_of_new j 2 l ∙ head_cover (bytes_of s t) (new_number s (per_table sh) j) (linked_at s t) _
 
-  pub new_class1 : (j : ℕ) → j < length cs → eqb sh.format 1 ≡ false → child_at s' (new_number s (per_table sh) j) 8 ≡ some (new_number s (per_table sh) j + 2)
+  pub new_class1 : (j : ℕ) → j < length cs → eqb sh.format 1 ≡ false → child_at s' (new_number s (per_table sh) j) 8 ≡ Some (new_number s (per_table sh) j + 2)
   unfolding table_links
   new_class1 j l e = child_of_new j 8 l ∙ head_class1 (bytes_of s t) (new_number s (per_table sh) j) (linked_at s t) _ e
 
-  pub new_class2 : (j : ℕ) → j < length cs → eqb sh.format 1 ≡ false → child_at s' (new_number s (per_table sh) j) 10 ≡ some (linked_at s t 10)
+  pub new_class2 : (j : ℕ) → j < length cs → eqb sh.format 1 ≡ false → child_at s' (new_number s (per_table sh) j) 10 ≡ Some (linked_at s t 10)
   unfolding table_links
   new_class2 j l e = child_of_new j 10 l ∙ head_class2 (bytes_of s t) (new_number s (per_table sh) j) (linked_at s t) _ e
 

@@ -1,9 +1,9 @@
 -- The pair sets of the kept table and of the new ones are the old table's, with the same bytes: they are sorted where those were. Assumes nothing.
+use Rattle.std.specs.Prelude.{Some}
 use Prim.Native.Nat.{ℕ, ◌+◌, ◌-◌, ◌*◌, ◌<◌}
 use mathlib.Core.Path.{◌≡◌, sym, ap, ap₂, ◌∙◌}
 use mathlib.Core.Bool.{true}
 use mathlib.Core.List.{List}
-use mathlib.Core.Option.{some}
 use native.Mathlib.Omega.{arith}
 use lib.ListN.{length}
 use lib.Dec.{eqb}
@@ -22,11 +22,11 @@ use Rattle.pair_after.proofs.KeptAndNew.{view_kept, view_new}
 
 -- a table of some of the old table's items
 module _ {s : Store} {t : ℕ} {s' : Store} {u lo hi : ℕ} (v : View s t s' u lo hi)
-    (bytes : (q c : ℕ) → child_at s t q ≡ some c → bytes_of s' c ≡ bytes_of s c) where
+    (bytes : (q c : ℕ) → child_at s t q ≡ Some c → bytes_of s' c ≡ bytes_of s c) where
   pub view_sorted : sets_sorted s t ≡ true → sets_sorted s' u ≡ true
   view_sorted sorted = sets_sorted_lem s' u set
     where
-      set : eqb (shape s' u).format 1 ≡ true → (k c : ℕ) → k < (shape s' u).count → child_at s' u (item_at (shape s' u) k) ≡ some c
+      set : eqb (shape s' u).format 1 ≡ true → (k c : ℕ) → k < (shape s' u).count → child_at s' u (item_at (shape s' u) k) ≡ Some c
           → set_sorted (bytes_of s' c) (record_size (bytes_of s' u)) ≡ true
       set e k c l child =
           let one : eqb (shape s t).format 1 ≡ true = sym (ap (λ (sh : Shape). eqb sh.format 1) (view_shape v)) ∙ e in
@@ -36,7 +36,7 @@ module _ {s : Store} {t : ℕ} {s' : Store} {u lo hi : ℕ} (v : View s t s' u l
           let b : (shape s t).item * lo ≡ 2 * lo = ap (λ (n : ℕ). n * lo) two in
           let d : (shape s t).item * (k + lo) ≡ 2 * (k + lo) = ap (λ (n : ℕ). n * (k + lo)) two in
           let h : (shape s t).item * hi ≡ 2 * hi = ap (λ (n : ℕ). n * hi) two in
-          let old : child_at s t (item_at (shape s t) (k + lo)) ≡ some c
+          let old : child_at s t (item_at (shape s t) (k + lo)) ≡ Some c
           = ap (child_at s t) (omega arith) ∙ sym (v.links (item_at (shape s t) k) (omega arith) (omega arith))
           ∙ ap (λ (sh : Shape). child_at s' u (item_at sh k)) (sym (view_shape v)) ∙ child in
           ap₂ set_sorted (bytes (item_at (shape s t) (k + lo)) c old) (view_record v)
@@ -44,7 +44,7 @@ module _ {s : Store} {t : ℕ} {s' : Store} {u lo hi : ℕ} (v : View s t s' u l
 
 module _ (s : Store) (t : ℕ) (cs : List ℕ) (g : Ready s t cs) (sorted : sets_sorted s t ≡ true) where
   -- what the table leads to is another object, and keeps its bytes
-  set_bytes : (q c : ℕ) → child_at s t q ≡ some c → bytes_of (split_store s t cs) c ≡ bytes_of s c
+  set_bytes : (q c : ℕ) → child_at s t q ≡ Some c → bytes_of (split_store s t cs) c ≡ bytes_of s c
   set_bytes q c e = other_bytes s t cs g c (child_used_lem s t g.fit q c e) (child_other s t g.fit g.acyclic q c e)
 
   -- each table of some of its items is sorted then

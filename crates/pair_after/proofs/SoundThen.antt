@@ -1,10 +1,10 @@
 -- The store stays sound: its objects follow one another, and its links name objects in use, lie in their parents and ascend. Assumes nothing.
+use Rattle.std.specs.Prelude.{Option, Some, None, unwrap_or}
 use Prim.Native.Nat.{ℕ, suc, ◌+◌, ◌-◌, ◌*◌, ◌<◌, ◌≤◌}
 use mathlib.Core.Path.{◌≡◌, refl, sym, ap, subst, ◌∙◌}
 use mathlib.Core.Bool.{Bool, true, false, cond, not}
 use mathlib.Core.List.{List, map}
 use mathlib.Core.Logic.{⊎_elim}
-use mathlib.Core.Option.{Option, some, none, get_or}
 use native.Mathlib.Omega.{arith}
 use native.Mathlib.Decide.{ℕ_discrete}
 use native.Mathlib.Nat.{mul-suc, mul-sub}
@@ -135,9 +135,9 @@ module _ (s : Store) (t : ℕ) (cs : List ℕ) (g : Ready s t cs) where
     linked_used : (q : ℕ) → linked_at s t q < s.object_count
     linked_used q = go (child_at s t q) refl
       where
-        go : (o : Option ℕ) → child_at s t q ≡ o → get_or o 0 < s.object_count
-        go none e = omega (arith, g.reads.used)
-        go (some k) e = child_used_lem s t g.fit q k e
+        go : (o : Option ℕ) → child_at s t q ≡ o → unwrap_or o 0 < s.object_count
+        go None e = omega (arith, g.reads.used)
+        go (Some k) e = child_used_lem s t g.fit q k e
 
     heads_fit : Each (Fitting s') (head_links sh u (linked_at s t))
     heads_fit =

@@ -1,10 +1,10 @@
 -- After a split, what the kept table, the new objects and what the old table reached lead to is new, or the old table reached it. Assumes nothing.
+use Rattle.std.specs.Prelude.{Some}
 use Prim.Native.Nat.{ℕ, ◌+◌, ◌<◌, ◌≤◌}
 use mathlib.Core.Path.{◌≡◌, refl, sym, ap₂, subst}
 use mathlib.Core.Bool.{true}
 use mathlib.Core.List.{List, ◌++◌, map}
 use mathlib.Core.Logic.{◌⊎◌, inl, inr, ⊎_elim}
-use mathlib.Core.Option.{some}
 use native.Mathlib.Omega.{arith}
 use lib.ListN.{length}
 use Rattle.folds.specs.Folds.{flat}
@@ -89,7 +89,7 @@ module _ (s : Store) (t : ℕ) (cs : List ℕ) (g : Ready s t cs) where
       subst (Way s t) (sym (linked_is s t q c e)) (way_child s t q c e)
     where
       There : ℕ → Type 0
-      There q = (c : ℕ) × (child_at s t q ≡ some c)
+      There q = (c : ℕ) × (child_at s t q ≡ Some c)
 
   piece_lead : (j : ℕ) → Each (LeadsOn s t) (piece s t cs j)
   unfolding table_links moved
@@ -118,7 +118,7 @@ module _ (s : Store) (t : ℕ) (cs : List ℕ) (g : Ready s t cs) where
       (each_at (LeadsOn s t) (links_of s') all-lead k (omega (arith, rows_many s')) no_link)
 
   -- and the children
-  pub child_leads : (u q c : ℕ) → (u ≡ t) ⊎ NewOrOwn s t u → child_at s' u q ≡ some c → NewOrOwn s t c
+  pub child_leads : (u q c : ℕ) → (u ≡ t) ⊎ NewOrOwn s t u → child_at s' u q ≡ Some c → NewOrOwn s t c
   child_leads u q c h e =
       let (k, l, a, b, x) = child_row s' u q c e in
       subst (NewOrOwn s t) x (row_leads k l (of_offset u (link_at s' k) a) (subst (λ (i : ℕ). (i ≡ t) ⊎ NewOrOwn s t i) (sym (of_parent u (link_at s' k) a)) h))

@@ -1,10 +1,10 @@
 -- A table of a range of the old table's items, as it stands in another store, and what it shares with the old table. Assumes nothing.
+use Rattle.std.specs.Prelude.{Some}
 use Prim.Native.Nat.{ℕ, ◌+◌, ◌-◌, ◌*◌, ◌<◌, ◌≤◌, min}
 use mathlib.Core.Path.{◌≡◌, refl, sym, ap, ap₂, ◌∙◌}
 use mathlib.Core.Bool.{Bool, true, false, cond}
 use mathlib.Core.List.{List, [], ◌∷◌, map}
 use mathlib.Core.Logic.{◌⊎◌, inl, inr}
-use mathlib.Core.Option.{some}
 use native.Mathlib.Omega.{arith}
 use lib.ListN.{length, get_or}
 use lib.Dec.{eqb}
@@ -46,9 +46,9 @@ pub record View (s : Store) (t : ℕ) (s' : Store) (u lo hi : ℕ) : Type 0 wher
   pub rows : eqb (shape s t).format 1 ≡ false → (i : ℕ) → (shape s t).header ≤ i → i + (shape s t).item * lo < item_at (shape s t) hi → get_or (bytes_of s' u) i 0 ≡ get_or (bytes_of s t) (i + (shape s t).item * lo) 0
   pub links : (q : ℕ) → (shape s t).header ≤ q → q + (shape s t).item * lo < item_at (shape s t) hi → child_at s' u q ≡ child_at s t (q + (shape s t).item * lo)
   -- a new coverage and class definition 1, and the old class definition 2
-  pub cover : (c : ℕ) × (s.object_count ≤ c) × (child_at s' u 2 ≡ some c) × (bytes_of s' c ≡ coverage_bytes (map (λ e. e.glyph) (within lo hi (entries_of s t))))
-  pub class1 : eqb (shape s t).format 1 ≡ false → (c : ℕ) × (s.object_count ≤ c) × (child_at s' u 8 ≡ some c) × (bytes_of s' c ≡ class_def_bytes (reduced lo (within lo hi (entries_of s t))))
-  pub class2 : eqb (shape s t).format 1 ≡ false → (c : ℕ) × (child_at s' u 10 ≡ some c) × (child_at s t 10 ≡ some c) × (bytes_of s' c ≡ bytes_of s c)
+  pub cover : (c : ℕ) × (s.object_count ≤ c) × (child_at s' u 2 ≡ Some c) × (bytes_of s' c ≡ coverage_bytes (map (λ e. e.glyph) (within lo hi (entries_of s t))))
+  pub class1 : eqb (shape s t).format 1 ≡ false → (c : ℕ) × (s.object_count ≤ c) × (child_at s' u 8 ≡ Some c) × (bytes_of s' c ≡ class_def_bytes (reduced lo (within lo hi (entries_of s t))))
+  pub class2 : eqb (shape s t).format 1 ≡ false → (c : ℕ) × (child_at s' u 10 ≡ Some c) × (child_at s t 10 ≡ Some c) × (bytes_of s' c ≡ bytes_of s c)
 
 -- ---- its shape is the old one with another count
 

@@ -1,9 +1,9 @@
 -- The table of a range has the old table's pairs whose item lies in the range. Assumes nothing.
+use Rattle.std.specs.Prelude.{Option, Some, None}
 use Prim.Native.Nat.{ℕ, ◌+◌, ◌-◌, ◌*◌, ◌<◌, ◌≤◌}
 use mathlib.Core.Path.{◌≡◌, refl, sym, ap, ap₂, ◌∙◌}
 use mathlib.Core.Bool.{Bool, true, false, cond, ◌&&◌}
 use mathlib.Core.List.{List}
-use mathlib.Core.Option.{Option, some, none}
 use native.Mathlib.Omega.{arith}
 use native.Mathlib.Nat.{add-mul, mul_assoc, mul_comm, mul-add, mul-le-mul_right, mul-le-mul_left}
 use lib.ListN.{get_or}
@@ -59,7 +59,7 @@ record_is b = refl
 
 -- what t leads to is as it was
 abbrev pub Kin : Store → ℕ → Store → Type 0
-Kin s t s' = (q c : ℕ) → child_at s t q ≡ some c → (bytes_of s' c ≡ bytes_of s c) × ((p : ℕ) → child_at s' c p ≡ child_at s c p)
+Kin s t s' = (q c : ℕ) → child_at s t q ≡ Some c → (bytes_of s' c ≡ bytes_of s c) × ((p : ℕ) → child_at s' c p ≡ child_at s c p)
 
 module _ {s : Store} {t : ℕ} {s' : Store} {u lo hi : ℕ} (v : View s t s' u lo hi) where
   abbrev sh : Shape
@@ -76,7 +76,7 @@ module _ {s : Store} {t : ℕ} {s' : Store} {u lo hi : ℕ} (v : View s t s' u l
   -- the pair at a spot whose sixteen numbers are those at another
   pair_at_lem : (o' q' o q : ℕ) → ((j : ℕ) → j < 8 → number_of s' o' q' (value1 old) j ≡ number_of s o q (value1 old) j)
       → ((j : ℕ) → j < 8 → number_of s' o' (q' + 2 * field_count (value1 old)) (value2 old) j ≡ number_of s o (q + 2 * field_count (value1 old)) (value2 old) j)
-      → pair_at s' u (some (record { object = o'; at = q' })) ≡ pair_at s t (some (record { object = o; at = q }))
+      → pair_at s' u (Some (record { object = o'; at = q' })) ≡ pair_at s t (Some (record { object = o; at = q }))
   unfolding pair_at
   pair_at_lem o' q' o q firsts seconds =
       let f : upto (number_of s' o' q' (value1 new)) 8 ≡ upto (number_of s o q (value1 old)) 8
@@ -165,21 +165,21 @@ module _ {s : Store} {t : ℕ} {s' : Store} {u lo hi : ℕ} (v : View s t s' u l
   module _ (one : eqb (shape s t).format 1 ≡ true) (kin : Kin s t s') where
     -- the reading from a set on
     abbrev in_set : Store → ℕ → ℕ → ℕ → Option Spot
-    in_set r size b c = and_then (first_record (bytes_of r c) size b) λ k. some (record { object = c; at = values_at size k })
+    in_set r size b c = and_then (first_record (bytes_of r c) size b) λ k. Some (record { object = c; at = values_at size k })
 
-    set-pair_at : (b : ℕ) (o : Option ℕ) → ((c : ℕ) → o ≡ some c → (bytes_of s' c ≡ bytes_of s c) × ((p : ℕ) → child_at s' c p ≡ child_at s c p))
+    set-pair_at : (b : ℕ) (o : Option ℕ) → ((c : ℕ) → o ≡ Some c → (bytes_of s' c ≡ bytes_of s c) × ((p : ℕ) → child_at s' c p ≡ child_at s c p))
         → pair_at s' u (and_then o (in_set s' (record_size new) b)) ≡ pair_at s t (and_then o (in_set s (record_size old) b))
     unfolding and_then pair_at
-    set-pair_at b none k = refl
-    set-pair_at b (some c) k =
+    set-pair_at b None k = refl
+    set-pair_at b (Some c) k =
         let (x, y) = k c refl in
-        ap₂ (λ (z : List ℕ) (n : ℕ). pair_at s' u (and_then (first_record z n b) λ k. some (record { object = c; at = values_at n k }))) x (view_record v)
+        ap₂ (λ (z : List ℕ) (n : ℕ). pair_at s' u (and_then (first_record z n b) λ k. Some (record { object = c; at = values_at n k }))) x (view_record v)
         ∙ go x y (first_record (bytes_of s c) (record_size old) b)
       where
         go : bytes_of s' c ≡ bytes_of s c → ((p : ℕ) → child_at s' c p ≡ child_at s c p) → (o : Option ℕ)
-            → pair_at s' u (and_then o λ k. some (record { object = c; at = values_at (record_size old) k })) ≡ pair_at s t (and_then o λ k. some (record { object = c; at = values_at (record_size old) k }))
-        go x y none = refl
-        go x y (some k) =
+            → pair_at s' u (and_then o λ k. Some (record { object = c; at = values_at (record_size old) k })) ≡ pair_at s t (and_then o λ k. Some (record { object = c; at = values_at (record_size old) k }))
+        go x y None = refl
+        go x y (Some k) =
             let q = values_at (record_size old) k in
             pair_at_lem c q c q (λ j l. number_kept_lem s s' c q (value1 old) j x y) (λ j l. number_kept_lem s s' c (q + 2 * field_count (value1 old)) (value2 old) j x y)
 
@@ -222,8 +222,8 @@ pair_view {s} {t} {s'} {u} {lo} {hi} v up kin a b =
     ∙ sym (ap (λ (x : Option Spot). cond (lies lo hi (entry_of (entries_of s t) a)) (pair_at s t x) no_pair) (spot_by_item s t a b))
   where
     go : (o : Option ℕ) → pair_at s' u (and_then (and_then o (reduce lo hi)) (item_spot s' u b)) ≡ cond (lies lo hi o) (pair_at s t (and_then o (item_spot s t b))) no_pair
-    go none = refl
-    go (some i) = test (leb lo i && ltb i hi) refl
+    go None = refl
+    go (Some i) = test (leb lo i && ltb i hi) refl
       where
         test : (x : Bool) → (leb lo i && ltb i hi) ≡ x → pair_at s' u (and_then (given x (i - lo)) (item_spot s' u b)) ≡ cond x (pair_at s t (item_spot s t b i)) no_pair
         test true e =

@@ -1,10 +1,9 @@
 -- How long the parts of a table of a range are: coverage and class definition 1 as written, and class definition 2 as it was. Assumes nothing.
+use Rattle.std.specs.Prelude.{Option, Some, unwrap_or}
 use Prim.Native.Nat.{ℕ, ◌+◌, ◌-◌, ◌*◌, ◌≤◌, min}
 use mathlib.Core.Path.{◌≡◌, sym, ap, ◌∙◌}
 use mathlib.Core.Bool.{true, false}
 use mathlib.Core.List.{List, ◌++◌, map}
-use mathlib.Core.Option
-use mathlib.Core.Option.{Option, some}
 use native.Mathlib.Omega.{arith}
 use lib.ListN.{length, get_or}
 use lib.Dec.{eqb}
@@ -31,8 +30,8 @@ use Rattle.pair_after.proofs.View.{View}
 use Rattle.pair_after.proofs.SoundThen.{fits_then_lem}
 
 -- the length of a linked object
-linked_size : (s : Store) → Fits s → (u q c : ℕ) → child_at s u q ≡ some c → size_of s (linked_at s u q) ≡ length (bytes_of s c)
-linked_size s f u q c e = ap (λ (o : Option ℕ). size_of s (Option.get_or o 0)) e ∙ sym (size_bytes s f c (child_used_lem s u f q c e))
+linked_size : (s : Store) → Fits s → (u q c : ℕ) → child_at s u q ≡ Some c → size_of s (linked_at s u q) ≡ length (bytes_of s c)
+linked_size s f u q c e = ap (λ (o : Option ℕ). size_of s (unwrap_or o 0)) e ∙ sym (size_bytes s f c (child_used_lem s u f q c e))
 
 module _ (s : Store) (t : ℕ) (cs : List ℕ) (g : Ready s t cs) {u lo hi : ℕ} (v : View s t (split_store s t cs) u lo hi) where
   abbrev s' : Store

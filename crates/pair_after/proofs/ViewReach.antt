@@ -1,9 +1,9 @@
 -- What items of a table of a range reach after a split is what they reached in the old table. Assumes nothing.
+use Rattle.std.specs.Prelude.{Some}
 use Prim.Native.Nat.{ℕ, ◌+◌, ◌-◌, ◌*◌, ◌<◌, ◌≤◌}
 use mathlib.Core.Path.{◌≡◌, refl, sym, ap, ap₂, subst, ◌∙◌}
 use mathlib.Core.Bool.{true, ◌&&◌}
 use mathlib.Core.List.{List}
-use mathlib.Core.Option.{some}
 use native.Mathlib.Omega.{arith}
 use native.Mathlib.Nat.{mul-add}
 use lib.Dec.{eqb, leb, ltb}
@@ -76,7 +76,7 @@ module _ (s : Store) (t : ℕ) (cs : List ℕ) (g : Ready s t cs) {u lo hi : ℕ
           u,
           m,
           in_items u sh a b m (omega (arith, low)) (omega (arith, low, high)),
-          v.links m (omega (arith, low)) (omega arith) ∙ ap (child_at s t) back ∙ subst (λ (i : ℕ). child_at s i q ≡ some c) x e,
+          v.links m (omega (arith, low)) (omega arith) ∙ ap (child_at s t) back ∙ subst (λ (i : ℕ). child_at s i q ≡ Some c) x e,
         )
 
     back : (c : ℕ) → LeadsTo s' new c → LeadsTo s old c
@@ -86,7 +86,7 @@ module _ (s : Store) (t : ℕ) (cs : List ℕ) (g : Ready s t cs) {u lo hi : ℕ
           t,
           q + sh.item * lo,
           in_items t sh (lo + a) (lo + b) (q + sh.item * lo) (omega (arith, low)) (omega (arith, high)),
-          sym (v.links q (omega arith) (omega (arith, high))) ∙ subst (λ (i : ℕ). child_at s' i q ≡ some c) x e,
+          sym (v.links q (omega arith) (omega (arith, high))) ∙ subst (λ (i : ℕ). child_at s' i q ≡ Some c) x e,
         )
 
     -- what the items reach, the table reaches, and so it is not the table

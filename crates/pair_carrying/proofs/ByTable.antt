@@ -1,4 +1,5 @@
 -- The covered glyphs of a table put together by its cuts: in format 1 each with its place, in format 2 from an order by class. Assumes nothing.
+use Rattle.std.specs.Prelude.{Some}
 use Prim.Native.Nat.{ℕ, ◌≤◌, ◌<◌}
 use mathlib.Core.Path.{◌≡◌, sym, ap, subst, ◌∙◌}
 use mathlib.Core.List.{List, map}
@@ -7,7 +8,6 @@ use lib.ListN.{length, get_or}
 use Rattle.folds.specs.Folds.{upto}
 use Rattle.folds.specs.Lists.{put, Bytes}
 use Rattle.ot_layouts.specs.Coverage.{coverage_of, cover_glyphs}
-use Rattle.ot_layouts.specs.declared.Reading.TheVariants.{Readable}
 use Rattle.ot_layouts.proofs.Entries.{ascends_plain}
 use Rattle.ot_ranges.specs.Ascending.{Ascending}
 use Rattle.ot_ranges.proofs.Ascending.{ascending}
@@ -42,7 +42,7 @@ module _ {s : Store} {t : ℕ} {p : PairTable} {gs ks cs : List ℕ} (k : Arrang
   coverage_inside = part-inside o.reads.sounds o.coverage
 
   module _ {b : List ℕ} (e : b ≡ bytes_of s p.coverage.object) where
-    pub cover_ready : (coverage_of b ≡ Readable p.coverage.header) × (length (cover_glyphs b) ≤ length gs)
+    pub cover_ready : (coverage_of b ≡ Some p.coverage.header) × (length (cover_glyphs b) ≤ length gs)
     cover_ready = glyphs_ready o.coverage e gs (k.glyphs ∙ o.glyphs)
 
     module _ {gs' : List ℕ} (f : gs' ≡ put gs 0 (cover_glyphs b)) where
@@ -50,7 +50,9 @@ module _ {s : Store} {t : ℕ} {p : PairTable} {gs ks cs : List ℕ} (k : Arrang
       written = glyphs_written o.coverage e gs (k.glyphs ∙ o.glyphs) f
 
       glyphs_ascend : Ascending gs'
-      glyphs_ascend = subst Ascending (entries_glyphs s t ∙ sym written) (ascending (map (λ e. e.glyph) (entries_of s t)) (ascends_plain (entries_of s t) 0 (entries_ascend s t o.reads)))
+      glyphs_ascend =
+          subst Ascending (entries_glyphs s t ∙ sym written)
+          (ascending (map (λ e. e.glyph) (entries_of s t)) (ascends_plain (entries_of s t) 0 (entries_ascend s t o.reads)))
 
       places_many : length ks ≡ length gs'
       places_many = k.classes ∙ o.glyphs ∙ sym (ap length written)
@@ -58,10 +60,12 @@ module _ {s : Store} {t : ℕ} {p : PairTable} {gs ks cs : List ℕ} (k : Arrang
       pub few_places : ((i : ℕ) → get_or gs' i 0 < 65536) → length ks ≤ 65536
       few_places bits = omega (arith, places_many, at_most gs' glyphs_ascend bits)
 
-      pub by_place : p.layout.format ≡ 1 → Bytes s.bytes → {ks' : List ℕ} → ks' ≡ upto (λ i. i) (length ks) → Arranged gs' ks' cs (shape s t).count (entries_of s t)
+      pub by_place : p.layout.format ≡ 1 → Bytes s.bytes → {ks' : List ℕ} → ks' ≡ upto (λ i. i) (length ks)
+          → Arranged gs' ks' cs (shape s t).count (entries_of s t)
       by_place one octets h =
           subst (λ (x : List ℕ). Arranged gs' x cs (shape s t).count (entries_of s t)) (sym (h ∙ ap (upto (λ i. i)) places_many))
-          (subst (λ (x : List ℕ). Arranged x (upto (λ i. i) (length x)) cs (shape s t).count (entries_of s t)) (sym written) (arranged1 s t o.reads octets (format_one o one) cs))
+          (subst (λ (x : List ℕ). Arranged x (upto (λ i. i) (length x)) cs (shape s t).count (entries_of s t)) (sym written)
+          (arranged1 s t o.reads octets (format_one o one) cs))
 
   -- ---- format 2
 

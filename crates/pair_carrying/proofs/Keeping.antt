@@ -28,7 +28,10 @@ use Rattle.pair_carrying.specs.Carrying.{Keeping, Writing, Wrote}
 module _ (s : Store) (t : ℕ) (gs ks cs : List ℕ) where
   -- what `write_objects` asks
   abbrev Asked : Layout → Type 0
-  Asked l = PlannedParts gs ks cs l × (Old s.bytes (head_of s t) l s.byte_count × ObjectsRoom s.bytes s.objects s.byte_count s.object_count (objects_of s.bytes (head_of s t) l (paired gs ks) cs))
+  Asked l =
+      PlannedParts gs ks cs l
+      × (Old s.bytes (head_of s t) l s.byte_count
+      × ObjectsRoom s.bytes s.objects s.byte_count s.object_count (objects_of s.bytes (head_of s t) l (paired gs ks) cs))
 
   -- and what it tells
   abbrev Told : List ℕ → List ℕ → ℕ → Layout → Type 0
@@ -62,7 +65,14 @@ module _ (s : Store) (t : ℕ) (gs ks cs : List ℕ) (w : Writing s t (layout_of
   kept_inside : head_of s t + item_at sh (from cs 0) ≤ s.byte_count
   kept_inside =
       let p : from cs 0 < sh.count = w.places.below 0 w.some in
-      omega (arith, items_rise sh (from cs 0) sh.count (omega arith), w.reads.exactly, size_bytes s fits t w.reads.used, table_fits_lem.ordered, table_fits_lem.inside)
+      omega (
+        arith,
+        items_rise sh (from cs 0) sh.count (omega arith),
+        w.reads.exactly,
+        size_bytes s fits t w.reads.used,
+        table_fits_lem.ordered,
+        table_fits_lem.inside,
+      )
 
   count_inside : head_of s t + sh.count_at + 2 ≤ s.byte_count
   count_inside = omega (arith, count_in_header (bytes_of s t), kept_inside)
@@ -86,7 +96,8 @@ module _ (s : Store) (t : ℕ) (gs ks cs : List ℕ) (w : Writing s t (layout_of
           count = omega (arith, head_then_lem, count_inside, behind.bytes_long, fits.bytes_in);
         }
 
-    kept : (d' o' : List ℕ) → d' ≡ put d (get_or o (2 * t) 0 + l.count_at) (be16 (from cs 0)) → o' ≡ set o (2 * t + 1) (get_or o (2 * t) 0 + item_at sh (from cs 0)) → Wrote s t cs d' o' r
+    kept : (d' o' : List ℕ) → d' ≡ put d (get_or o (2 * t) 0 + l.count_at) (be16 (from cs 0))
+        → o' ≡ set o (2 * t + 1) (get_or o (2 * t) 0 + item_at sh (from cs 0)) → Wrote s t cs d' o' r
     unfolding layout_of split_store store_after appended kept_table with_bytes with_tail
     kept d' o' x y =
         let at : ℕ = head_of s t + sh.count_at in
@@ -119,7 +130,8 @@ module _ {s : Store} {t : ℕ} {l : Layout} {gs ks cs : List ℕ} (w : Writing s
     pub keep_ready : Keeping d o t l (from cs 0)
     keep_ready = subst (λ (x : Layout). Keeping d o t x (from cs 0)) (sym w.layout_is) (keep_asked s t gs ks cs own d o r told_own)
 
-    pub keep_wrote : {d' o' : List ℕ} → d' ≡ put d (get_or o (2 * t) 0 + l.count_at) (be16 (from cs 0)) → o' ≡ set o (2 * t + 1) (get_or o (2 * t) 0 + (l.header + l.item * from cs 0)) → Wrote s t cs d' o' r
+    pub keep_wrote : {d' o' : List ℕ} → d' ≡ put d (get_or o (2 * t) 0 + l.count_at) (be16 (from cs 0))
+        → o' ≡ set o (2 * t + 1) (get_or o (2 * t) 0 + (l.header + l.item * from cs 0)) → Wrote s t cs d' o' r
     unfolding layout_of
     keep_wrote {d'} {o'} x y =
         kept s t gs ks cs own d o r told_own d' o'

@@ -8,7 +8,7 @@ use lib.ListN.{length}
 use Rattle.folds.specs.Folds.{upto}
 use Rattle.folds.specs.Lists.{put, Bytes}
 use Rattle.ot_layouts.specs.PairPos.{Shape}
-use Rattle.store_rules.specs.Store.{Store, lent, object_room, link_room, bytes_of}
+use Rattle.store_rules.specs.Store.{Store, lent, bytes_of}
 use Rattle.pair_rules.specs.Table.{shape, entries_of}
 use Rattle.pair_rules.specs.Written.{per_table, need_links, need_objects, needs_of, needed, store_after, split_store, new_tables, kept_table}
 use Rattle.call_rules.specs.declared.Needs.{Needs}
@@ -124,5 +124,6 @@ module _ {d o ls : List ℕ} (c : List ℕ) {t : ℕ} {p : PairTable} {n : Needs
   pub links_asked : Parting (lent [] [] ls c) t p.layout cs p.class2.object
   links_asked = part-asked d o ls c t p.layout k.opens.layout cs p.class2.object (decided k)
 
-  pub links_then : {ls' : List ℕ} {r : ℕ} → ((x y : List ℕ) → LinksSplit (lent x y ls c) t (shape_with p.layout) cs ls' r) → LinksSplit (lent d o ls c) t (shape (lent d o ls c) t) cs ls' r
+  pub links_then : {ls' : List ℕ} {r : ℕ} → ((x y : List ℕ) → LinksSplit (lent x y ls c) t (shape_with p.layout) cs ls' r)
+      → LinksSplit (lent d o ls c) t (shape (lent d o ls c) t) cs ls' r
   links_then {ls'} {r} told = part-answered d o ls c t p.layout k.opens.layout cs ls' r told

@@ -1,10 +1,10 @@
 -- The checks that need no scratch but its lengths, and after them the looks for a cycle and for unsorted sets, decide in the one order. Assumes nothing.
+use Rattle.std.specs.Prelude.{Option, Some, None, Err, Ok, Result}
 use Prim.Native.Nat.{ℕ, ◌<◌}
 use mathlib.Core.Path.{◌≡◌, refl, sym, ap, ap₂, ◌∙◌}
 use mathlib.Core.Bool.{Bool, true, false, cond, not, ◌||◌}
 use mathlib.Core.List.{List, [], ◌∷◌, ◌++◌}
 use mathlib.Core.Logic.{◌⊎◌, inl, inr}
-use mathlib.Core.Option.{Option, some, none}
 use native.Mathlib.Omega.{arith}
 use lib.ListN.{get_or}
 use borrow.Author.Tests.{not-true, not-false}
@@ -19,7 +19,7 @@ use Rattle.store_rules.specs.Store.{Store, lent, sound}
 use Rattle.store_rules.specs.Reach.{on_cycle}
 use Rattle.pair_rules.specs.Table.{all_at_slots, sets_sorted}
 use Rattle.call_rules.specs.Scratch.{Scratch}
-use Rattle.call_rules.specs.Answers.{number, first_case, case}
+use Rattle.call_rules.specs.Answers.{number, first_case, case, numbered}
 use Rattle.call_rules.specs.Settings.{known, settings_cases}
 use Rattle.pair_rules.specs.Calls.{read_cases, unsorted_case, scratch_short, cut_cases}
 use Rattle.store_rules.proofs.Sound.{sound_fits}
@@ -27,9 +27,7 @@ use Rattle.call_rules.proofs.Scratch.{LongEnough, long_enough}
 use Rattle.call_rules.proofs.Cases.{first_skip, first_stands}
 use Rattle.call_rules.proofs.KnownSettings.{known_pass}
 use Rattle.pair_checks.specs.declared.PairTable.{PairTable}
-use Rattle.pair_checks.specs.declared.Checked.{Checked}
-use Rattle.pair_checks.specs.declared.Checked.TheVariants.{Open, Settled}
-use Rattle.pair_checks.specs.Checked.{checked_as, checked_of, settled_as}
+use Rattle.pair_checks.specs.Checked.{checked_of, settled_as}
 use Rattle.pair_checks.specs.Opens.{Opens}
 use Rattle.pair_checks.proofs.Deciding.{not_sound}
 use Rattle.pair_checks.proofs.Refusals.{opens, refusals}
@@ -45,44 +43,44 @@ can_ask_slots b o l c x =
     (in_order_lem (lent b o l c) f, omega (arith, x.reads.used, f.objects_most))
 
 module _ (s : Store) (t : ℕ) (n : Lengths) (p : PairTable) {short : Bool} (e : short ≡ lengths_short n s.object_count p.glyphs p.layout.count) where
-  pub lent_short : short ≡ true → checked_as (Settled ShortScratch) ≡ lent_by s t n p
+  pub lent_short : short ≡ true → numbered (Err ShortScratch) ≡ lent_by s t n p
   unfolding lent_by
   lent_short h = rw (sym e ∙ h)
 
   module _ (h : short ≡ false) {slots : Bool} (f : slots ≡ all_at_slots s t) where
-    pub lent_unslotted : not slots ≡ true → checked_as (Settled BadLinks) ≡ lent_by s t n p
+    pub lent_unslotted : not slots ≡ true → numbered (Err BadLinks) ≡ lent_by s t n p
     unfolding lent_by
     lent_unslotted g = rw (sym e ∙ h, sym f ∙ not-true slots g)
 
-    pub lent_open : not slots ≡ false → checked_as (Open p) ≡ lent_by s t n p
+    pub lent_open : not slots ≡ false → numbered (Ok p) ≡ lent_by s t n p
     unfolding lent_by
     lent_open g = rw (sym e ∙ h, sym f ∙ not-false slots g)
 
 -- ---- by what 1 to 5 decide
 
-module _ (s : Store) (t : ℕ) {x : Checked} (e : checked_as x ≡ checked_of s t) where
-  pub is_open : {p : PairTable} → x ≡ Open p → checked_of s t ≡ checked_as (Open p)
-  is_open y = sym e ∙ ap checked_as y
+module _ (s : Store) (t : ℕ) {x : Result PairTable Answer} (e : numbered x ≡ checked_of s t) where
+  pub is_open : {p : PairTable} → x ≡ Ok p → checked_of s t ≡ numbered (Ok p)
+  is_open y = sym e ∙ ap numbered y
 
   module _ (n : Lengths) where
-    pub call_settled : {a : Answer} → x ≡ Settled a → checked_as (Settled a) ≡ called_of s t n
+    pub call_settled : {a : Answer} → x ≡ Err a → numbered (Err a) ≡ called_of s t n
     unfolding called_of
-    call_settled y = ap (called_by s t n) (sym (ap checked_as y) ∙ e)
+    call_settled y = ap (called_by s t n) (sym (ap numbered y) ∙ e)
 
-    pub call_open : {p : PairTable} {r : ℕ ⊎ PairTable} → x ≡ Open p → (checked_of s t ≡ checked_as (Open p) → r ≡ lent_by s t n p) → r ≡ called_of s t n
+    pub call_open : {p : PairTable} {r : ℕ ⊎ PairTable} → x ≡ Ok p → (checked_of s t ≡ numbered (Ok p) → r ≡ lent_by s t n p) → r ≡ called_of s t n
     unfolding called_of
-    call_open y h = h (is_open y) ∙ ap (called_by s t n) (sym (ap checked_as y) ∙ e)
+    call_open y h = h (is_open y) ∙ ap (called_by s t n) (sym (ap numbered y) ∙ e)
 
 -- 1
-pub call_unsound : (s : Store) (t : ℕ) (n : Lengths) {b : Bool} → b ≡ sound s → not b ≡ true → checked_as (Settled Unsound) ≡ called_of s t n
-call_unsound s t n e h = call_settled s t {x = Settled Unsound} (not_sound s t e h) n {a = Unsound} refl
+pub call_unsound : (s : Store) (t : ℕ) (n : Lengths) {b : Bool} → b ≡ sound s → not b ≡ true → numbered (Err Unsound) ≡ called_of s t n
+call_unsound s t n e h = call_settled s t {x = Err Unsound} (not_sound s t e h) n {a = Unsound} refl
 
 -- ---- the cases 1 to 7, and 11
 
 -- the number of the answer, if there is one, where the looks for a cycle and for unsorted sets come last
 abbrev pub looked_last : ℕ ⊎ PairTable → Bool → Bool → Option ℕ
-looked_last (inl n) cycle sorted = some n
-looked_last (inr p) cycle sorted = cond cycle (some (number BadLinks)) (cond (not sorted) (some (number UnsortedSets)) none)
+looked_last (inl n) cycle sorted = Some n
+looked_last (inr p) cycle sorted = cond cycle (Some (number BadLinks)) (cond (not sorted) (Some (number UnsortedSets)) None)
 
 module _ (s : Store) (t : ℕ) (w : Scratch) where
   -- 6, by the table's own numbers
@@ -98,23 +96,25 @@ module _ (s : Store) (t : ℕ) (w : Scratch) where
   lent_cases p o = rw (same_short o) (go (scratch_short s t w) (all_at_slots s t) (on_cycle s t))
     where
       eleven : Option ℕ
-      eleven = cond (not (sets_sorted s t)) (some (number UnsortedSets)) none
+      eleven = cond (not (sets_sorted s t)) (Some (number UnsortedSets)) None
 
-      go : (short slots cycle : Bool) → cond short (some (number ShortScratch)) (cond (not slots || cycle) (some (number BadLinks)) eleven)
+      go : (short slots cycle : Bool) → cond short (Some (number ShortScratch)) (cond (not slots || cycle) (Some (number BadLinks)) eleven)
           ≡ looked_last (cond short (inl (number ShortScratch)) (cond (not slots) (inl (number BadLinks)) (inr p))) cycle (sets_sorted s t)
       go true slots cycle = refl
       go false true cycle = refl
       go false false cycle = refl
 
   -- by settings that are known
-  pub called : (how : Settings) → known how ≡ true → first_case (cut_cases how s t w) ≡ looked_last (called_of s t (lengths_of w)) (on_cycle s t) (sets_sorted s t)
+  pub called : (how : Settings) → known how ≡ true
+      → first_case (cut_cases how s t w) ≡ looked_last (called_of s t (lengths_of w)) (on_cycle s t) (sets_sorted s t)
   unfolding cut_cases called_of
   called how h = go (checked_of s t) refl
     where
       first : first_case (settings_cases how ++ read_cases s t) ≡ settled_as (checked_of s t)
       first = first_skip (settings_cases how) (read_cases s t) (known_pass how h) ∙ refusals s t
 
-      go : (x : ℕ ⊎ PairTable) → checked_of s t ≡ x → first_case (cut_cases how s t w) ≡ looked_last (called_by s t (lengths_of w) x) (on_cycle s t) (sets_sorted s t)
+      go : (x : ℕ ⊎ PairTable) → checked_of s t ≡ x
+          → first_case (cut_cases how s t w) ≡ looked_last (called_by s t (lengths_of w) x) (on_cycle s t) (sets_sorted s t)
       go (inr p) e = first_skip (settings_cases how ++ read_cases s t) _ (first ∙ ap settled_as e) ∙ lent_cases p (opens s t p e)
       go (inl n) e = first_stands (settings_cases how ++ read_cases s t) _ n (first ∙ ap settled_as e)
 
@@ -136,7 +136,7 @@ module _ (s : Store) (t : ℕ) (n : Lengths) (p : PairTable) where
       go false false e = let z : ◌≡◌ {A = ℕ} 0 1 = cc in absurd (omega arith)
       go false true e = (cc, refl, refl)
 
-  pub passed : called_of s t n ≡ checked_as (Open p) → Passed s t n p
+  pub passed : called_of s t n ≡ numbered (Ok p) → Passed s t n p
   unfolding called_of
   passed h = go (checked_of s t) refl h
     where

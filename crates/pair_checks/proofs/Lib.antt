@@ -1,4 +1,3 @@
 pub mod Deciding
-pub mod AtSlots
 pub mod Refusals
 pub mod Called

@@ -1,9 +1,9 @@
--- The decision keeps document 01's order: a refusal is the first of the cases 1 to 5 that applies, and an open table is one to which none does. Assumes nothing.
+-- The decision keeps the order of document 01: a refusal is the first of the cases 1 to 5 that applies, and an open table meets none of them. Assumes nothing.
+use Rattle.std.specs.Prelude.{Option, Some, None}
 use Prim.Native.Nat.{ℕ}
 use mathlib.Core.Path.{◌≡◌, refl, sym, ap, ap₂, ◌∙◌}
 use mathlib.Core.Bool.{Bool, true, false, cond, not, ◌&&◌, ◌||◌}
 use mathlib.Core.Logic.{◌⊎◌, inl, inr}
-use mathlib.Core.Option.{Option, some, none}
 use lib.ListN.{length}
 use lib.Dec.{leb, ltb, eqb}
 use borrow.Author.Tests.{eq-eqb, ne_eqb, lt-leb, le-ltb, ltb-false}
@@ -23,7 +23,6 @@ use Rattle.pair_rules.specs.Calls.{read_cases}
 use Rattle.pair_rules.specs.Reads.{Reads}
 use Rattle.pair_rules.proofs.Checks.{no_case_reads, class_read}
 use Rattle.glyph_parts.specs.declared.Part.{Part}
-use Rattle.glyph_parts.specs.declared.Linked.TheVariants.{To}
 use Rattle.glyph_parts.specs.Parts.{linked_of, LinkedPart}
 use Rattle.glyph_parts.proofs.Parts.{linked_part_lem}
 use Rattle.glyph_parts.proofs.Choices.{cover_header, class_header, part_of, linked_test, coverage_choice, class_choice}
@@ -54,13 +53,18 @@ module _ (s : Store) (t : ℕ) where
   abbrev class : ℕ → Part
   class q = cond is_one coverage (part_of class_header s (linked_at s t q))
 
-  by_coverage : (p : Bool) → parts_by s t (layout_of (bytes_of s t)) (cond p (some coverage) none)
-      ≡ cond p (cond is_one (cond few (inl (number FewGlyphs)) (inr (table coverage coverage))) (rows_by s (layout_of (bytes_of s t)) coverage (linked_of class_def_of s t 8) (linked_of class_def_of s t 10))) (inl (number BadParts))
+  by_coverage : (p : Bool) → parts_by s t (layout_of (bytes_of s t)) (cond p (Some coverage) None)
+      ≡ cond p
+      (cond is_one (cond few (inl (number FewGlyphs)) (inr (table coverage coverage)))
+      (rows_by s (layout_of (bytes_of s t)) coverage (linked_of class_def_of s t 8) (linked_of class_def_of s t 10)))
+      (inl (number BadParts))
   unfolding sets_by layout_of
   by_coverage true = refl
   by_coverage false = refl
 
-  by_classes_lem : (d e : Part) (q r : Bool) → rows_by s (layout_of (bytes_of s t)) coverage (cond q (some d) none) (cond r (some e) none) ≡ cond (q && r) (inr (table d e)) (inl (number BadParts))
+  by_classes_lem : (d e : Part) (q r : Bool)
+      → rows_by s (layout_of (bytes_of s t)) coverage (cond q (Some d) None) (cond r (Some e) None)
+      ≡ cond (q && r) (inr (table d e)) (inl (number BadParts))
   by_classes_lem d e true true = refl
   by_classes_lem d e true false = refl
   by_classes_lem d e false true = refl
@@ -68,8 +72,10 @@ module _ (s : Store) (t : ℕ) where
 
   -- the tests of the coverage, of the format, of both class definitions and of the count of glyphs, in document 01's order
   in_order_lem : (d e : Part) (p f q i r w : Bool)
-      → cond p (cond f (cond w (inl (number FewGlyphs)) (inr (table coverage coverage))) (cond (q && (i && r)) (inr (table d e)) (inl (number BadParts)))) (inl (number BadParts))
-      ≡ cond (not (p && cond f true (q && i && r))) (inl (number BadParts)) (cond (f && w) (inl (number FewGlyphs)) (inr (table (cond f coverage d) (cond f coverage e))))
+      → cond p (cond f (cond w (inl (number FewGlyphs)) (inr (table coverage coverage))) (cond (q && (i && r)) (inr (table d e)) (inl (number BadParts))))
+      (inl (number BadParts))
+      ≡ cond (not (p && cond f true (q && i && r))) (inl (number BadParts))
+      (cond (f && w) (inl (number FewGlyphs)) (inr (table (cond f coverage d) (cond f coverage e))))
   in_order_lem d e false f q i r w = refl
   in_order_lem d e true true q i r w = refl
   in_order_lem d e true false false i r w = refl
@@ -78,16 +84,21 @@ module _ (s : Store) (t : ℕ) where
   in_order_lem d e true false true true false w = refl
 
   -- 4 and 5
-  parts_choice : parts_by s t (layout_of (bytes_of s t)) (linked_of coverage_of s t 2) ≡ cond (not (parts_readable s t)) (inl (number BadParts)) (cond (is_one && few) (inl (number FewGlyphs)) (inr (table (class 8) (class 10))))
+  parts_choice : parts_by s t (layout_of (bytes_of s t)) (linked_of coverage_of s t 2)
+      ≡ cond (not (parts_readable s t)) (inl (number BadParts))
+      (cond (is_one && few) (inl (number FewGlyphs)) (inr (table (class 8) (class 10))))
   unfolding parts_readable
   parts_choice =
       ap (parts_by s t (layout_of (bytes_of s t))) (coverage_choice s t 2)
       ∙ by_coverage (linked_test cover_readable s (child_at s t 2))
-      ∙ ap (λ (x : ℕ ⊎ PairTable). cond (linked_test cover_readable s (child_at s t 2)) (cond is_one (cond few (inl (number FewGlyphs)) (inr (table coverage coverage))) x) (inl (number BadParts)))
+      ∙ ap (λ (x : ℕ ⊎ PairTable). cond (linked_test cover_readable s (child_at s t 2))
+      (cond is_one (cond few (inl (number FewGlyphs)) (inr (table coverage coverage))) x) (inl (number BadParts)))
       (ap₂ (λ (x y : Option Part). rows_by s (layout_of (bytes_of s t)) coverage x y) (class_choice s t 8) (class_choice s t 10)
-      ∙ by_classes_lem (part_of class_header s (linked_at s t 8)) (part_of class_header s (linked_at s t 10)) (linked_test class_readable s (child_at s t 8)) (linked_test class_readable s (child_at s t 10)))
+      ∙ by_classes_lem (part_of class_header s (linked_at s t 8)) (part_of class_header s (linked_at s t 10))
+      (linked_test class_readable s (child_at s t 8)) (linked_test class_readable s (child_at s t 10)))
       ∙ in_order_lem (part_of class_header s (linked_at s t 8)) (part_of class_header s (linked_at s t 10))
-      (linked_test cover_readable s (child_at s t 2)) is_one (linked_test class_readable s (child_at s t 8)) (is_some (child_at s t 10)) (class_readable (linked_bytes s t 10)) few
+      (linked_test cover_readable s (child_at s t 2)) is_one (linked_test class_readable s (child_at s t 8))
+      (is_some (child_at s t 10)) (class_readable (linked_bytes s t 10)) few
 
   -- 3 to 5
   opened_choice : open_by s t (opened_of (bytes_of s t))
@@ -99,8 +110,11 @@ module _ (s : Store) (t : ℕ) where
   unfolding opened_of
   opened_choice =
       go (ltb (length (bytes_of s t)) 2) (eqb (format_of (bytes_of s t)) 1 || eqb (format_of (bytes_of s t)) 2) (exact (bytes_of s t))
-      (parts_choice ∙ ap (λ (f : Bool). cond (not (parts_readable s t)) (inl (number BadParts)) (cond (f && few) (inl (number FewGlyphs)) (inr (table (class 8) (class 10))))) (format_test (bytes_of s t)))
+      (parts_choice ∙ ap last (format_test (bytes_of s t)))
     where
+      last : Bool → ℕ ⊎ PairTable
+      last f = cond (not (parts_readable s t)) (inl (number BadParts)) (cond (f && few) (inl (number FewGlyphs)) (inr (table (class 8) (class 10))))
+
       go : {v : ℕ ⊎ PairTable} (x y z : Bool) → parts_by s t (layout_of (bytes_of s t)) (linked_of coverage_of s t 2) ≡ v
           → open_by s t (cond x (inl 3) (cond y (cond z (inr (layout_of (bytes_of s t))) (inl 3)) (inl 0)))
           ≡ cond x (inl (number BadTable)) (cond (not y) (inl (number Done)) (cond (not z) (inl (number BadTable)) v))
@@ -122,7 +136,7 @@ module _ (s : Store) (t : ℕ) where
   decision = ap (λ (x : ℕ ⊎ PairTable). cond (not (sound s)) (inl (number Unsound)) (cond (leb s.object_count t) (inl (number NoTable)) x)) opened_choice
 
 -- a refusal behind a test
-refused : (b : Bool) (n : ℕ) (v : ℕ ⊎ PairTable) → settled_as (cond b (inl n) v) ≡ cond b (some n) (settled_as v)
+refused : (b : Bool) (n : ℕ) (v : ℕ ⊎ PairTable) → settled_as (cond b (inl n) v) ≡ cond b (Some n) (settled_as v)
 refused true n v = refl
 refused false n v = refl
 
@@ -158,19 +172,28 @@ module _ (s : Store) (t : ℕ) (p : PairTable) (e : checked_of s t ≡ inr p) wh
   unfolding parts_readable
   cover_test_lem = (and_both (linked_test cover_readable s (child_at s t 2)) _ reads.parts).0
 
-  class_part : (q : ℕ) (d : Part) → d ≡ class s t q → eqb (shape s t).format 1 ≡ false → linked_test class_readable s (child_at s t q) ≡ true → LinkedPart class_def_of s t q d
-  class_part q d i f h = linked_part_lem {r = To d} (sym (class_choice s t q ∙ rw h (ap some (sym (i ∙ rw f))))) refl
+  class_part : (q : ℕ) (d : Part) → d ≡ class s t q → eqb (shape s t).format 1 ≡ false
+      → linked_test class_readable s (child_at s t q) ≡ true → LinkedPart class_def_of s t q d
+  class_part q d i f h = linked_part_lem {r = Some d} (sym (class_choice s t q ∙ rw h (ap Some (sym (i ∙ rw f))))) refl
 
   pub opens : Opens s t p
   opens =
       record {
         reads = reads;
         layout = ap (λ (x : PairTable). x.layout) is_table;
-        coverage = linked_part_lem {r = To p.coverage} (sym (coverage_choice s t 2 ∙ rw cover_test_lem (ap some (sym (ap (λ (x : PairTable). x.coverage) is_table))))) refl;
+        coverage =
+            linked_part_lem {r = Some p.coverage}
+            (sym (coverage_choice s t 2 ∙ rw cover_test_lem (ap Some (sym (ap (λ (x : PairTable). x.coverage) is_table))))) refl;
         glyphs = ap (λ (x : PairTable). x.glyphs) is_table;
-        class1 = λ f. let (a, b, c, d) = class_read s t reads.parts f in class_part 8 p.class1 (ap (λ (x : PairTable). x.class1) is_table) f (and_intro _ _ a b);
-        class2 = λ f. let (a, b, c, d) = class_read s t reads.parts f in class_part 10 p.class2 (ap (λ (x : PairTable). x.class2) is_table) f (and_intro _ _ c d);
-        enough = λ f. ltb-false (length (glyphs_of s t)) (shape s t).count (ap (λ (x : Bool). x && few s t) (sym f ∙ format_test (bytes_of s t)) ∙ reads.enough);
+        class1 = λ f.
+            let (a, b, c, d) = class_read s t reads.parts f in
+            class_part 8 p.class1 (ap (λ (x : PairTable). x.class1) is_table) f (and_intro _ _ a b);
+        class2 = λ f.
+            let (a, b, c, d) = class_read s t reads.parts f in
+            class_part 10 p.class2 (ap (λ (x : PairTable). x.class2) is_table) f (and_intro _ _ c d);
+        enough = λ f.
+            ltb-false (length (glyphs_of s t)) (shape s t).count
+            (ap (λ (x : Bool). x && few s t) (sym f ∙ format_test (bytes_of s t)) ∙ reads.enough);
       }
 
 -- the format, as the code tests it

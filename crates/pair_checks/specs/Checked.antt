@@ -1,7 +1,6 @@
--- What the checks 1 to 5 decide, and what the code's answers say of it. Assumes nothing.
-use Rattle.std.specs.Prelude.{ℕ, cond, not, ◌⊎◌, length, leb, ltb, eqb}
+-- What the checks 1 to 5 decide. Assumes nothing.
+use Rattle.std.specs.Prelude.{ℕ, cond, not, ◌⊎◌, length, leb, ltb, eqb, Option, Some, None}
 use Rattle.std.proofs.Common.{inl, inr}
-use Rattle.std.proofs.Math.Option.{Option, some, none}
 use Rattle.ot_layouts.specs.Coverage.{coverage_of, cover_glyphs}
 use Rattle.ot_layouts.specs.ClassDef.{class_def_of}
 use Rattle.ot_pairpos.specs.declared.Layout.{Layout}
@@ -12,13 +11,6 @@ use Rattle.call_rules.specs.Answers.{number}
 use Rattle.glyph_parts.specs.declared.Part.{Part}
 use Rattle.glyph_parts.specs.Parts.{linked_of}
 use Rattle.pair_checks.specs.declared.PairTable.{PairTable}
-use Rattle.pair_checks.specs.declared.Checked.{Checked}
-use Rattle.pair_checks.specs.declared.Checked.TheVariants.{Open, Settled}
-
--- what the checks say: document 01's number where the call has its answer, or else the open table
-abbrev pub checked_as : Checked → ℕ ⊎ PairTable
-checked_as (Settled a) = inl (number a)
-checked_as (Open p) = inr p
 
 -- a table of format 1: "fewer covered glyphs than sets" is 5
 unfoldable pub sets_by : Store → Layout → Part → ℕ ⊎ PairTable
@@ -28,14 +20,14 @@ sets_by s l c =
 
 -- a table of format 2, by its class definitions
 abbrev pub rows_by : Store → Layout → Part → Option Part → Option Part → ℕ ⊎ PairTable
-rows_by s l c (some d) (some e) = inr (record { layout = l; coverage = c; glyphs = length (cover_glyphs (bytes_of s c.object)); class1 = d; class2 = e })
-rows_by s l c (some d) none = inl (number BadParts)
-rows_by s l c none e = inl (number BadParts)
+rows_by s l c (Some d) (Some e) = inr (record { layout = l; coverage = c; glyphs = length (cover_glyphs (bytes_of s c.object)); class1 = d; class2 = e })
+rows_by s l c (Some d) None = inl (number BadParts)
+rows_by s l c None e = inl (number BadParts)
 
 -- 4 and 5, by the coverage
 abbrev pub parts_by : Store → ℕ → Layout → Option Part → ℕ ⊎ PairTable
-parts_by s t l (some c) = cond (eqb l.format 1) (sets_by s l c) (rows_by s l c (linked_of class_def_of s t 8) (linked_of class_def_of s t 10))
-parts_by s t l none = inl (number BadParts)
+parts_by s t l (Some c) = cond (eqb l.format 1) (sets_by s l c) (rows_by s l c (linked_of class_def_of s t 8) (linked_of class_def_of s t 10))
+parts_by s t l None = inl (number BadParts)
 
 -- 3 to 5, by what opening the table says
 abbrev pub open_by : Store → ℕ → ℕ ⊎ Layout → ℕ ⊎ PairTable
@@ -48,5 +40,5 @@ checked_of s t = cond (not (sound s)) (inl (number Unsound)) (cond (leb s.object
 
 -- document 01's number where the call has its answer; none where the table is open
 abbrev pub settled_as : ℕ ⊎ PairTable → Option ℕ
-settled_as (inl n) = some n
-settled_as (inr p) = none
+settled_as (inl n) = Some n
+settled_as (inr p) = None

@@ -11,10 +11,11 @@ ghost use Rattle.ot_layouts.specs.ClassDef.{class_def_of};
 ghost use Rattle.store_rules.specs.Store.{Store, sound, bytes_of};
 ghost use Rattle.store_rules.specs.Moments.{store_came_with, store_now_with};
 ghost use Rattle.glyph_parts.specs.Parts.{linked_of};
-ghost use Rattle.pair_checks.specs.Checked.{checked_as, checked_of, parts_by, sets_by, rows_by};
+ghost use Rattle.call_rules.specs.Answers.{numbered};
+ghost use Rattle.pair_checks.specs.Checked.{checked_of, parts_by, sets_by, rows_by};
 
 use call_rules::Answer;
-use glyph_parts::{Linked, Part, PartKind, glyphs_of, linked_part};
+use glyph_parts::{Part, PartKind, glyphs_of, linked_part};
 use ot_pairpos::{Layout, Opened, open};
 use store_reader::{bytes_of, is_sound};
 
@@ -28,25 +29,18 @@ pub struct PairTable {
     pub class2: Part,
 }
 
-// What the checks say: the table is open, or the call has its answer, which for a table of another format is 0.
-#[derive(Clone, Copy)]
-pub enum Checked {
-    Open(PairTable),
-    Settled(Answer),
-}
-
-// Checks a table of any store.
+// Checks a table of any store. The call has its answer where an error is returned, which for a table of another format is 0.
 pub fn check_table(
     data: &[u8],
     objects: &[u32],
     links: &[u32],
     counts: [u32; 3],
     table: u32,
-) -> Checked
-    ensures { checked_as result ≡ checked_of (store_came_with «data» objects links counts) table }
+) -> Result<PairTable, Answer>
+    ensures { numbered result ≡ checked_of (store_came_with «data» objects links counts) table }
 {
     if !is_sound(data, objects, links, counts) {
-        return Checked::Settled(Answer::Unsound);
+        return Err(Answer::Unsound);
     }
     check_sound_table(data, objects, links, counts, table)
 }
@@ -58,17 +52,17 @@ pub fn check_sound_table(
     links: &[u32],
     counts: [u32; 3],
     table: u32,
-) -> Checked
+) -> Result<PairTable, Answer>
     requires { sound (store_now_with «data» objects links counts) ≡ true }
-    ensures { checked_as result ≡ checked_of (store_came_with «data» objects links counts) table }
+    ensures { numbered result ≡ checked_of (store_came_with «data» objects links counts) table }
 {
     if counts[1] <= table {
-        return Checked::Settled(Answer::NoTable);
+        return Err(Answer::NoTable);
     }
     let opened = open(bytes_of(data, objects, table as usize));
     match opened {
-        Opened::Bad => Checked::Settled(Answer::BadTable),
-        Opened::Other => Checked::Settled(Answer::Done),
+        Opened::Bad => Err(Answer::BadTable),
+        Opened::Other => Err(Answer::Done),
         Opened::Pair(layout) => check_parts(data, objects, links, counts, table, layout),
     }
 }
@@ -81,15 +75,13 @@ fn check_parts(
     counts: [u32; 3],
     table: u32,
     layout: Layout,
-) -> Checked
+) -> Result<PairTable, Answer>
     requires { sound (store_now_with «data» objects links counts) ≡ true }
-    ensures { checked_as result ≡ parts_by (store_came_with «data» objects links counts) table layout
+    ensures { numbered result ≡ parts_by (store_came_with «data» objects links counts) table layout
         (linked_of coverage_of (store_came_with «data» objects links counts) table 2) }
 {
     let linked = linked_part(data, objects, links, counts, table, 2, PartKind::Coverage);
-    let Linked::To(coverage) = linked else {
-        return Checked::Settled(Answer::BadParts);
-    };
+    let coverage = linked.ok_or(Answer::BadParts)?;
     let glyphs = glyphs_of(data, objects, coverage);
     if layout.format == 1 {
         return check_sets(layout, coverage, glyphs);
@@ -100,14 +92,14 @@ fn check_parts(
 }
 
 // Check 5, of format 1.
-fn check_sets(layout: Layout, coverage: Part, glyphs: usize) -> Checked
+fn check_sets(layout: Layout, coverage: Part, glyphs: usize) -> Result<PairTable, Answer>
     requires { layout.count < 65536 }
-    ensures { (s : Store) → glyphs ≡ length (cover_glyphs (bytes_of s coverage.object)) → checked_as result ≡ sets_by s layout coverage }
+    ensures { (s : Store) → glyphs ≡ length (cover_glyphs (bytes_of s coverage.object)) → numbered result ≡ sets_by s layout coverage }
 {
     if glyphs < (layout.count as usize) {
-        return Checked::Settled(Answer::FewGlyphs);
+        return Err(Answer::FewGlyphs);
     }
-    Checked::Open(PairTable {
+    Ok(PairTable {
         layout,
         coverage,
         glyphs,
@@ -126,23 +118,19 @@ fn check_rows(
     layout: Layout,
     coverage: Part,
     glyphs: usize,
-) -> Checked
+) -> Result<PairTable, Answer>
     requires counts_value { sound (store_now_with «data» objects links counts) ≡ true }
     requires glyphs_value { glyphs ≡ length (cover_glyphs (bytes_of (store_now_with «data» objects links counts) coverage.object)) }
-    ensures { checked_as result
+    ensures { numbered result
         ≡ rows_by (store_came_with «data» objects links counts) layout coverage
         (linked_of class_def_of (store_came_with «data» objects links counts) table 8)
         (linked_of class_def_of (store_came_with «data» objects links counts) table 10) }
 {
     let first = linked_part(data, objects, links, counts, table, 8, PartKind::ClassDef);
-    let Linked::To(class1) = first else {
-        return Checked::Settled(Answer::BadParts);
-    };
+    let class1 = first.ok_or(Answer::BadParts)?;
     let second = linked_part(data, objects, links, counts, table, 10, PartKind::ClassDef);
-    let Linked::To(class2) = second else {
-        return Checked::Settled(Answer::BadParts);
-    };
-    Checked::Open(PairTable {
+    let class2 = second.ok_or(Answer::BadParts)?;
+    Ok(PairTable {
         layout,
         coverage,
         glyphs,

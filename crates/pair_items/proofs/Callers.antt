@@ -8,5 +8,6 @@ use Rattle.pair_items.specs.declared.table_info.TableInfo.{TableInfo}
 use Rattle.pair_items.specs.Filled.{Described}
 
 -- the checks up to 5
-pub described : {s : Store} {x : TableInfo} → Reads s x.table → x.header ≡ (shape s x.table).header → x.item ≡ (shape s x.table).item → x.count ≡ (shape s x.table).count → x.epoch + x.count < 2147483648 → Described s x
+pub described : {s : Store} {x : TableInfo} → Reads s x.table → x.header ≡ (shape s x.table).header → x.item ≡ (shape s x.table).item
+    → x.count ≡ (shape s x.table).count → x.epoch + x.count < 2147483648 → Described s x
 described r h i n e = record { is_sound = r.sounds; used = r.used; exactly = r.exactly; header = h; item = i; count = n; epochs = e }

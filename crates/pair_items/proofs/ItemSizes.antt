@@ -40,7 +40,8 @@ module _ {s : Store} {t : ℕ} {sh : Shape} {a i row e : ℕ} {w : List ℕ} (x 
     pub measured_offsets : Offsets s.links row next
     measured_offsets = item_offsets at_fits item_rows
 
-    pub measured : {w' : List ℕ} {size : ℕ} → Walked s (items s t (item_at sh) a i) row next e w w' size → Measures s t sh a i row e w (record { size = size; next = next }) w'
+    pub measured : {w' : List ℕ} {size : ℕ} → Walked s (items s t (item_at sh) a i) row next e w w' size
+        → Measures s t sh a i row e w (record { size = size; next = next }) w'
     measured {w'} {size} d =
         record {
           size = grown_item (of_items t sh) a i grown;

@@ -91,11 +91,13 @@ module _ (how : Settings) (s : Store) (x : TableInfo) {d : List ℕ} {i : ℕ} {
         ap (λ (c : Cutting). c.first) e,
       )
 
-  module _ (looks : looks_at (rule_of how s x.table) i ≡ true) (cost : ℕ) (costs : cost ≡ cost_now (rule_of how s x.table) (cutting_at how s x i) i) {f' : Filling} where
+  module _ (looks : looks_at (rule_of how s x.table) i ≡ true) (cost : ℕ) (costs : cost ≡ cost_now (rule_of how s x.table) (cutting_at how s x i) i)
+      {f' : Filling} where
     -- no cut: the table that is being filled stays
     pub added : cut_due (rule_of how s x.table) (cutting_at how s x i) i cost ≡ false → (rule_of how s x.table).start + cost ≤ 67108864
         → Listed f' (go_on (cutting_at how s x i) cost) d l
-        → Filled (rule_of how s x.table) d (i + 1) f' l × AtItem how s x (i + 1) f' m.next w' × ((cutting_at how s x (i + 1)).first ≡ (cutting_at how s x i).first)
+        → Filled (rule_of how s x.table) d (i + 1) f' l × AtItem how s x (i + 1) f' m.next w'
+        × ((cutting_at how s x (i + 1)).first ≡ (cutting_at how s x i).first)
     unfolding go_on
     added h few g =
         let e : cutting_at how s x (i + 1) ≡ go_on (cutting_at how s x i) cost = Filling.goes_on (rule_of how s x.table) i looks cost costs h in
@@ -106,7 +108,8 @@ module _ (how : Settings) (s : Store) (x : TableInfo) {d : List ℕ} {i : ℕ} {
         )
 
     -- a cut: the next table starts with the item
-    pub cut : cut_due (rule_of how s x.table) (cutting_at how s x i) i cost ≡ true → (rule_of how s x.table).start + cost_at_cut (rule_of how s x.table) i cost ≤ 67108864
+    pub cut : cut_due (rule_of how s x.table) (cutting_at how s x i) i cost ≡ true
+        → (rule_of how s x.table).start + cost_at_cut (rule_of how s x.table) i cost ≤ 67108864
         → {l' : List ℕ} → Listed f' (cut_here (rule_of how s x.table) (cutting_at how s x i) i cost) d l'
         → {before size : ℕ} {w'' : List ℕ} → Restarts s x.table (shape s x.table) i m.next how.edition (x.epoch + f.cuts + 1) before size w''
         → Filled (rule_of how s x.table) d (i + 1) f' l' × AtItem how s x (i + 1) f' m.next w'' × ((cutting_at how s x (i + 1)).first ≡ i)
@@ -117,7 +120,8 @@ module _ (how : Settings) (s : Store) (x : TableInfo) {d : List ℕ} {i : ℕ} {
         let seen : seen_from how.edition i ≡ seen_from r.edition i = ap (λ (n : ℕ). seen_from n i) (sym (rule_edition how s x.table)) in
         let q : x.epoch + f.cuts + 1 ≡ x.epoch + f'.cuts = omega (arith, Filling.one_more r v cost g) in (
           Filling.cut r v looks cost costs h few g,
-          subst (λ (c : Cutting). hand w'' c.seen (x.epoch + f'.cuts)) (sym e) (subst (hand w'' (seen_from r.edition i)) q (subst (λ (a : ℕ). hand w'' a (x.epoch + f.cuts + 1)) seen z.after)),
+          subst (λ (c : Cutting). hand w'' c.seen (x.epoch + f'.cuts)) (sym e)
+              (subst (hand w'' (seen_from r.edition i)) q (subst (λ (a : ℕ). hand w'' a (x.epoch + f.cuts + 1)) seen z.after)),
           ap (λ (c : Cutting). c.first) e,
         )
 

@@ -51,7 +51,8 @@ module _ (gs ks cs : List ℕ) (l : Layout) (p : PlannedParts gs ks cs l) where
   part-few : (a b : ℕ) → a ≤ b → b ≤ length ks → length (part gs a b) ≤ 65536
   part-few a b h m = let e = p.parts.same in let f = p.few in omega (arith, length_part gs a b h (omega arith))
 
-  pub total_start : (a r : ℕ) → PartEnd ks 0 (from cs 0) a → r ≡ length (join (parts_of l.format (paired (part gs 0 a) (part ks 0 a)) 0)) → Total gs ks cs l a r 0
+  pub total_start : (a r : ℕ) → PartEnd ks 0 (from cs 0) a → r ≡ length (join (parts_of l.format (paired (part gs 0 a) (part ks 0 a)) 0))
+      → Total gs ks cs l a r 0
   total_start a r e q =
       record {
         known = p;
@@ -60,13 +61,14 @@ module _ (gs ks cs : List ℕ) (l : Layout) (p : PlannedParts gs ks cs l) where
         is =
             q ∙ ap (λ (es : List Entry). length (join (parts_of l.format es 0))) (sym (kept_entries gs ks cs l.count p.parts a e))
             ∙ omega (arith, sum_none (table_length l (paired gs ks) cs));
-        most = omega (arith, most_beside l.format (part gs 0 a) (part ks 0 a) 0 (same_part gs ks cs l.count p.parts 0 a (omega arith) e.inside) (part-few 0 a (omega arith) e.inside));
+        most = omega (
+          arith,
+          most_beside l.format (part gs 0 a) (part ks 0 a) 0 (same_part gs ks cs l.count p.parts 0 a (omega arith) e.inside)
+              (part-few 0 a (omega arith) e.inside),
+        );
       }
 
 module _ (gs ks cs : List ℕ) (l : Layout) (at total j : ℕ) (t : Total gs ks cs l at total j) where
-  pub next_few : j < length cs → j + 1 < 65536
-  next_few h = omega (arith, cuts_few gs ks cs l t.known)
-
   -- what is lent for new table j
   pub turn_ready : j < length cs → (lo hi r : ℕ) → lo ≡ from cs j → hi ≡ get_or cs (j + 1) l.count → PartEnd ks at hi r
       → (length (part ks at r) ≡ length (part gs at r)) × Beside l.format lo (paired (part gs at r) (part ks at r))
@@ -82,14 +84,23 @@ module _ (gs ks cs : List ℕ) (l : Layout) (at total j : ℕ) (t : Total gs ks 
     e' = subst (λ (n : ℕ). PartEnd ks at n r) b e
 
     pub turn_items : (lo ≤ hi) × (hi ≤ l.count)
-    turn_items = (omega (arith, new_rises gs ks cs l.count t.known.parts j at r h t.halved e'), omega (arith, new_inside gs ks cs l.count t.known.parts j at r h t.halved e'))
+    turn_items = (
+      omega (arith, new_rises gs ks cs l.count t.known.parts j at r h t.halved e'),
+      omega (arith, new_inside gs ks cs l.count t.known.parts j at r h t.halved e'),
+    )
 
     few_more : x ≤ 524296
-    few_more = omega (arith, most_beside l.format (part gs at r) (part ks at r) lo (new_same gs ks cs l.count t.known.parts j at r h t.halved e') (part-few gs ks cs l t.known at r e.after e.inside))
+    few_more = omega (
+      arith,
+      most_beside l.format (part gs at r) (part ks at r) lo (new_same gs ks cs l.count t.known.parts j at r h t.halved e')
+          (part-few gs ks cs l t.known at r e.after e.inside),
+    )
 
     -- the table's bytes
     pub rows_small : l.item * (hi - lo) ≤ 16777216
-    rows_small = subst (λ (n : ℕ). l.item * (n - lo) ≤ 16777216) (sym b) (subst (λ (m : ℕ). l.item * (get_or cs (j + 1) l.count - m) ≤ 16777216) (sym a) (new_small gs ks cs l t.known j at r h t.halved e'))
+    rows_small =
+        subst (λ (n : ℕ). l.item * (n - lo) ≤ 16777216) (sym b)
+        (subst (λ (m : ℕ). l.item * (get_or cs (j + 1) l.count - m) ≤ 16777216) (sym a) (new_small gs ks cs l t.known j at r h t.halved e'))
 
     -- the sums fit
     pub turn_small : l.header + l.item * (hi - lo) + x ≤ 33554432
@@ -132,7 +143,10 @@ module _ (gs ks cs : List ℕ) (l : Layout) (at total j : ℕ) (t : Total gs ks 
       }
     where
       one : (b : List ℕ) (e : l ≡ layout_of b) (w : length b ≡ item_at (shape_of b) (shape_of b).count) (i : ℕ) → i < length cs
-          → table_length l (paired gs ks) cs i ≡ length (join (new_table (shape_of b) b (from cs i) (to (shape_of b).count cs i) ∷ new_parts (shape_of b) (paired gs ks) (from cs i) (to (shape_of b).count cs i)))
+          → table_length l (paired gs ks) cs i
+          ≡ length
+          (join (new_table (shape_of b) b (from cs i) (to (shape_of b).count cs i)
+          ∷ new_parts (shape_of b) (paired gs ks) (from cs i) (to (shape_of b).count cs i)))
       one b e w i m =
           let s = shaped b l e in
           let es = paired gs ks in

@@ -23,7 +23,7 @@ use Rattle.pair_new_objects.specs.Objects.{parts_of, old_table, Old, table_of, t
 use Rattle.pair_new_objects.proofs.Beside.{parts_same, parts_many}
 use Rattle.ot_pairpos.specs.Layout.{Numbered}
 use Rattle.ot_pairpos.proofs.Layouts.{layout_numbered, few_heads}
-use Rattle.pair_new_objects.proofs.Planning.{cuts_few, kept_beside, new_beside}
+use Rattle.pair_new_objects.proofs.Planning.{kept_beside, new_beside}
 use Rattle.pair_new_objects.proofs.OldTable.{old_kept, old_after}
 use Rattle.pair_new_objects.proofs.Tables.{shaped}
 
@@ -49,7 +49,8 @@ module _ (d o gs ks cs : List ℕ) (l : Layout) (head bytes count : ℕ) where
   abbrev objects : ℕ → List (List ℕ)
   objects j = table_objects d head l (paired gs ks) cs j
 
-  pub tables_start : (start : ℕ) → PlannedParts gs ks cs l → PartEnd ks 0 (from cs 0) start → Old d head l bytes → ObjectsRoom d o bytes count (tables_of d head l (paired gs ks) cs)
+  pub tables_start : (start : ℕ) → PlannedParts gs ks cs l → PartEnd ks 0 (from cs 0) start → Old d head l bytes
+      → ObjectsRoom d o bytes count (tables_of d head l (paired gs ks) cs)
       → Tables d o gs ks cs l head bytes count d o start bytes count 0
   tables_start start p e old room =
       record {
@@ -69,9 +70,6 @@ module _ (d o gs ks cs : List ℕ) (l : Layout) (head bytes count : ℕ) where
 
       pub row_small : row + (l.own + 1) ≤ length o
       row_small = row_fits d o bytes count objects (length cs) (l.own + 1) d' o' at row j t.rounds h
-
-      pub next_few : j + 1 < 65536
-      next_few = omega (arith, cuts_few gs ks cs l t.known)
 
       pub old_now : Old d' head l at
       old_now = old_after t.old so_far t.rounds.written
@@ -93,7 +91,9 @@ module _ (d o gs ks cs : List ℕ) (l : Layout) (head bytes count : ℕ) where
         turn_same = new_same gs ks cs l.count t.known.parts j start end h t.halved e'
 
         pub turn_beside : Beside l.format lo (paired (part gs start end) (part ks start end))
-        turn_beside = subst (λ (n : ℕ). Beside l.format n (paired (part gs start end) (part ks start end))) (sym a) (new_beside gs ks cs l t.known j start end h t.halved e')
+        turn_beside =
+            subst (λ (n : ℕ). Beside l.format n (paired (part gs start end) (part ks start end))) (sym a)
+            (new_beside gs ks cs l t.known j start end h t.halved e')
 
         pub turn_items : (lo ≤ hi) × (hi ≤ l.count)
         turn_items =
@@ -105,7 +105,8 @@ module _ (d o gs ks cs : List ℕ) (l : Layout) (head bytes count : ℕ) where
             subst (λ (new : List (List ℕ)). ObjectsRoom d' o' at row new) objects_are
             (next_room d o bytes count objects (length cs) (l.own + 1) d' o' at row j t.rounds h)
 
-        pub tables_turn : (d'' o'' : List ℕ) (r : ℕ) → Written d' o' at row (table_of d' head l lo hi ∷ parts_of l.format (paired (part gs start end) (part ks start end)) lo) d'' o'' r
+        pub tables_turn : (d'' o'' : List ℕ) (r : ℕ)
+            → Written d' o' at row (table_of d' head l lo hi ∷ parts_of l.format (paired (part gs start end) (part ks start end)) lo) d'' o'' r
             → Tables d o gs ks cs l head bytes count d'' o'' end r (row + (l.own + 1)) (j + 1)
         tables_turn d'' o'' r w =
             record {
@@ -119,7 +120,8 @@ module _ (d o gs ks cs : List ℕ) (l : Layout) (head bytes count : ℕ) where
 
 -- ---- all new objects
 
-module _ (d o gs ks cs : List ℕ) (l : Layout) (head bytes count first : ℕ) (p : PlannedParts gs ks cs l) (old : Old d head l bytes) (e : PartEnd ks 0 (from cs 0) first)
+module _ (d o gs ks cs : List ℕ) (l : Layout) (head bytes count first : ℕ) (p : PlannedParts gs ks cs l) (old : Old d head l bytes)
+    (e : PartEnd ks 0 (from cs 0) first)
     (room : ObjectsRoom d o bytes count (objects_of d head l (paired gs ks) cs)) where
   abbrev tables : List (List ℕ)
   tables = tables_of d head l (paired gs ks) cs
@@ -136,10 +138,12 @@ module _ (d o gs ks cs : List ℕ) (l : Layout) (head bytes count first : ℕ) (
       let es = paired gs ks in
       let s = shaped b l old.layout_is in
       ap₂ (λ (x y : List (List ℕ)). x ++ y)
-      (flat-same (λ j. new_table sh b (from cs j) (to sh.count cs j) ∷ new_parts sh es (from cs j) (to sh.count cs j)) (table_objects d head l es cs) (length cs)
+      (flat-same (λ j. new_table sh b (from cs j) (to sh.count cs j) ∷ new_parts sh es (from cs j) (to sh.count cs j)) (table_objects d head l es cs)
+      (length cs)
       (λ j m.
       ap (λ (y : List (List ℕ)). new_table sh b (from cs j) (to sh.count cs j) ∷ y) (parts_same b es (from cs j) (to sh.count cs j))
-      ∙ ap₂ (λ (n f : ℕ). new_table sh b (from cs j) (get_or cs (j + 1) n) ∷ parts_of f (within (from cs j) (get_or cs (j + 1) n) es) (from cs j)) (sym s.count_is_lem) (sym s.format_is)))
+      ∙ ap₂ (λ (n f : ℕ). new_table sh b (from cs j) (get_or cs (j + 1) n) ∷ parts_of f (within (from cs j) (get_or cs (j + 1) n) es) (from cs j))
+      (sym s.count_is_lem) (sym s.format_is)))
       (parts_same b es 0 (from cs 0)
       ∙ ap₂ (λ (f : ℕ) (x : List Entry). parts_of f x 0) (sym s.format_is) (kept_entries gs ks cs l.count p.parts first e))
 

@@ -46,19 +46,27 @@ module _ (gs ks : List ℕ) (f lo : ℕ) (same : length ks ≡ length gs) where
   rest_class e = rw (ne_eqb f 1 e)
 
   pub one_length : (r : ℕ) → f ≡ 1 → r ≡ length (coverage_bytes gs) → r ≡ length (join (parts_of f (paired gs ks) lo))
-  one_length r e q = q ∙ sym (ap (λ (x : List (List ℕ)). length (join x)) (parts_are ∙ ap (λ (x : List (List ℕ)). coverage_bytes gs ∷ x) (rest_none e)) ∙ join_one (coverage_bytes gs))
+  one_length r e q =
+      q
+      ∙ sym
+      (ap (λ (x : List (List ℕ)). length (join x)) (parts_are ∙ ap (λ (x : List (List ℕ)). coverage_bytes gs ∷ x) (rest_none e))
+      ∙ join_one (coverage_bytes gs))
 
-  pub two_length : (m n : ℕ) → (f ≡ 1 → ⊥) → m ≡ length (coverage_bytes gs) → n ≡ length (class_def_bytes (reduced_entries gs ks lo)) → m + n ≡ length (join (parts_of f (paired gs ks) lo))
+  pub two_length : (m n : ℕ) → (f ≡ 1 → ⊥) → m ≡ length (coverage_bytes gs) → n ≡ length (class_def_bytes (reduced_entries gs ks lo))
+      → m + n ≡ length (join (parts_of f (paired gs ks) lo))
   two_length m n e q r =
       ap₂ (λ (x y : ℕ). x + y) q r
-      ∙ sym (ap (λ (x : List (List ℕ)). length (join x)) (parts_are ∙ ap (λ (x : List (List ℕ)). coverage_bytes gs ∷ x) (rest_class e)) ∙ join_two (coverage_bytes gs) (class_def_bytes (reduced_entries gs ks lo)))
+      ∙ sym
+      (ap (λ (x : List (List ℕ)). length (join x)) (parts_are ∙ ap (λ (x : List (List ℕ)). coverage_bytes gs ∷ x) (rest_class e))
+      ∙ join_two (coverage_bytes gs) (class_def_bytes (reduced_entries gs ks lo)))
 
   module _ (k : Beside f lo (paired gs ks)) where
     pub glyphs_ascend : Ascending gs
     glyphs_ascend = subst (λ (x : List ℕ). Ascending x) (paired_glyphs gs ks same) k.ascending
 
     -- both are short
-    pub both_small : ((i : ℕ) → get_or gs i 0 < 65536) → (m n : ℕ) → m ≡ length (coverage_bytes gs) → n ≡ length (class_def_bytes (reduced_entries gs ks lo)) → m + n ≤ 524296
+    pub both_small : ((i : ℕ) → get_or gs i 0 < 65536) → (m n : ℕ) → m ≡ length (coverage_bytes gs)
+        → n ≡ length (class_def_bytes (reduced_entries gs ks lo)) → m + n ≤ 524296
     both_small bits m n q r =
         let z : length (reduced lo (paired gs ks)) ≡ length (paired gs ks) = length-map _ (paired gs ks) in
         omega (
@@ -86,10 +94,12 @@ module _ (gs ks : List ℕ) (f lo : ℕ) (same : length ks ≡ length gs) where
       pub row_inside : 2 * row + 1 < length o
       row_inside = one_row (coverage_bytes gs) rest whole
 
-      module _ (d' o' : List ℕ) (middle : ℕ) (e : (d' ≡ put d at (coverage_bytes gs)) × (middle ≡ at + length (coverage_bytes gs))) (g : o' ≡ put o (2 * row) (at ∷ middle ∷ [])) where
+      module _ (d' o' : List ℕ) (middle : ℕ) (e : (d' ≡ put d at (coverage_bytes gs)) × (middle ≡ at + length (coverage_bytes gs)))
+          (g : o' ≡ put o (2 * row) (at ∷ middle ∷ [])) where
         pub one_done : f ≡ 1 → Written d o at row (parts_of f (paired gs ks) lo) d' o' middle
         one_done q =
-            subst (λ (new : List (List ℕ)). Written d o at row new d' o' middle) (sym (parts_are ∙ ap (λ (x : List (List ℕ)). coverage_bytes gs ∷ x) (rest_none q)))
+            subst (λ (new : List (List ℕ)). Written d o at row new d' o' middle)
+            (sym (parts_are ∙ ap (λ (x : List (List ℕ)). coverage_bytes gs ∷ x) (rest_none q)))
             (written_one (coverage_bytes gs) e.0 g e.1)
 
         module _ (two : f ≡ 1 → ⊥) where
@@ -97,9 +107,11 @@ module _ (gs ks : List ℕ) (f lo : ℕ) (same : length ks ≡ length gs) where
           definition = class_def_bytes (reduced_entries gs ks lo)
 
           class_room : ObjectsRoom d' o' middle (row + 1) (definition ∷ [])
-          class_room = subst (λ (new : List (List ℕ)). ObjectsRoom d' o' middle (row + 1) new) (rest_class two) (rest_room (coverage_bytes gs) rest whole e.0 g e.1)
+          class_room =
+              subst (λ (new : List (List ℕ)). ObjectsRoom d' o' middle (row + 1) new) (rest_class two) (rest_room (coverage_bytes gs) rest whole e.0 g e.1)
 
-          pub class_ready : (length ks ≡ length gs) × (Ascending gs × ((length (runs (named (reduced_entries gs ks lo))) < 65536) × (middle + length definition ≤ length d')))
+          pub class_ready : (length ks ≡ length gs)
+              × (Ascending gs × ((length (runs (named (reduced_entries gs ks lo))) < 65536) × (middle + length definition ≤ length d')))
           class_ready = (same, (glyphs_ascend, (runs_few two, one_fits definition [] class_room)))
 
           pub end_small : (end : ℕ) → end ≡ middle + length definition → end < 4294967296
@@ -108,7 +120,8 @@ module _ (gs ks : List ℕ) (f lo : ℕ) (same : length ks ≡ length gs) where
           pub next_inside : 2 * (row + 1) + 1 < length o'
           next_inside = one_row definition [] class_room
 
-          pub two_done : (d'' o'' : List ℕ) (end : ℕ) → (d'' ≡ put d' middle definition) × (end ≡ middle + length definition) → o'' ≡ put o' (2 * (row + 1)) (middle ∷ end ∷ [])
+          pub two_done : (d'' o'' : List ℕ) (end : ℕ) → (d'' ≡ put d' middle definition) × (end ≡ middle + length definition)
+              → o'' ≡ put o' (2 * (row + 1)) (middle ∷ end ∷ [])
               → Written d o at row (parts_of f (paired gs ks) lo) d'' o'' end
           two_done d'' o'' end q h =
               subst (λ (new : List (List ℕ)). Written d o at row new d'' o'' end) (sym parts_are)

@@ -46,12 +46,15 @@ use Rattle.pair_new_objects.specs.Objects.{old_table, Old, objects_of, Length}
 
 -- ---- the objects
 
-pub same_objects : (gs ks cs : List ℕ) (es : List Entry) (sh : Shape) (b : List ℕ) → Arranged gs ks cs sh.count es → 0 < length cs → new_objects sh b (paired gs ks) cs ≡ new_objects sh b es cs
+pub same_objects : (gs ks cs : List ℕ) (es : List Entry) (sh : Shape) (b : List ℕ) → Arranged gs ks cs sh.count es → 0 < length cs
+    → new_objects sh b (paired gs ks) cs ≡ new_objects sh b es cs
 unfolding new_objects new_parts
 same_objects gs ks cs es sh b r some =
     ap₂ (λ (x y : List (List ℕ)). x ++ y)
-    (flat-same (λ j. new_table sh b (from cs j) (to sh.count cs j) ∷ new_parts sh (paired gs ks) (from cs j) (to sh.count cs j)) (λ j. new_table sh b (from cs j) (to sh.count cs j) ∷ new_parts sh es (from cs j) (to sh.count cs j)) (length cs)
-    (λ j h. ap (λ (y : List (List ℕ)). new_table sh b (from cs j) (to sh.count cs j) ∷ y) (parts (from cs j) (to sh.count cs j) (new_same gs ks cs sh.count es r j h))))
+    (flat-same (λ j. new_table sh b (from cs j) (to sh.count cs j) ∷ new_parts sh (paired gs ks) (from cs j) (to sh.count cs j))
+    (λ j. new_table sh b (from cs j) (to sh.count cs j) ∷ new_parts sh es (from cs j) (to sh.count cs j)) (length cs)
+    (λ j h. ap (λ (y : List (List ℕ)). new_table sh b (from cs j) (to sh.count cs j) ∷ y)
+    (parts (from cs j) (to sh.count cs j) (new_same gs ks cs sh.count es r j h))))
     (parts 0 (from cs 0) (kept_same gs ks cs sh.count es r some))
   where
     parts : (lo hi : ℕ) → within lo hi (paired gs ks) ≡ within lo hi es → new_parts sh (paired gs ks) lo hi ≡ new_parts sh es lo hi
@@ -113,7 +116,9 @@ module _ (s : Store) (t : ℕ) (reads : Reads s t) (octets : Bytes s.bytes) wher
       record {
         parts = arranged_parted gs ks cs sh.count es r p some;
         few = omega (arith, r.long, few_entries es 0 65536 (omega arith) up under);
-        beside = λ k h. subst (λ (x : List Entry). Beside sh.format (low_at cs k) x) (sym (r.entries k h)) (stored_beside (low_at cs k) (high_at sh.count cs k));
+        beside = λ k h.
+            subst (λ (x : List Entry). Beside sh.format (low_at cs k) x) (sym (r.entries k h))
+            (stored_beside (low_at cs k) (high_at sh.count cs k));
         header = header_small;
         count = count_bits s t octets;
         size = omega (arith, table_long, (fits.object t reads.used).inside, fits.bytes_most);
@@ -131,7 +136,8 @@ module _ (s : Store) (t : ℕ) (reads : Reads s t) (octets : Bytes s.bytes) wher
   pub stored_old : Old s.bytes (head_of s t) l s.byte_count
   stored_old = record { layout_is = ap layout_of (sym stored_table); before = table_before; inside = fits.bytes_in }
 
-  pub stored_objects : (gs ks cs : List ℕ) → Arranged gs ks cs sh.count es → 0 < length cs → objects_of s.bytes (head_of s t) l (paired gs ks) cs ≡ new_of s t cs
+  pub stored_objects : (gs ks cs : List ℕ) → Arranged gs ks cs sh.count es → 0 < length cs
+      → objects_of s.bytes (head_of s t) l (paired gs ks) cs ≡ new_of s t cs
   stored_objects gs ks cs r some =
       ap (λ (b : List ℕ). new_objects (shape_of b) b (paired gs ks) cs) stored_table ∙ same_objects gs ks cs es sh (bytes_of s t) r some
 
@@ -139,10 +145,12 @@ module _ (s : Store) (t : ℕ) (reads : Reads s t) (octets : Bytes s.bytes) wher
     pub stored_length : (n : ℕ) → Length l (paired gs ks) cs n → n ≡ length (join (new_of s t cs))
     stored_length n h = h.is (bytes_of s t) refl reads.exactly ∙ ap (λ (x : List (List ℕ)). length (join x)) (same_objects gs ks cs es sh (bytes_of s t) r some)
 
-    pub stored_room : ObjectsRoom s.bytes s.objects s.byte_count s.object_count (new_of s t cs) → ObjectsRoom s.bytes s.objects s.byte_count s.object_count (objects_of s.bytes (head_of s t) l (paired gs ks) cs)
+    pub stored_room : ObjectsRoom s.bytes s.objects s.byte_count s.object_count (new_of s t cs)
+        → ObjectsRoom s.bytes s.objects s.byte_count s.object_count (objects_of s.bytes (head_of s t) l (paired gs ks) cs)
     stored_room h = subst (λ (new : List (List ℕ)). ObjectsRoom s.bytes s.objects s.byte_count s.object_count new) (sym (stored_objects gs ks cs r some)) h
 
-    pub stored_written : (d o : List ℕ) (n : ℕ) → Written s.bytes s.objects s.byte_count s.object_count (objects_of s.bytes (head_of s t) l (paired gs ks) cs) d o n
+    pub stored_written : (d o : List ℕ) (n : ℕ)
+        → Written s.bytes s.objects s.byte_count s.object_count (objects_of s.bytes (head_of s t) l (paired gs ks) cs) d o n
         → Written s.bytes s.objects s.byte_count s.object_count (new_of s t cs) d o n
     stored_written d o n h = subst (λ (new : List (List ℕ)). Written s.bytes s.objects s.byte_count s.object_count new d o n) (stored_objects gs ks cs r some) h
 
@@ -155,8 +163,10 @@ module _ (s : Store) (t : ℕ) (reads : Reads s t) (octets : Bytes s.bytes) wher
       let h : ℕ → ℕ = λ k. get_or gs k 0 in
       let placed : List Entry = upto (λ k. entry (h k) k) (length gs) in
       subst (λ (x : List Entry). Arranged gs (upto (λ k. k) (length gs)) cs sh.count x) (sym (entries1 s t one))
-      (subst (λ (x : List ℕ). Arranged x (upto (λ k. k) (length gs)) cs sh.count placed) (map-upto (λ (e : Entry). e.glyph) (λ k. entry (h k) k) (length gs) ∙ upto_get_d gs 0)
-      (subst (λ (x : List ℕ). Arranged (map (λ (e : Entry). e.glyph) placed) x cs sh.count placed) (map-upto (λ (e : Entry). e.class) (λ k. entry (h k) k) (length gs))
+      (subst (λ (x : List ℕ). Arranged x (upto (λ k. k) (length gs)) cs sh.count placed)
+      (map-upto (λ (e : Entry). e.glyph) (λ k. entry (h k) k) (length gs) ∙ upto_get_d gs 0)
+      (subst (λ (x : List ℕ). Arranged (map (λ (e : Entry). e.glyph) placed) x cs sh.count placed)
+      (map-upto (λ (e : Entry). e.class) (λ k. entry (h k) k) (length gs))
       (places_arranged h (length gs) cs sh.count)))
 
   module _ (two : eqb sh.format 1 ≡ false) (gs ks cs : List ℕ) (o : ByClass es gs ks) (p : Places sh.count cs) where

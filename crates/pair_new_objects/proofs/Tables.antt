@@ -107,7 +107,8 @@ module _ (d : List ℕ) (head : ℕ) (l : Layout) (at : ℕ) (old : Old d head l
       unfolding shape_of
       shape_two = rw (sym (format_test b) ∙ is_two)
 
-      pub room2 : at + length (table_of d head l lo hi) ≤ length d → (lo ≤ hi) × ((head + (16 + l.item * hi) ≤ at) × (at + (16 + l.item * (hi - lo)) ≤ length d))
+      pub room2 : at + length (table_of d head l lo hi) ≤ length d → (lo ≤ hi)
+          × ((head + (16 + l.item * hi) ≤ at) × (at + (16 + l.item * (hi - lo)) ≤ length d))
       room2 r =
           let x = old.before in
           let z = header2 in

@@ -38,15 +38,12 @@ pub fn new_length(glyphs: &[u16], classes: &[u16], cuts: &[u16], layout: Layout)
 {
     let mut at = part_end(classes, 0, cuts[0]);
     let mut total = parts_length(&glyphs[0..at], &classes[0..at], layout.format, 0);
-    let mut i = 0;
-    while i < cuts.len() {
-        let lo = cuts[i];
+    for (i, &lo) in cuts.iter().enumerate() {
         let hi = cut_after(cuts, i, layout.count);
         let end = part_end(classes, at, hi);
         let parts = parts_length(&glyphs[at..end], &classes[at..end], layout.format, lo);
         total += layout.header + layout.item * ((hi - lo) as usize) + parts;
         at = end;
-        i += 1;
     }
     total
 }
@@ -153,9 +150,7 @@ fn write_tables(
     let mut from = start;
     let mut at = byte_count;
     let mut row = object_count;
-    let mut j = 0;
-    while j < cuts.len() {
-        let lo = cuts[j];
+    for (j, &lo) in cuts.iter().enumerate() {
         let hi = cut_after(cuts, j, layout.count);
         let to = part_end(classes, from, hi);
         at = write_table_objects(
@@ -172,7 +167,6 @@ fn write_tables(
         );
         row += layout.own + 1;
         from = to;
-        j += 1;
     }
     at
 }

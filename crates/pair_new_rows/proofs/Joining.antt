@@ -19,7 +19,8 @@ unfolding share
 share_is ls out i k e p j =
     ap₂ (λ (q : ℕ) (r : List ℕ). cond (inside p j q) r []) (position_same ls out i k e) (moved_same ls out i k e (table_id p j) (shift p j))
 
-module _ (ls : List ℕ) (a b m : ℕ) (ab : a ≤ b) (bm : b ≤ m) (room : per_link * m ≤ length ls) (out : List ℕ) (is : out ≡ put ls (per_link * a) (rows ls b m ++ rows ls a b)) where
+module _ (ls : List ℕ) (a b m : ℕ) (ab : a ≤ b) (bm : b ≤ m) (room : per_link * m ≤ length ls) (out : List ℕ)
+    (is : out ≡ put ls (per_link * a) (rows ls b m ++ rows ls a b)) where
   ahead : per_link * b + length (rows ls b m) ≡ per_link * m
   ahead = rows_long ls b m bm
 

@@ -12,7 +12,8 @@ use Rattle.folds.specs.Lists.{put, part}
 use Rattle.folds.proofs.Tests.{by_test, either, and_second}
 use Rattle.folds.proofs.Put.{put-nil, put-below, put-before}
 use Rattle.store_link_rows.specs.Rows.{segment, position_in, row, PositionsRise}
-use Rattle.pair_new_rows.specs.Blocks.{Plan, tables, shift, edge, inside, table_id, moved_row, share, per, head_rows, head_count, table_rows, grown, Fit, MovedUp, Spread}
+use Rattle.pair_new_rows.specs.Blocks.{Plan, tables, shift, edge, inside, table_id, moved_row, share, per}
+use Rattle.pair_new_rows.specs.Blocks.{head_rows, head_count, table_rows, grown, Fit, MovedUp, Spread}
 use Rattle.store_link_rows.proofs.Spans.{span_empty, span_join, span_front, span_none, span_ext}
 use Rattle.store_link_rows.proofs.RowLaws.{row_same}
 use Rattle.pair_new_rows.proofs.Moving.{position_same, moved_same, moved_long}
@@ -73,7 +74,8 @@ module _ (ls : List ℕ) (p : Plan) (j k : ℕ) where
 
   pub share_none_above : edge p (j + 1) ≤ position_in ls k → share ls p j k ≡ []
   unfolding share inside
-  share_none_above h = rw (and_second (leb (edge p j) (position_in ls k)) (ltb (position_in ls k) (edge p (j + 1))) (le-ltb (position_in ls k) (edge p (j + 1)) h))
+  share_none_above h =
+      rw (and_second (leb (edge p j) (position_in ls k)) (ltb (position_in ls k) (edge p (j + 1))) (le-ltb (position_in ls k) (edge p (j + 1)) h))
 
   pub share_own : edge p j ≤ position_in ls k → position_in ls k < edge p (j + 1) → share ls p j k ≡ moved_row ls (table_id p j) (shift p j) k
   unfolding share inside
@@ -105,19 +107,19 @@ pub record Given (ls : List ℕ) (q m : ℕ) (p : Plan) : Type 0 where
   pub ordered : PositionsRise ls q m
   pub floor : (k : ℕ) → q ≤ k → k < m → edge p 0 ≤ position_in ls k
 
-pub record At (ls : List ℕ) (q m : ℕ) (p : Plan) (out : List ℕ) (j left at table : ℕ) : Type 0 where
+pub record At (ls : List ℕ) (q m : ℕ) (p : Plan) (out : List ℕ) (j left at : ℕ) : Type 0 where
   pub given : Given ls q m p
   pub turns : j ≤ tables p
   pub few : q + left ≤ m
   pub place : at ≡ q + left + head_count p * j
-  pub name : table ≡ table_id p j
   pub same : length out ≡ length ls
   pub low : (k : ℕ) → q ≤ k → k < q + left → position_in ls k < edge p j
   pub high : (k : ℕ) → q + left ≤ k → k < m → edge p j ≤ position_in ls k
   pub long : per_link * at + length (segment (table_rows ls q m p) j (tables p)) ≡ per_link * grown m p
   pub is : out ≡ put ls (per_link * at) (segment (table_rows ls q m p) j (tables p))
 
-pub at_start : (ls : List ℕ) (q m : ℕ) (p : Plan) → Given ls q m p → ((i : ℕ) → get_or ls i 0 < 4294967296) → At ls q m p ls (tables p) (m - q) (m + head_count p * tables p) (table_id p (tables p))
+pub at_start : (ls : List ℕ) (q m : ℕ) (p : Plan) → Given ls q m p → ((i : ℕ) → get_or ls i 0 < 4294967296)
+    → At ls q m p ls (tables p) (m - q) (m + head_count p * tables p)
 at_start ls q m p g w =
     let e = span_empty (table_rows ls q m p) (tables p) in
     let z : length (segment (table_rows ls q m p) (tables p) (tables p)) ≡ 0 = ap length e in
@@ -126,7 +128,6 @@ at_start ls q m p g w =
       turns = omega arith;
       few = omega (arith, g.some);
       place = omega (arith, g.some);
-      name = refl;
       same = refl;
       low = λ k l h. omega (arith, w (per_link * k + row_position), edge_end p);
       high = λ k l h. absurd (omega (arith, g.some));
@@ -134,7 +135,7 @@ at_start ls q m p g w =
       is = put-nil ls (per_link * (m + head_count p * tables p)) ∙ ap (put ls (per_link * (m + head_count p * tables p))) (sym e);
     }
 
-module _ (ls : List ℕ) (q m : ℕ) (p : Plan) (out : List ℕ) (j left at table : ℕ) (s : At ls q m p out j left at table) where
+module _ (ls : List ℕ) (q m : ℕ) (p : Plan) (out : List ℕ) (j left at : ℕ) (s : At ls q m p out j left at) where
   pub reach : at ≤ grown m p
   reach = omega (arith, s.long)
 
@@ -157,29 +158,27 @@ module _ (ls : List ℕ) (q m : ℕ) (p : Plan) (out : List ℕ) (j left at tabl
       }
 
 -- one table: its rows move up, and its heads stand before them
-module _ (ls : List ℕ) (q m : ℕ) (p : Plan) (out : List ℕ) (j left at table : ℕ) (s : At ls q m p out j left at table) (i : ℕ) (e : j ≡ i + 1) where
+module _ (ls : List ℕ) (q m : ℕ) (p : Plan) (out : List ℕ) (j left at : ℕ) (s : At ls q m p out j left at) (i : ℕ) (e : j ≡ i + 1) where
   counted : head_count p * j ≡ head_count p * i + head_count p
   counted = ap (λ (x : ℕ). head_count p * x) e ∙ more (head_count p) i
 
-  pub table_next : table ≡ table_id p i + per p
-  table_next = omega (arith, s.name, ap (λ (x : ℕ). per p * x) e ∙ more (per p) i)
-
-  pub table_fits_lem : table ≤ 4294967296
-  table_fits_lem = omega (arith, s.name, mul-le-mul_left (per p) s.turns, s.given.fit.numbers)
+  pub table_fits_lem : table_id p i + per p ≤ 4294967296
+  table_fits_lem = omega (arith, ap (λ (x : ℕ). per p * x) e ∙ more (per p) i, mul-le-mul_left (per p) s.turns, s.given.fit.numbers)
 
   pub room_left : q + left + head_count p ≤ at
   room_left = omega (arith, s.place, counted)
 
   -- a row that has not moved yet
   unmoved : (k : ℕ) → k < q + left → row out k ≡ row ls k
-  unmoved k u = row_same out ls k (λ n from h. at_read ls q m p out j left at table s n (omega (arith, room_left)))
+  unmoved k u = row_same out ls k (λ n from h. at_read ls q m p out j left at s n (omega (arith, room_left)))
 
-  unmoved_moves : (k : ℕ) → k < q + left → table - per p ≡ table_id p i → moved_row out (table - per p) (shift p i) k ≡ moved_row ls (table_id p i) (shift p i) k
-  unmoved_moves k u t = ap (λ (n : ℕ). moved_row out n (shift p i) k) t ∙ moved_same ls out k k (unmoved k u) (table_id p i) (shift p i)
+  unmoved_moves : (k : ℕ) → k < q + left → moved_row out (table_id p i) (shift p i) k ≡ moved_row ls (table_id p i) (shift p i) k
+  unmoved_moves k u = moved_same ls out k k (unmoved k u) (table_id p i) (shift p i)
 
   -- the heads, the rows that moved, and the tables after them
   joined : (rest : ℕ) → i < tables p → segment (share ls p i) q m ≡ segment (moved_row ls (table_id p i) (shift p i)) (q + rest) (q + left)
-      → head_rows p.layout.format p.class2 (table_id p i) ++ (segment (moved_row ls (table_id p i) (shift p i)) (q + rest) (q + left) ++ segment (table_rows ls q m p) j (tables p))
+      → head_rows p.layout.format p.class2 (table_id p i)
+      ++ (segment (moved_row ls (table_id p i) (shift p i)) (q + rest) (q + left) ++ segment (table_rows ls q m p) j (tables p))
       ≡ segment (table_rows ls q m p) i (tables p)
   unfolding table_rows
   joined rest ik part =
@@ -190,12 +189,11 @@ module _ (ls : List ℕ) (q m : ℕ) (p : Plan) (out : List ℕ) (j left at tabl
       ∙ ap₂ (λ (x : List ℕ) (y : ℕ). (H ++ x) ++ segment T y (tables p)) (sym part) e
       ∙ sym (span_front T i (tables p) ik)
 
-  pub at_turn : (mid out' : List ℕ) (rest : ℕ) → MovedUp out mid q left at (p.layout.header + shift p i) (shift p i) (table - per p) rest
-      → length out' ≡ length out → out' ≡ put mid (per_link * (at - (left - rest) - head_count p)) (head_rows p.layout.format p.class2 (table - per p))
-      → At ls q m p out' i rest (at - (left - rest) - head_count p) (table - per p)
+  pub at_turn : (mid out' : List ℕ) (rest : ℕ) → MovedUp out mid q left at (p.layout.header + shift p i) (shift p i) (table_id p i) rest
+      → length out' ≡ length out → out' ≡ put mid (per_link * (at - (left - rest) - head_count p)) (head_rows p.layout.format p.class2 (table_id p i))
+      → At ls q m p out' i rest (at - (left - rest) - head_count p)
   at_turn mid out' rest mv n h =
       let K = tables p in
-      let t : table - per p ≡ table_id p i = omega (arith, table_next) in
       let ik : i < K = omega (arith, s.turns) in
       let ee : edge p i ≡ p.layout.header + shift p i = edge_at p i ik in
       let ej : edge p j ≡ edge p (i + 1) = ap (edge p) e in
@@ -204,7 +202,9 @@ module _ (ls : List ℕ) (q m : ℕ) (p : Plan) (out : List ℕ) (j left at tabl
       let pos : (k : ℕ) → k < q + left → position_in out k ≡ position_in ls k = λ k l. position_same ls out k k (unmoved k l) in
       let own : (k : ℕ) → q + rest ≤ k → k < q + left → edge p i ≤ position_in ls k = λ k l u. omega (arith, mv.above k l u, pos k u) in
       let low : (k : ℕ) → q ≤ k → k < q + rest → position_in ls k < edge p i =
-      λ k l u. omega (arith, mv.below (omega arith), pos (q + rest - 1) (omega arith), s.given.ordered k (q + rest - 1) l (omega arith) (omega (arith, s.few))) in
+      λ k l u.
+      let rises = s.given.ordered k (q + rest - 1) l (omega arith) (omega (arith, s.few)) in
+      omega (arith, mv.below (omega arith), pos (q + rest - 1) (omega arith), rises) in
       let under : (k : ℕ) → q ≤ k → k < q + left → position_in ls k < edge p (i + 1) = λ k l u. omega (arith, s.low k l u) in
       let over : (k : ℕ) → q + left ≤ k → k < m → edge p (i + 1) ≤ position_in ls k = λ k l u. omega (arith, s.high k l u) in
       let f = moved_row ls (table_id p i) (shift p i) in
@@ -212,8 +212,8 @@ module _ (ls : List ℕ) (q m : ℕ) (p : Plan) (out : List ℕ) (j left at tabl
       let T = segment (table_rows ls q m p) j K in
       let H = head_rows p.layout.format p.class2 (table_id p i) in
       let part : segment (share ls p i) q m ≡ S = share_part ls p q (q + rest) (q + left) m i (omega arith) (omega arith) s.few low own under over in
-      let moved : segment (moved_row out (table - per p) (shift p i)) (q + rest) (q + left) ≡ S =
-      span_ext (moved_row out (table - per p) (shift p i)) f (q + rest) (q + left) (λ k l u. unmoved_moves k u t) in
+      let moved : segment (moved_row out (table_id p i) (shift p i)) (q + rest) (q + left) ≡ S =
+      span_ext (moved_row out (table_id p i) (shift p i)) f (q + rest) (q + left) (λ k l u. unmoved_moves k u) in
       let ns : per_link * (q + rest) + length S ≡ per_link * (q + left) = moved_long ls (table_id p i) (shift p i) (q + rest) (q + left) (omega arith) in
       let nh : length H ≡ per_link * head_count p = length-heads p (table_id p i) s.given.fit in
       let nt = s.long in
@@ -231,36 +231,34 @@ module _ (ls : List ℕ) (q m : ℕ) (p : Plan) (out : List ℕ) (j left at tabl
         turns = omega arith;
         few = omega (arith, s.few);
         place = omega (arith, s.place, counted);
-        name = t;
         same = n ∙ s.same;
         low = low;
         high = λ k l u. ⊎_elim (λ lt. own k l lt) (λ ge. omega (arith, over k ge u, edge_climb p s.given.fit i ik)) (either k (q + left));
         long = omega (arith, ap length whole);
         is =
             h
-            ∙ ap₂ (λ (o : List ℕ) (x : ℕ). put o (per_link * (at1 - head_count p)) (head_rows p.layout.format p.class2 x)) mid-is t
+            ∙ ap (λ (o : List ℕ). put o (per_link * (at1 - head_count p)) H) mid-is
             ∙ put-before ls (per_link * (at1 - head_count p)) H (per_link * at1) (S ++ T) e2 (omega arith)
             ∙ ap (put ls (per_link * (at1 - head_count p))) whole;
       }
 
 -- the numbers of a turn
-pub record Numbers (ls : List ℕ) (p : Plan) (q left at table i : ℕ) : Type 0 where
+pub record Numbers (ls : List ℕ) (p : Plan) (q left at i : ℕ) : Type 0 where
   pub numbered : Numbered p.layout
   pub few : (p.layout.own ≤ 2) × (p.layout.heads ≤ 3)
-  pub named : per p ≤ table
-  pub fits : table ≤ 4294967296
+  pub fits : table_id p i + per p ≤ 4294967296
   pub roomy : q + left + head_count p ≤ at
   pub within : per_link * at ≤ length ls
   pub placed : p.layout.header + shift p i < 4294967296
 
-pub numbers : (ls : List ℕ) (q m : ℕ) (p : Plan) (out : List ℕ) (j left at table : ℕ) → At ls q m p out j left at table → (i : ℕ) → j ≡ i + 1 → Numbers ls p q left at table i
-numbers ls q m p out j left at table s i e =
+pub numbers : (ls : List ℕ) (q m : ℕ) (p : Plan) (out : List ℕ) (j left at : ℕ) → At ls q m p out j left at → (i : ℕ) → j ≡ i + 1
+    → Numbers ls p q left at i
+numbers ls q m p out j left at s i e =
     record {
       numbered = s.given.fit.numbered;
       few = few_heads p.layout s.given.fit.numbered;
-      named = omega (arith, table_next ls q m p out j left at table s i e);
-      fits = table_fits_lem ls q m p out j left at table s i e;
-      roomy = room_left ls q m p out j left at table s i e;
-      within = omega (arith, reach ls q m p out j left at table s, s.given.room);
+      fits = table_fits_lem ls q m p out j left at s i e;
+      roomy = room_left ls q m p out j left at s i e;
+      within = omega (arith, reach ls q m p out j left at s, s.given.room);
       placed = s.given.fit.placed i (omega (arith, s.turns));
     }

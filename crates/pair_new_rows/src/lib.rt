@@ -28,19 +28,21 @@ fn move_up(
     requires { (q + count ≤ to) × (per_link * to ≤ length links.old) × (down ≤ bound) }
     ensures { MovedUp (came links) (left links) q count to bound down parent result }
 {
-    let mut left = count;
-    let mut at = to;
-    while 0 < left {
-        let last = q + left - 1;
+    for left in (0..count).rev() {
+        let last = q + left;
         let position = links[PER_LINK * last + POSITION] as usize;
         if position < bound {
-            return left;
+            return left + 1;
         }
-        left -= 1;
-        at -= 1;
-        move_row(links, last, at, parent, (position - down) as u32);
+        move_row(
+            links,
+            last,
+            to - count + left,
+            parent,
+            (position - down) as u32,
+        );
     }
-    left
+    0
 }
 
 // Writes the header's rows of the new table: to its coverage, and in format 2 to its class definition 1 and the shared class definition 2.
@@ -63,6 +65,7 @@ fn put_heads(links: &mut [u32], k: usize, layout: Layout, table: u32, class2: u3
 }
 
 // The last of m rows, those from row q on, become the rows of new tables, from the last table to the first.
+#[tactic(auto, using(crate::proofs::Spreading::numbers))]
 fn spread(
     links: &mut [u32],
     q: usize,
@@ -78,13 +81,10 @@ fn spread(
     requires by_index { (k : ℕ) → q ≤ k → k < m → edge (plan cuts.now layout first class2) 0 ≤ position_in links.old k }
     ensures { Spread (came links) (left links) q m (plan cuts.now layout first class2) }
 {
-    let mut j = cuts.len();
     let mut left = m - q;
-    let mut at = m + layout.heads * j;
-    let mut table = first + (layout.own + 1) * j;
-    while 0 < j {
-        j -= 1;
-        table -= layout.own + 1;
+    let mut at = m + layout.heads * cuts.len();
+    for j in (0..cuts.len()).rev() {
+        let table = first + (layout.own + 1) * j;
         let down = layout.item * (cuts[j] as usize);
         let rest = move_up(links, q, left, at, layout.header + down, down, table as u32);
         at = at - (left - rest) - layout.heads;

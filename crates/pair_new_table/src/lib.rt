@@ -7,7 +7,7 @@ ghost use Rattle.ot_layouts.specs.Numbers.{be16};
 ghost use Rattle.folds.specs.Moments.{came, left};
 ghost use Rattle.pair_new_table.specs.Cloned.{Cloned1, Cloned2};
 
-use buffers::{copy_up, zero_bytes};
+use buffers::{copy_bytes, zero_bytes};
 use ot_wire::put_u16;
 
 // What both formats start with: the format, no coverage offset yet, and the value formats.
@@ -16,9 +16,9 @@ fn write_head(data: &mut [u8], head: usize, at: usize)
     requires at_in_bounds { at + 8 ≤ length «data».old }
     ensures { left «data» ≡ put (came «data») at (part (came «data») head (head + 2) ++ be16 0 ++ part (came «data») (head + 4) (head + 8)) }
 {
-    copy_up(data, head, at, 2);
+    copy_bytes(data, head, at, 2);
     put_u16(data, at + 2, 0);
-    copy_up(data, head + 4, at + 4, 4);
+    copy_bytes(data, head + 4, at + 4, 4);
 }
 
 // Format 1: the count, and an empty slot for each pair set. Returns where the table ends.
@@ -48,7 +48,7 @@ pub fn write_format2(data: &mut [u8], head: usize, row: usize, lo: u16, hi: u16,
     let bytes = row * (count as usize);
     write_head(data, head, at);
     write_counts(data, head, count, at);
-    copy_up(data, first, at + 16, bytes);
+    copy_bytes(data, first, at + 16, bytes);
     at + 16 + bytes
 }
 
@@ -61,5 +61,5 @@ fn write_counts(data: &mut [u8], head: usize, count: u16, at: usize)
     put_u16(data, at + 8, 0);
     put_u16(data, at + 10, 0);
     put_u16(data, at + 12, count);
-    copy_up(data, head + 14, at + 14, 2);
+    copy_bytes(data, head + 14, at + 14, 2);
 }

@@ -1,11 +1,11 @@
--- What the decision rests on: whether the settings are known, the checks that need no scratch, the cut places, whether there is a cycle, and whether the pair sets
--- are sorted. Assumes nothing.
+-- What the decision rests on: whether the settings are known, the checks that need no scratch, the cut places, whether there is a cycle,
+-- and whether the pair sets are sorted. Assumes nothing.
+use Rattle.std.specs.Prelude.{Some, Err, Ok, Result}
 use Prim.Native.Nat.{ℕ, ◌*◌, ◌≤◌, ◌<◌}
 use mathlib.Core.Path.{◌≡◌, sym, ap, subst, ◌∙◌}
 use mathlib.Core.Bool.{Bool, true, false, cond, not}
 use mathlib.Core.List.{List, ◌++◌}
 use mathlib.Core.Logic.{◌⊎◌, inr}
-use mathlib.Core.Option.{some}
 use native.Mathlib.Omega.{arith}
 use lib.ListN.{length, get_or}
 use borrow.Author.Tests.{lt-ltb, le-ltb, not-true, not-false}
@@ -15,23 +15,18 @@ use Rattle.call_rules.specs.declared.Settings.{Settings}
 use Rattle.store_rules.specs.Store.{Store, lent, sound}
 use Rattle.store_rules.specs.Reach.{on_cycle}
 use Rattle.call_rules.specs.Scratch.{Scratch}
-use Rattle.call_rules.specs.Answers.{number, first_case}
+use Rattle.call_rules.specs.Answers.{number, first_case, numbered}
 use Rattle.call_rules.specs.Settings.{known, settings_cases}
 use Rattle.call_rules.proofs.Cases.{first_stands}
 use Rattle.call_rules.proofs.KnownSettings.{unknown_refused}
+use Rattle.call_lists.specs.declared.Plan.{Plan}
 use Rattle.pair_rules.specs.Table.{sets_sorted}
 use Rattle.pair_rules.specs.Calls.{read_cases, cut_cases}
 use Rattle.store_reader.specs.Rows.{orders}
 use Rattle.store_walk.specs.Marks.{Begun}
 use Rattle.pair_items.specs.Filled.{TellsCycle}
 use Rattle.pair_checks.specs.declared.PairTable.{PairTable}
-use Rattle.pair_checks.specs.declared.Checked.{Checked}
-use Rattle.pair_checks.specs.declared.Checked.TheVariants as Checked
-use Rattle.pair_plan.specs.declared.Plan.{Plan}
-use Rattle.pair_plan.specs.declared.Decision.{Decision}
-use Rattle.pair_plan.specs.declared.Decision.TheVariants.{Cut, Settled}
 use Rattle.call_rules.specs.Scratch.{lengths_of}
-use Rattle.pair_checks.specs.Checked.{checked_as}
 use Rattle.pair_checks.specs.Called.{called_of}
 use Rattle.pair_checks.specs.Opens.{Opens}
 use Rattle.pair_plan.specs.Cutting.{Looked, CutsTable}
@@ -41,17 +36,19 @@ use Rattle.pair_checks.proofs.Called.{looked_last, called, Passed, passed}
 
 -- ---- the call has its answer
 
-settles : (how : Settings) (s : Store) (t : ℕ) (w : Scratch) (a : Answer) {gs ks cuts : List ℕ} → first_case (cut_cases how s t w) ≡ some (number a) → Decided how s t w (Settled a) gs ks cuts
+settles : (how : Settings) (s : Store) (t : ℕ) (w : Scratch) (a : Answer) {gs ks cuts : List ℕ} → first_case (cut_cases how s t w) ≡ Some (number a)
+    → Decided how s t w (Err a) gs ks cuts
 settles how s t w a e = record { answers = e; plans = λ p x. let z : ◌≡◌ {A = ℕ} 0 1 = cc in absurd (omega arith) }
 
-pub decided_settled : {how : Settings} → known how ≡ true → (s : Store) (t : ℕ) (w : Scratch) {x : Checked} {a : Answer} {gs ks cuts : List ℕ}
-    → checked_as x ≡ called_of s t (lengths_of w) → x ≡ Checked.Settled a → Decided how s t w (Settled a) gs ks cuts
-decided_settled {how} h s t w {a = a} e y = settles how s t w a (called s t w how h ∙ ap (λ (x : ℕ ⊎ PairTable). looked_last x (on_cycle s t) (sets_sorted s t)) (sym e ∙ ap checked_as y))
+pub decided_settled : {how : Settings} → known how ≡ true → (s : Store) (t : ℕ) (w : Scratch) {x : Result PairTable Answer} {a : Answer} {gs ks cuts : List ℕ}
+    → numbered x ≡ called_of s t (lengths_of w) → x ≡ Err a → Decided how s t w (Err a) gs ks cuts
+decided_settled {how} h s t w {a = a} e y =
+    settles how s t w a (called s t w how h ∙ ap (λ (x : ℕ ⊎ PairTable). looked_last x (on_cycle s t) (sets_sorted s t)) (sym e ∙ ap numbered y))
 
 -- ---- 12
 
 module _ (how : Settings) {b : Bool} (e : b ≡ known how) where
-  pub decided_unknown : not b ≡ true → {s : Store} {t : ℕ} {w : Scratch} {gs ks cuts : List ℕ} → Decided how s t w (Settled BadEdition) gs ks cuts
+  pub decided_unknown : not b ≡ true → {s : Store} {t : ℕ} {w : Scratch} {gs ks cuts : List ℕ} → Decided how s t w (Err BadEdition) gs ks cuts
   unfolding cut_cases
   decided_unknown h {s} {t} {w} =
       let refused = unknown_refused how (sym e ∙ not-true b h) in
@@ -59,7 +56,7 @@ module _ (how : Settings) {b : Bool} (e : b ≡ known how) where
 
 -- ---- the cuts, and what is asked behind them
 
-module _ (b o l c : List ℕ) (t : ℕ) (w : Scratch) (p : PairTable) (e : called_of (lent b o l c) t (lengths_of w) ≡ checked_as (Checked.Open p)) where
+module _ (b o l c : List ℕ) (t : ℕ) (w : Scratch) (p : PairTable) (e : called_of (lent b o l c) t (lengths_of w) ≡ numbered (Ok p)) where
   pass : Passed (lent b o l c) t (lengths_of w) p
   pass = passed (lent b o l c) t (lengths_of w) p e
 
@@ -88,7 +85,8 @@ module _ (b o l c : List ℕ) (t : ℕ) (w : Scratch) (p : PairTable) (e : calle
       }
 
   -- what is settled once the places are found
-  pub decided_cut : {how : Settings} {d : Decision} {gs ks cuts : List ℕ} {n : ℕ} → known how ≡ true → CutsTable how (lent b o l c) t p w.glyphs w.classes w.cuts gs ks cuts n
+  pub decided_cut : {how : Settings} {d : Result (Plan PairTable) Answer} {gs ks cuts : List ℕ} {n : ℕ} → known how ≡ true
+      → CutsTable how (lent b o l c) t p w.glyphs w.classes w.cuts gs ks cuts n
       → d ≡ settled_by (lent b o l c) t (record { table = p; cuts = n }) → Decided how (lent b o l c) t w d gs ks cuts
   unfolding settled_by
   decided_cut {how} {d} {gs} {ks} {cuts} {n} h x is =
@@ -97,19 +95,21 @@ module _ (b o l c : List ℕ) (t : ℕ) (w : Scratch) (p : PairTable) (e : calle
       (called (lent b o l c) t w how h ∙ ap (λ (y : ℕ ⊎ PairTable). looked_last y (on_cycle (lent b o l c) t) (sets_sorted (lent b o l c) t)) e))
     where
       go : (cycle sorted : Bool) → first_case (cut_cases how (lent b o l c) t w) ≡ looked_last (inr p) cycle sorted
-          → Decided how (lent b o l c) t w (cond cycle (Settled BadLinks) (cond sorted (Cut (record { table = p; cuts = n })) (Settled UnsortedSets))) gs ks cuts
+          → Decided how (lent b o l c) t w (cond cycle (Err BadLinks) (cond sorted (Ok (record { table = p; cuts = n })) (Err UnsortedSets))) gs ks cuts
       go true sorted f = settles how (lent b o l c) t w BadLinks f
       go false false f = settles how (lent b o l c) t w UnsortedSets f
       go false true f =
           record {
             answers = f;
-            plans = λ q y. let same : record { table = p; cuts = n } ≡ q = cc in subst (λ (r : Plan). Planned how (lent b o l c) t w r gs ks cuts) same (record { opens = pass.opens; cut = x });
+            plans = λ q y.
+                let same : record { table = p; cuts = n } ≡ q = cc in
+                subst (λ (r : Plan PairTable). Planned how (lent b o l c) t w r gs ks cuts) same (record { opens = pass.opens; cut = x });
           }
 
 -- ---- the rest of 7, and 11
 
-module _ (s : Store) (t : ℕ) (p : Plan) {w : List ℕ} (d : TellsCycle s t w) where
-  pub settled_cycle : (get_or w t 0 ≡ 0 → ⊥) → Settled BadLinks ≡ settled_by s t p
+module _ (s : Store) (t : ℕ) (p : Plan PairTable) {w : List ℕ} (d : TellsCycle s t w) where
+  pub settled_cycle : (get_or w t 0 ≡ 0 → ⊥) → Err BadLinks ≡ settled_by s t p
   unfolding settled_by
   settled_cycle ne = rw (sym d.tells ∙ lt-ltb 0 (get_or w t 0) (omega arith))
 
@@ -117,10 +117,10 @@ module _ (s : Store) (t : ℕ) (p : Plan) {w : List ℕ} (d : TellsCycle s t w) 
     no_cycle : on_cycle s t ≡ false
     no_cycle = sym d.tells ∙ le-ltb 0 (get_or w t 0) (omega arith)
 
-    pub settled_unsorted : not x ≡ true → Settled UnsortedSets ≡ settled_by s t p
+    pub settled_unsorted : not x ≡ true → Err UnsortedSets ≡ settled_by s t p
     unfolding settled_by
     settled_unsorted n = rw (no_cycle, sym e ∙ not-true x n)
 
-    pub settled_plan : not x ≡ false → Cut p ≡ settled_by s t p
+    pub settled_plan : not x ≡ false → Ok p ≡ settled_by s t p
     unfolding settled_by
     settled_plan n = rw (no_cycle, sym e ∙ not-false x n)

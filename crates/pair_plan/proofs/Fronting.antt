@@ -37,10 +37,15 @@ module _ {s : Store} {t : ℕ} {p : PairTable} {w set gs ks cuts : List ℕ} (k 
           long = omega (arith, k.long);
         }
 
-    pub fronts_cut : {how : Settings} {set' : List ℕ} → length set' ≡ length set → {cuts' : List ℕ} {r : ℕ} → (Looked2 s t p (part gs'' 0 p.glyphs) (part ks'' 0 p.glyphs) w set' cuts → Placed (cut_places how s t) cuts cuts' r) → CutsByClass how s t gs ks cuts gs'' ks'' cuts' r
+    pub fronts_cut : {how : Settings} {set' : List ℕ} → length set' ≡ length set → {cuts' : List ℕ} {r : ℕ}
+        → (Looked2 s t p (part gs'' 0 p.glyphs) (part ks'' 0 p.glyphs) w set' cuts → Placed (cut_places how s t) cuts cuts' r)
+        → CutsByClass how s t gs ks cuts gs'' ks'' cuts' r
     fronts_cut e places =
         let d = (gathers fronts_lent).by_class in
         record {
           placed = places (fronts_looked e);
-          fronted = record { glyphs = front_back gs p.glyphs k.glyphs gs' a ∙ ap (put gs 0) d.glyphs; classes = front_back ks p.glyphs k.classes ks' b ∙ ap (put ks 0) d.classes };
+          fronted = record {
+            glyphs = front_back gs p.glyphs k.glyphs gs' a ∙ ap (put gs 0) d.glyphs;
+            classes = front_back ks p.glyphs k.classes ks' b ∙ ap (put ks 0) d.classes;
+          };
         }

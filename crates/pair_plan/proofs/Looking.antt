@@ -1,4 +1,6 @@
 -- What the cut rules ask of a table, from what the checks hold of it. Assumes nothing.
+use Rattle.std.specs.Prelude.{Option}
+use Rattle.ot_layouts.specs.declared.Header.{Header}
 use Prim.Native.Nat.{ℕ, ◌*◌, ◌≤◌, ◌<◌}
 use mathlib.Core.Path.{◌≡◌, sym, ap, subst}
 use mathlib.Core.Bool.{true}
@@ -8,7 +10,6 @@ use native.Mathlib.Omega.{arith}
 use lib.ListN.{length, replicate, length-replicate, get_or-replicate, get_or-eq_default}
 use lib.Dec.{eqb}
 use Rattle.folds.proofs.Tests.{either}
-use Rattle.ot_layouts.specs.declared.Reading.{Reading}
 use Rattle.folds.specs.Lists.{Bytes}
 use Rattle.ot_layouts.proofs.Shapes as Shapes
 use Rattle.ot_layouts.proofs.Shapes.{items_rise}
@@ -40,10 +41,11 @@ module _ {s : Store} {t : ℕ} {p : PairTable} (o : Opens s t p) where
   fits : Fits s
   fits = sound_fits s o.reads.sounds
 
-  part_beside : {read : List ℕ → Reading} {q : ℕ} {d : Part} → LinkedPart read s t q d → HasLength s.objects d.object
+  part_beside : {read : List ℕ → Option Header} {q : ℕ} {d : Part} → LinkedPart read s t q d → HasLength s.objects d.object
   part_beside l = let i = part-inside o.reads.sounds l in (i.row, i.ordered)
 
-  same_size : {read : List ℕ → Reading} {q : ℕ} {d : Part} → LinkedPart read s t q d → (info_of s.objects t p d.object).beside ≡ size_of s (linked_at s t q)
+  same_size : {read : List ℕ → Option Header} {q : ℕ} {d : Part} → LinkedPart read s t q d
+      → (info_of s.objects t p d.object).beside ≡ size_of s (linked_at s t q)
   same_size l = ap (size_of s) l.linked
 
   same_count : p.layout.count ≡ (shape s t).count
@@ -53,7 +55,8 @@ module _ {s : Store} {t : ℕ} {p : PairTable} (o : Opens s t p) where
   -- the marks from 2 on are enough
   info_described : (c : ℕ) → (shape s t).count < 16777216 → Described s (info_of s.objects t p c)
   unfolding layout_of
-  info_described c few = described o.reads (ap (λ (x : Layout). x.header) o.layout) (ap (λ (x : Layout). x.item) o.layout) same_count (omega (arith, same_count))
+  info_described c few =
+      described o.reads (ap (λ (x : Layout). x.header) o.layout) (ap (λ (x : Layout). x.item) o.layout) same_count (omega (arith, same_count))
 
   pub header_small : p.layout.header ≤ 16777216
   unfolding layout_of
@@ -101,7 +104,8 @@ module _ {s : Store} {t : ℕ} {p : PairTable} {w cuts : List ℕ} (k : Looked1 
     pub sets_ready : Ready1 s x w cuts
     sets_ready = subst (λ (y : TableInfo). Ready1 s y w cuts) (sym e) ready1
 
-    pub sets_placed : (how : Settings) {cuts' : List ℕ} {r : ℕ} → (Ready1 s x w cuts → Placed (cut_places how s x.table) cuts cuts' r) → Placed (cut_places how s t) cuts cuts' r
+    pub sets_placed : (how : Settings) {cuts' : List ℕ} {r : ℕ} → (Ready1 s x w cuts → Placed (cut_places how s x.table) cuts cuts' r)
+        → Placed (cut_places how s t) cuts cuts' r
     sets_placed how {cuts'} {r} f = subst (λ (y : TableInfo). Placed (cut_places how s y.table) cuts cuts' r) e (f sets_ready)
 
     pub sets_tell_lem : {w' : List ℕ} → (Ready1 s x w cuts → TellsCycle s x.table w') → TellsCycle s t w'
@@ -111,7 +115,10 @@ module _ {s : Store} {t : ℕ} {p : PairTable} {w cuts : List ℕ} (k : Looked1 
 
 -- zeros are the empty set
 zeros_empty : (n : ℕ) → Empty (replicate n 0)
-zeros_empty n i = ⊎_elim (λ lt. get_or-replicate {A = ℕ} n i 0 0 lt) (λ ge. get_or-eq_default {A = ℕ} (replicate n 0) 0 {n = i} (omega (arith, length-replicate {A = ℕ} n 0))) (either i n)
+zeros_empty n i =
+    ⊎_elim (λ lt. get_or-replicate {A = ℕ} n i 0 0 lt)
+    (λ ge. get_or-eq_default {A = ℕ} (replicate n 0) 0 {n = i} (omega (arith, length-replicate {A = ℕ} n 0)))
+    (either i n)
 
 module _ {s : Store} {t : ℕ} {p : PairTable} {gs ks w set cuts : List ℕ} (k : Looked2 s t p gs ks w set cuts) where
   pub class2_beside : HasLength s.objects p.class2.object
@@ -122,7 +129,12 @@ module _ {s : Store} {t : ℕ} {p : PairTable} {gs ks w set cuts : List ℕ} (k 
       let o = k.walked.opens in
       let e = format_two o k.two in
       record {
-        table = record { described = info_described o p.class2.object (rows_few o k.octets); format = e; class2 = same_size o (o.class2 e); ordered = k.ordered };
+        table = record {
+          described = info_described o p.class2.object (rows_few o k.octets);
+          format = e;
+          class2 = same_size o (o.class2 e);
+          ordered = k.ordered;
+        };
         unseen = walked_unseen p.class2.object k.walked;
         long = omega (arith, length-replicate {A = ℕ} (length set) 0, k.long);
         empty = zeros_empty (length set);
@@ -130,9 +142,12 @@ module _ {s : Store} {t : ℕ} {p : PairTable} {gs ks w set cuts : List ℕ} (k 
 
   module _ {x : TableInfo} (e : x ≡ info_of s.objects t p p.class2.object) {set' : List ℕ} (z : set' ≡ replicate (length set) 0) where
     pub rows_ready : Ready2 s x gs ks w set' cuts
-    rows_ready = subst (λ (y : TableInfo). Ready2 s y gs ks w set' cuts) (sym e) (subst (λ (y : List ℕ). Ready2 s (info_of s.objects t p p.class2.object) gs ks w y cuts) (sym z) ready2)
+    rows_ready =
+        subst (λ (y : TableInfo). Ready2 s y gs ks w set' cuts) (sym e)
+        (subst (λ (y : List ℕ). Ready2 s (info_of s.objects t p p.class2.object) gs ks w y cuts) (sym z) ready2)
 
-    pub rows_placed : (how : Settings) {cuts' : List ℕ} {r : ℕ} → (Ready2 s x gs ks w set' cuts → Placed (cut_places how s x.table) cuts cuts' r) → Placed (cut_places how s t) cuts cuts' r
+    pub rows_placed : (how : Settings) {cuts' : List ℕ} {r : ℕ} → (Ready2 s x gs ks w set' cuts → Placed (cut_places how s x.table) cuts cuts' r)
+        → Placed (cut_places how s t) cuts cuts' r
     rows_placed how {cuts'} {r} f = subst (λ (y : TableInfo). Placed (cut_places how s y.table) cuts cuts' r) e (f rows_ready)
 
     pub rows_tell : {w' : List ℕ} → (Ready2 s x gs ks w set' cuts → TellsCycle s x.table w') → TellsCycle s t w'

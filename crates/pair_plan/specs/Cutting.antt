@@ -23,7 +23,14 @@ HasLength o c = (2 * c + 1 < length o) × (get_or o (2 * c) 0 ≤ get_or o (2 * 
 -- the table's own numbers, the length of object c, and the marks from 2 on
 abbrev pub info_of : List ℕ → ℕ → PairTable → ℕ → TableInfo
 info_of o t p c =
-    record { table = t; header = p.layout.header; item = p.layout.item; count = p.layout.count; beside = get_or o (2 * c + 1) 0 - get_or o (2 * c) 0; epoch = 2 }
+    record {
+      table = t;
+      header = p.layout.header;
+      item = p.layout.item;
+      count = p.layout.count;
+      beside = get_or o (2 * c + 1) 0 - get_or o (2 * c) 0;
+      epoch = 2;
+    }
 
 -- ---- format 1
 
@@ -70,7 +77,8 @@ pub record Looked2 (s : Store) (t : ℕ) (p : PairTable) (gs ks w set cuts : Lis
 
 -- its places are found, whatever the bytes of the store
 abbrev pub CutsRows : Settings → List ℕ → List ℕ → List ℕ → ℕ → PairTable → List ℕ → List ℕ → List ℕ → List ℕ → List ℕ → List ℕ → ℕ → Type 0
-CutsRows how o l c t p gs ks w set cuts cuts' r = (b : List ℕ) → Looked2 (lent b o l c) t p gs ks w set cuts → Placed (cut_places how (lent b o l c) t) cuts cuts' r
+CutsRows how o l c t p gs ks w set cuts cuts' r =
+    (b : List ℕ) → Looked2 (lent b o l c) t p gs ks w set cuts → Placed (cut_places how (lent b o l c) t) cuts cuts' r
 
 -- and the walk tells of a cycle
 abbrev pub RowsTell : List ℕ → List ℕ → List ℕ → ℕ → PairTable → List ℕ → List ℕ → List ℕ → List ℕ → List ℕ → List ℕ → Type 0

@@ -5,9 +5,9 @@ ghost use Rattle.store_rules.specs.Store.{lent};
 ghost use Rattle.pair_items.specs.Filled.{TellsCycle};
 ghost use Rattle.folds.specs.Moments.{came, left};
 ghost use Rattle.store_rules.specs.Moments.{store_came_with, store_now_with};
-ghost use Rattle.pair_plan.specs.Cutting.{Gathering, Gathers, HasLength, info_of, Looked1, CutsSets, SetsTell, Looked2, CutsRows, RowsTell, Looked, CutsByClass, CutsTable};
+ghost use Rattle.pair_plan.specs.Cutting.{Gathering, Gathers, HasLength, info_of, Looked1, CutsSets, SetsTell};
+ghost use Rattle.pair_plan.specs.Cutting.{Looked2, CutsRows, RowsTell, Looked, CutsByClass, CutsTable};
 
-use buffers::clear_u8;
 use call_rules::Settings;
 use glyph_by_class::order_by_class;
 use ot_class_def_reader::classes_into;
@@ -108,7 +108,7 @@ fn cut_rows(
 {
     let class2 = opened.class2;
     let info = info_of(objects, table, opened, class2.object);
-    clear_u8(glyph_set);
+    glyph_set.fill(0);
     compute_format2_split_points(
         objects, links, counts, info, settings, glyphs, classes, walk, glyph_set, cuts,
     )

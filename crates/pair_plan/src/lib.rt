@@ -4,7 +4,7 @@
 
 pub mod cutting;
 
-ghost use Rattle.std.specs.Prelude.{◌≡◌, true, ◌<◌, length};
+ghost use Rattle.std.specs.Prelude.{◌≡◌, true, ◌<◌, length, Ok};
 ghost use Rattle.call_rules.specs.Outcomes.{outcome};
 ghost use Rattle.call_rules.specs.Settings.{known};
 ghost use Rattle.pair_rules.specs.Calls.{plan_call};
@@ -13,36 +13,21 @@ ghost use Rattle.folds.specs.Moments.{came, left};
 ghost use Rattle.store_rules.specs.Store.{sound};
 ghost use Rattle.store_rules.specs.Moments.{store_came_with, store_now_with};
 ghost use Rattle.call_rules.specs.Moments.{scratch_came, scratch_left, scratch_now};
-ghost use Rattle.pair_checks.specs.Checked.{checked_as};
+ghost use Rattle.call_rules.specs.Answers.{numbered};
 ghost use Rattle.pair_checks.specs.Called.{called_of};
 ghost use Rattle.pair_checks.specs.Opens.{Opens};
 ghost use Rattle.pair_items.specs.Filled.{TellsCycle};
-ghost use Rattle.call_lists.specs.Handed.{handed, handed_by};
-ghost use Rattle.pair_plan.specs.Decided.{settled_by, decided_as, Decided, planned_cuts, HandingOut};
+ghost use Rattle.pair_plan.specs.Decided.{settled_by, Decided};
 
-use call_lists::list_places;
-use call_rules::{Answer, Lengths, Settings, is_known, number_of};
+use call_lists::{Plan, hand_out};
+use call_rules::{Answer, Lengths, Settings, give_out, is_known};
 use call_scratch::clear_scratch;
 use cutting::cut_table;
+use pair_checks::PairTable;
 use pair_checks::call::check_call;
-use pair_checks::{Checked, PairTable};
 use pair_sets::linked::sets_sorted;
 use store_reader::is_sound;
 use store_walk::begin_walk;
-
-// A table that is not refused, and how many cuts it gets; they stand at the front of the scratch.
-#[derive(Clone, Copy)]
-pub struct Plan {
-    pub table: PairTable,
-    pub cuts: usize,
-}
-
-// What is decided: cuts, or the call has its answer, which for a table of another format is 0.
-#[derive(Clone, Copy)]
-pub enum Decision {
-    Cut(Plan),
-    Settled(Answer),
-}
 
 // The rest of check 7, and check 11. What has found the places has walked all that the table leads to, and the walk tells of a cycle; after that its
 // scratch serves to look at each pair set once.
@@ -52,22 +37,22 @@ fn settle_cuts(
     links: &[u32],
     counts: [u32; 3],
     table: u32,
-    plan: Plan,
+    plan: Plan<PairTable>,
     walk: &mut [u32],
-) -> Decision
+) -> Result<Plan<PairTable>, Answer>
     requires opens { Opens (store_now_with «data» objects links counts) table plan.table }
     requires tells_cycle { TellsCycle (store_now_with «data» objects links counts) table walk.old × (table < length walk.old) }
     ensures { result ≡ settled_by (store_came_with «data» objects links counts) table plan }
 {
     if walk[table as usize] != 0 {
-        return Decision::Settled(Answer::BadLinks);
+        return Err(Answer::BadLinks);
     }
     let opened = plan.table;
     let layout = opened.layout;
     if !sets_sorted(data, objects, links, counts, table, layout, walk) {
-        return Decision::Settled(Answer::UnsortedSets);
+        return Err(Answer::UnsortedSets);
     }
-    Decision::Cut(plan)
+    Ok(plan)
 }
 
 // The cut places, and what is asked once they are found. The scratch may hold anything.
@@ -84,10 +69,10 @@ pub fn decide_cuts(
     glyphs: &mut [u16],
     classes: &mut [u16],
     cuts: &mut [u16],
-) -> Decision
+) -> Result<Plan<PairTable>, Answer>
     requires settings_value { known settings ≡ true }
-    requires cuts_value { called_of (store_now_with «data» objects links counts) table (lengths_of (scratch_now walk glyph_set glyphs classes cuts)) ≡ checked_as
-        (Checked.Open opened) }
+    requires cuts_value { called_of (store_now_with «data» objects links counts) table (lengths_of (scratch_now walk glyph_set glyphs classes cuts)) ≡ numbered
+        (Ok opened) }
     ensures { Decided settings (store_came_with «data» objects links counts) table (scratch_came walk glyph_set glyphs classes cuts) result
         (left glyphs) (left classes) (left cuts) }
 {
@@ -117,27 +102,18 @@ pub fn decide_sound(
     glyphs: &mut [u16],
     classes: &mut [u16],
     cuts: &mut [u16],
-) -> Decision
+) -> Result<Plan<PairTable>, Answer>
     requires settings_value { known settings ≡ true }
     requires counts_value { sound (store_now_with «data» objects links counts) ≡ true }
     ensures { Decided settings (store_came_with «data» objects links counts) table (scratch_came walk glyph_set glyphs classes cuts) result
         (left glyphs) (left classes) (left cuts) }
 {
-    let lengths = Lengths {
-        walk: walk.len(),
-        glyph_set: glyph_set.len(),
-        glyphs: glyphs.len(),
-        classes: classes.len(),
-        cuts: cuts.len(),
-    };
-    let checked = check_call(data, objects, links, counts, table, lengths);
-    match checked {
-        Checked::Settled(answer) => Decision::Settled(answer),
-        Checked::Open(opened) => decide_cuts(
-            data, objects, links, counts, table, settings, opened, walk, glyph_set, glyphs,
-            classes, cuts,
-        ),
-    }
+    let lengths = Lengths::of(walk, glyph_set, glyphs, classes, cuts);
+    let opened = check_call(data, objects, links, counts, table, lengths)?;
+    decide_cuts(
+        data, objects, links, counts, table, settings, opened, walk, glyph_set, glyphs, classes,
+        cuts,
+    )
 }
 
 // Decides for a table of any store, with any scratch.
@@ -153,36 +129,19 @@ pub fn decide(
     glyphs: &mut [u16],
     classes: &mut [u16],
     cuts: &mut [u16],
-) -> Decision
+) -> Result<Plan<PairTable>, Answer>
     ensures { Decided settings (store_came_with «data» objects links counts) table (scratch_came walk glyph_set glyphs classes cuts) result
         (left glyphs) (left classes) (left cuts) }
 {
     if !is_known(settings) {
-        return Decision::Settled(Answer::BadEdition);
+        return Err(Answer::BadEdition);
     }
     if !is_sound(data, objects, links, counts) {
-        return Decision::Settled(Answer::Unsound);
+        return Err(Answer::Unsound);
     }
     decide_sound(
         data, objects, links, counts, table, settings, walk, glyph_set, glyphs, classes, cuts,
     )
-}
-
-// Hands out what was decided: the answer, and where it is 0 the places and their count.
-fn hand_out(decision: Decision, cuts: &[u16], places: &mut [u16], place_count: &mut u32) -> u32
-    requires { HandingOut decision cuts.now }
-    ensures { handed result (left place_count) (left places) ≡ handed_by (decided_as decision) (planned_cuts decision cuts.now) (came places) }
-{
-    match decision {
-        Decision::Settled(answer) => {
-            *place_count = 0;
-            number_of(answer)
-        }
-        Decision::Cut(plan) => {
-            let count = plan.cuts;
-            list_places(&cuts[0..count], places, place_count)
-        }
-    }
 }
 
 // The cut places of a table of any store, in `places`, and how many there are. Scratch is zero after it.
@@ -208,7 +167,7 @@ pub fn cut_plan(
     let decision = decide(
         data, objects, links, counts, table, settings, walk, glyph_set, glyphs, classes, cuts,
     );
-    let answer = hand_out(decision, cuts, places, place_count);
+    let listed = hand_out(decision, cuts, places);
     clear_scratch(walk, glyph_set, glyphs, classes, cuts);
-    answer
+    give_out(listed, place_count)
 }

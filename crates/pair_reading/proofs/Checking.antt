@@ -1,24 +1,22 @@
 -- 11 behind 1 to 5: what the checks of a pair reading say, and what is known of a table that they open. Assumes nothing.
+use Rattle.std.specs.Prelude.{Option, Some, None, Err, Ok, Result}
 use Prim.Native.Nat.{ℕ}
 use mathlib.Core.Path.{◌≡◌, refl, sym, ap, ◌∙◌}
 use mathlib.Core.Bool.{Bool, true, false, cond, not}
 use mathlib.Core.List.{[], ◌∷◌}
 use mathlib.Core.Logic.{◌⊎◌, inl, inr}
-use mathlib.Core.Option.{Option, some, none}
 use native.Mathlib.Omega.{arith}
 use borrow.Author.Tests.{not-true, not-false}
 use Rattle.folds.specs.Folds.{or_else}
 use Rattle.call_rules.specs.declared.Answer.{Answer}
 use Rattle.call_rules.specs.declared.Answer.TheVariants.{UnsortedSets}
-use Rattle.call_rules.specs.Answers.{number, first_case}
+use Rattle.call_rules.specs.Answers.{number, first_case, numbered}
 use Rattle.call_rules.proofs.Cases.{first_either}
 use Rattle.store_rules.specs.Store.{Store}
 use Rattle.pair_rules.specs.Table.{sets_sorted}
 use Rattle.pair_rules.specs.Calls.{read_cases, unsorted_case, pair_cases}
 use Rattle.pair_checks.specs.declared.PairTable.{PairTable}
-use Rattle.pair_checks.specs.declared.Checked.{Checked}
-use Rattle.pair_checks.specs.declared.Checked.TheVariants.{Open, Settled}
-use Rattle.pair_checks.specs.Checked.{checked_as, checked_of, settled_as}
+use Rattle.pair_checks.specs.Checked.{checked_of, settled_as}
 use Rattle.pair_checks.proofs.Refusals.{refusals}
 use Rattle.pair_reading.specs.Reading.{sorted_by, pair_checked}
 
@@ -30,7 +28,7 @@ module _ (s : Store) (t : ℕ) where
   last (inl n) = refl
   last (inr p) = go (sets_sorted s t)
     where
-      go : (b : Bool) → cond (not b) (some (number UnsortedSets)) none ≡ settled_as (cond b (inr p) (inl (number UnsortedSets)))
+      go : (b : Bool) → cond (not b) (Some (number UnsortedSets)) None ≡ settled_as (cond b (inr p) (inl (number UnsortedSets)))
       go true = refl
       go false = refl
 
@@ -43,22 +41,22 @@ module _ (s : Store) (t : ℕ) where
 
   -- ---- what the code finds
 
-  pub still_settled : {x : Checked} {a : Answer} → checked_as x ≡ checked_of s t → x ≡ Settled a → checked_as (Settled a) ≡ pair_checked s t
+  pub still_settled : {x : Result PairTable Answer} {a : Answer} → numbered x ≡ checked_of s t → x ≡ Err a → numbered (Err a) ≡ pair_checked s t
   unfolding pair_checked
-  still_settled e y = ap (sorted_by s t) (sym (ap checked_as y) ∙ e)
+  still_settled e y = ap (sorted_by s t) (sym (ap numbered y) ∙ e)
 
-  module _ {p : PairTable} (e : checked_of s t ≡ checked_as (Open p)) {x : Bool} (f : x ≡ sets_sorted s t) where
-    pub not_sorted : not x ≡ true → checked_as (Settled UnsortedSets) ≡ pair_checked s t
+  module _ {p : PairTable} (e : checked_of s t ≡ numbered (Ok p)) {x : Bool} (f : x ≡ sets_sorted s t) where
+    pub not_sorted : not x ≡ true → numbered (Err UnsortedSets) ≡ pair_checked s t
     unfolding pair_checked
     not_sorted h = rw (e, sym f ∙ not-true x h)
 
-    pub all_sorted : not x ≡ false → checked_as (Open p) ≡ pair_checked s t
+    pub all_sorted : not x ≡ false → numbered (Ok p) ≡ pair_checked s t
     unfolding pair_checked
     all_sorted h = rw (e, sym f ∙ not-false x h)
 
   -- ---- a table that is open
 
-  pub is_open : {p : PairTable} → pair_checked s t ≡ checked_as (Open p) → (checked_of s t ≡ checked_as (Open p)) × (sets_sorted s t ≡ true)
+  pub is_open : {p : PairTable} → pair_checked s t ≡ numbered (Ok p) → (checked_of s t ≡ numbered (Ok p)) × (sets_sorted s t ≡ true)
   unfolding pair_checked
   is_open {p} h = go (checked_of s t) h
     where

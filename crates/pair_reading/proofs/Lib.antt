@@ -1,2 +1,3 @@
 mod Checking
 mod Answering
+mod Halves

@@ -1,20 +1,21 @@
 // The pair reading: what a table says of two glyphs, or the first of the checks 1 to 5 and 11 that refuses it.
 #![tactic(auto)]
 
-ghost use Rattle.std.specs.Prelude.{◌≡◌, true, ◌++◌};
+ghost use Rattle.std.specs.Prelude.{◌≡◌, true, ◌++◌, Ok};
 ghost use Rattle.pair_rules.specs.Table.{sets_sorted};
 ghost use Rattle.pair_rules.specs.Pairs.{no_pair, pair_of};
 ghost use Rattle.pair_rules.specs.Calls.{reported, pair_call};
-ghost use Rattle.pair_checks.specs.Checked.{checked_as, checked_of};
+ghost use Rattle.call_rules.specs.Answers.{numbered};
+ghost use Rattle.pair_checks.specs.Checked.{checked_of};
 ghost use Rattle.folds.specs.Moments.{left};
 ghost use Rattle.store_rules.specs.Moments.{store_came_with, store_now_with};
 ghost use Rattle.pair_values.specs.Values.{as_pair};
 ghost use Rattle.pair_reading.specs.Reading.{pair_outcome, pair_checked};
 
-use call_rules::{Answer, number_of};
-use pair_checks::{Checked, PairTable, check_table};
+use call_rules::Answer;
+use pair_checks::{PairTable, check_table};
 use pair_sets::linked::sets_sorted;
-use pair_spots::{Spot, spot_of};
+use pair_spots::spot_of;
 use pair_values::{PairAnswer, pair_at};
 
 // No pair: sixteen zeros.
@@ -39,16 +40,16 @@ fn pair_of(
     first: u16,
     second: u16,
 ) -> PairAnswer
-    requires table_value { checked_of (store_now_with «data» objects links counts) table ≡ checked_as (Checked.Open opened) }
+    requires table_value { checked_of (store_now_with «data» objects links counts) table ≡ numbered (Ok opened) }
     requires table_value_2 { sets_sorted (store_now_with «data» objects links counts) table ≡ true }
     ensures { as_pair result ≡ pair_of (store_came_with «data» objects links counts) table first second }
 {
     let spot = spot_of(data, objects, links, counts, table, opened, first, second);
-    let Spot::At { object, at } = spot else {
+    let Some(spot) = spot else {
         return no_pair();
     };
     let layout = opened.layout;
-    pair_at(data, objects, links, counts, layout, object, at)
+    pair_at(data, objects, links, counts, layout, spot.object, spot.at)
 }
 
 // Eight numbers, and eight more behind them.
@@ -56,16 +57,8 @@ fn both(first: [i32; 8], second: [i32; 8]) -> [i32; 16]
     ensures { result ≡ first ++ second }
 {
     let mut numbers = [0i32; 16];
-    let mut j: usize = 0;
-    while j < 16 {
-        if j < 8 {
-            numbers[j] = first[j];
-            j += 1;
-        } else {
-            numbers[j] = second[j - 8];
-            j += 1;
-        }
-    }
+    numbers[..8].copy_from_slice(&first);
+    numbers[8..].copy_from_slice(&second);
     numbers
 }
 
@@ -92,27 +85,30 @@ fn check_sorted(
     counts: [u32; 3],
     table: u32,
     opened: PairTable,
-) -> Checked
-    requires { checked_of (store_now_with «data» objects links counts) table ≡ checked_as (Checked.Open opened) }
-    ensures { checked_as result ≡ pair_checked (store_came_with «data» objects links counts) table }
+) -> Result<PairTable, Answer>
+    requires { checked_of (store_now_with «data» objects links counts) table ≡ numbered (Ok opened) }
+    ensures { numbered result ≡ pair_checked (store_came_with «data» objects links counts) table }
 {
     let layout = opened.layout;
     let mut seen = [0u32; 64];
     if !sets_sorted(data, objects, links, counts, table, layout, &mut seen) {
-        return Checked::Settled(Answer::UnsortedSets);
+        return Err(Answer::UnsortedSets);
     }
-    Checked::Open(opened)
+    Ok(opened)
 }
 
 // The checks 1 to 5, and 11.
-fn check_pairs(data: &[u8], objects: &[u32], links: &[u32], counts: [u32; 3], table: u32) -> Checked
-    ensures { checked_as result ≡ pair_checked (store_came_with «data» objects links counts) table }
+fn check_pairs(
+    data: &[u8],
+    objects: &[u32],
+    links: &[u32],
+    counts: [u32; 3],
+    table: u32,
+) -> Result<PairTable, Answer>
+    ensures { numbered result ≡ pair_checked (store_came_with «data» objects links counts) table }
 {
-    let checked = check_table(data, objects, links, counts, table);
-    match checked {
-        Checked::Settled(answer) => Checked::Settled(answer),
-        Checked::Open(opened) => check_sorted(data, objects, links, counts, table, opened),
-    }
+    let opened = check_table(data, objects, links, counts, table)?;
+    check_sorted(data, objects, links, counts, table, opened)
 }
 
 // Reads the pair of two glyphs by a table of any store: the answer, whether there is a pair, and the sixteen numbers.
@@ -131,8 +127,8 @@ pub fn read_pair(
 {
     let checked = check_pairs(data, objects, links, counts, table);
     match checked {
-        Checked::Settled(answer) => report(number_of(answer), no_pair(), values, found),
-        Checked::Open(opened) => {
+        Err(answer) => report(u32::from(answer), no_pair(), values, found),
+        Ok(opened) => {
             let pair = pair_of(data, objects, links, counts, table, opened, first, second);
             report(0, pair, values, found)
         }

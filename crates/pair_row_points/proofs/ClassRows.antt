@@ -41,7 +41,8 @@ use Rattle.pair_items.proofs.Turns.{item_ends, filled_start, at_start, filled_st
 -- ---- the rule of a table of format 2
 
 module _ (how : Settings) (s : Store) (t : ℕ) (two : eqb (shape s t).format 1 ≡ false) where
-  rule_two_lem : rule_of how s t ≡ rule2 how (shape s t).count (shape s t).item (item_size s (of_items t (shape s t))) (entries_of s t) (size_of s (linked_at s t 10))
+  rule_two_lem : rule_of how s t ≡ rule2 how (shape s t).count (shape s t).item (item_size s (of_items t (shape s t))) (entries_of s t)
+      (size_of s (linked_at s t 10))
   unfolding rule_of
   rule_two_lem = rw two
 
@@ -62,7 +63,8 @@ module _ (how : Settings) (s : Store) (t : ℕ) (two : eqb (shape s t).format 1 
   beside_two a i = ap (λ (r : Rule). r.beside a i) rule_two_lem
 
   -- at a cut
-  cut_cost_two : (i before : ℕ) → cost_at_cut (rule_of how s t) i ((shape s t).item + before) ≡ (shape s t).item + cond (second how.edition) (item_size s (of_items t (shape s t)) i i) before
+  cut_cost_two : (i before : ℕ) → cost_at_cut (rule_of how s t) i ((shape s t).item + before)
+      ≡ (shape s t).item + cond (second how.edition) (item_size s (of_items t (shape s t)) i i) before
   unfolding cost_at_cut
   cut_cost_two i before =
       ap (λ (e : ℕ). cond (second e) ((rule_of how s t).cost i i) ((shape s t).item + before)) (rule_edition how s t)
@@ -87,11 +89,17 @@ unfolding beside_rows
 beside_most e class2 h l =
     let a = min-first (4 + 2 * e.glyphs) (4 + 6 * e.runs) in
     let b = min-first e.listed e.ranged in
-    omega (arith, less (cover_size (values_of e) + class_size (values_of e) + class2) (max (cover_size (values_of e)) (max (class_size (values_of e)) class2)), h.glyphs, h.listed)
+    omega (
+      arith,
+      less (cover_size (values_of e) + class_size (values_of e) + class2) (max (cover_size (values_of e)) (max (class_size (values_of e)) class2)),
+      h.glyphs,
+      h.listed,
+    )
 
 -- ---- one row after another
 
-pub rows_start : (how : Settings) {s : Store} {x : TableInfo} {gs cs w set l : List ℕ} → Ready2 s x gs cs w set l → {f : Filling} {row : ℕ} → ((r : Rule) → r.start ≡ 16 → Fills f (after r 0)) → FirstRow s.links s.link_count (key_of x.table 16) row
+pub rows_start : (how : Settings) {s : Store} {x : TableInfo} {gs cs w set l : List ℕ} → Ready2 s x gs cs w set l → {f : Filling} {row : ℕ}
+    → ((r : Rule) → r.start ≡ 16 → Fills f (after r 0)) → FirstRow s.links s.link_count (key_of x.table 16) row
     → {k : Classes} → Begins k → Below2 how s x gs cs l 0 (record { filling = f; row = row; classes = k }) w set l
 unfolding after
 rows_start how {s} {x} v a g z =
@@ -105,7 +113,8 @@ rows_start how {s} {x} v a g z =
       held = z _ _ _ _ v.table.ordered v.empty v.long;
     }
 
-module _ {how : Settings} {s : Store} {x : TableInfo} {gs cs d : List ℕ} {i : ℕ} {p : Rows} {w set l : List ℕ} (v : Below2 how s x gs cs d i p w set l) (inside : i < x.count) where
+module _ {how : Settings} {s : Store} {x : TableInfo} {gs cs d : List ℕ} {i : ℕ} {p : Rows} {w set l : List ℕ} (v : Below2 how s x gs cs d i p w set l)
+    (inside : i < x.count) where
   abbrev rule : Rule
   rule = rule_of how s x.table
 
@@ -120,7 +129,8 @@ module _ {how : Settings} {s : Store} {x : TableInfo} {gs cs d : List ℕ} {i : 
 
   module _ {m : Measured} {w' : List ℕ} (y : Measures s x.table (shape s x.table) (cutting_at how s x i).seen i p.row (x.epoch + p.filling.cuts) w m w')
       {k : Classes} {set' : List ℕ} (h : Holds (entries_of s x.table) gs (cutting_at how s x i).first (i + 1) k set')
-      {beside : ℕ} (stands : beside ≡ beside_rows x.beside (values_of k.estimator)) {b : Bool} (weighs : IsDue p.filling i (x.item + m.size) beside how.edition b) where
+      {beside : ℕ} (stands : beside ≡ beside_rows x.beside (values_of k.estimator)) {b : Bool}
+      (weighs : IsDue p.filling i (x.item + m.size) beside how.edition b) where
     looks : looks_at rule i ≡ true
     looks = looks_two how s x.table v.table.format i
 
@@ -141,14 +151,19 @@ module _ {how : Settings} {s : Store} {x : TableInfo} {gs cs d : List ℕ} {i : 
     starts = start_two how s x.table v.table.format
 
     -- no cut
-    pub row_added : b ≡ false → {f' : Filling} → ItemAdded p.filling (x.item + m.size) f' → Below2 how s x gs cs d (i + 1) (record { filling = f'; row = m.next; classes = k }) w' set' l
+    pub row_added : b ≡ false → {f' : Filling} → ItemAdded p.filling (x.item + m.size) f'
+        → Below2 how s x gs cs d (i + 1) (record { filling = f'; row = m.next; classes = k }) w' set' l
     row_added stays g =
-        let (f, a, q) = added how s x v.filled y looks (x.item + m.size) costs (is_due_lem ∙ stays) (omega (arith, row_most, y.most, starts)) (g (cutting_at how s x i) d l v.filled.listed) in
+        let (f, a, q) =
+        added how s x v.filled y looks (x.item + m.size) costs (is_due_lem ∙ stays) (omega (arith, row_most, y.most, starts))
+        (g (cutting_at how s x i) d l v.filled.listed) in
         record { table = v.table; filled = f; at = a; held = subst (λ (n : ℕ). Holds (entries_of s x.table) gs n (i + 1) k set') (sym q) h }
 
     -- a cut
-    pub row_cut : b ≡ true → {size : ℕ} {w'' : List ℕ} → Restarts s x.table (shape s x.table) i m.next how.edition (x.epoch + p.filling.cuts + 1) m.size size w''
-        → {f' : Filling} {l' : List ℕ} → Cut p.filling i (x.item + size) 16 l f' l' → {k' : Classes} {set'' : List ℕ} → Holds (entries_of s x.table) gs i (i + 1) k' set''
+    pub row_cut : b ≡ true → {size : ℕ} {w'' : List ℕ}
+        → Restarts s x.table (shape s x.table) i m.next how.edition (x.epoch + p.filling.cuts + 1) m.size size w''
+        → {f' : Filling} {l' : List ℕ} → Cut p.filling i (x.item + size) 16 l f' l' → {k' : Classes} {set'' : List ℕ}
+        → Holds (entries_of s x.table) gs i (i + 1) k' set''
         → Below2 how s x gs cs d (i + 1) (record { filling = f'; row = m.next; classes = k' }) w'' set'' l'
     row_cut due-now {size} z g {k'} {set''} h' =
         let item : x.item ≡ (shape s x.table).item = v.table.described.item in
@@ -158,7 +173,8 @@ module _ {how : Settings} {s : Store} {x : TableInfo} {gs cs d : List ℕ} {i : 
         (g rule (cutting_at how s x i) d (x.item + m.size) starts at_cut v.filled.listed) z in
         record { table = v.table; filled = f; at = a; held = subst (λ (n : ℕ). Holds (entries_of s x.table) gs n (i + 1) k' set'') (sym q) h' }
 
-module _ {how : Settings} {s : Store} {x : TableInfo} {gs cs d : List ℕ} {i : ℕ} {p : Rows} {w set l : List ℕ} (v : Below2 how s x gs cs d i p w set l) (e : i ≡ x.count) where
+module _ {how : Settings} {s : Store} {x : TableInfo} {gs cs d : List ℕ} {i : ℕ} {p : Rows} {w set l : List ℕ} (v : Below2 how s x gs cs d i p w set l)
+    (e : i ≡ x.count) where
   pub rows_stop : Placed (cut_places how s x.table) d l p.filling.cuts
   rows_stop = filled_stop v.table.described e p.filling how v.filled
 

@@ -33,13 +33,15 @@ pub record Below2 (how : Settings) (s : Store) (x : TableInfo) (gs cs d : List �
   pub held : Holds (entries_of s x.table) gs (cutting_at how s x i).first i p.classes set
 
 -- row i was weighed, whatever the bytes of the store
-abbrev pub Weighs2 : Settings → List ℕ → List ℕ → List ℕ → TableInfo → List ℕ → List ℕ → ℕ → Rows → List ℕ → List ℕ → List ℕ → Rows → List ℕ → List ℕ → List ℕ → Type 0
+abbrev pub Weighs2 : Settings → List ℕ → List ℕ → List ℕ → TableInfo → List ℕ → List ℕ → ℕ → Rows → List ℕ → List ℕ → List ℕ → Rows → List ℕ → List ℕ
+    → List ℕ → Type 0
 Weighs2 how o l c x gs cs i p w set cuts p' w' set' cuts' =
     (b d : List ℕ) → Below2 how (lent b o l c) x gs cs d i p w set cuts → Below2 how (lent b o l c) x gs cs d (i + 1) p' w' set' cuts'
 
 -- all were
 abbrev pub Places2 : Settings → List ℕ → List ℕ → List ℕ → TableInfo → List ℕ → List ℕ → List ℕ → List ℕ → List ℕ → List ℕ → ℕ → Type 0
-Places2 how o l c x gs cs w set cuts cuts' r = (b : List ℕ) → Ready2 (lent b o l c) x gs cs w set cuts → Placed (cut_places how (lent b o l c) x.table) cuts cuts' r
+Places2 how o l c x gs cs w set cuts cuts' r =
+    (b : List ℕ) → Ready2 (lent b o l c) x gs cs w set cuts → Placed (cut_places how (lent b o l c) x.table) cuts cuts' r
 
 -- and then the walk tells of a cycle
 abbrev pub Tells2 : List ℕ → List ℕ → List ℕ → TableInfo → List ℕ → List ℕ → List ℕ → List ℕ → List ℕ → List ℕ → Type 0

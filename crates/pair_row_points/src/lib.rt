@@ -45,12 +45,10 @@ pub fn compute_format2_split_points(
         row: first_row(links, count, info.table, 16),
         classes: Classes::new(),
     };
-    let mut i: u16 = 0;
-    while i < info.count {
+    for i in 0..info.count {
         rows = weigh_row(
             objects, links, counts, info, settings, rows, i, glyphs, classes, walk, set, cuts,
         );
-        i += 1;
     }
     rows.filling.cuts
 }

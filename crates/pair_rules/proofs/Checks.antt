@@ -1,8 +1,8 @@
 -- What is known of a table once the checks of a reading are passed. Assumes nothing.
+use Rattle.std.specs.Prelude.{Some, None}
 use Prim.Native.Nat.{ℕ, ◌<◌}
 use mathlib.Core.Path.{◌≡◌}
 use mathlib.Core.Bool.{true, false, ◌&&◌}
-use mathlib.Core.Option.{some, none}
 use lib.ListN.{length}
 use lib.Dec.{eqb}
 use borrow.Author.Tests.{not-false, leb-false, ltb-false, eqb-true, lt-leb, le-ltb, eq-eqb}
@@ -28,7 +28,7 @@ use Rattle.pair_rules.specs.Reads.{Reads}
 
 -- ---- 1 to 5
 
-pub no_case_reads : (s : Store) (t : ℕ) → first_case (read_cases s t) ≡ none → Reads s t
+pub no_case_reads : (s : Store) (t : ℕ) → first_case (read_cases s t) ≡ None → Reads s t
 unfolding read_cases exact
 no_case_reads s t h =
     let (a1, h1) = first_head _ _ h in
@@ -48,7 +48,7 @@ no_case_reads s t h =
       enough = a7;
     }
 
-pub reads_no_case : (s : Store) (t : ℕ) → Reads s t → first_case (read_cases s t) ≡ none
+pub reads_no_case : (s : Store) (t : ℕ) → Reads s t → first_case (read_cases s t) ≡ None
 unfolding read_cases first_case exact
 reads_no_case s t r =
     rw (
@@ -65,9 +65,9 @@ reads_no_case s t r =
 
 -- they are there
 pub record Parts (s : Store) (t : ℕ) : Type 0 where
-  pub cover : (c : ℕ) × (child_at s t 2 ≡ some c)
-  pub class1 : eqb (shape s t).format 1 ≡ false → (c : ℕ) × (child_at s t 8 ≡ some c)
-  pub class2 : eqb (shape s t).format 1 ≡ false → (c : ℕ) × (child_at s t 10 ≡ some c)
+  pub cover : (c : ℕ) × (child_at s t 2 ≡ Some c)
+  pub class1 : eqb (shape s t).format 1 ≡ false → (c : ℕ) × (child_at s t 8 ≡ Some c)
+  pub class2 : eqb (shape s t).format 1 ≡ false → (c : ℕ) × (child_at s t 10 ≡ Some c)
 
 pub cover_read : (s : Store) (t : ℕ) → parts_readable s t ≡ true → cover_readable (linked_bytes s t 2) ≡ true
 unfolding parts_readable

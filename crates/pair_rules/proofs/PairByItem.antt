@@ -1,10 +1,10 @@
 -- The pair reading goes by the item of the first glyph. Assumes nothing.
+use Rattle.std.specs.Prelude.{Option, Some, None}
 use Prim.Native.Nat.{ℕ, zero, suc, ◌+◌, ◌-◌, ◌*◌, ◌<◌, ◌≤◌}
 use mathlib.Core.Path.{◌≡◌, refl, sym, ap, ◌∙◌}
 use mathlib.Core.Bool.{Bool, true, false, cond, ◌&&◌}
 use mathlib.Core.List.{List, [], ◌∷◌, map}
 use mathlib.Core.Logic.{⊎_elim}
-use mathlib.Core.Option.{Option, some, none}
 use native.Mathlib.Omega.{arith}
 use native.Mathlib.Decide.{ℕ_discrete}
 use lib.ListN.{get_or, length}
@@ -31,24 +31,24 @@ use Rattle.pair_rules.proofs.Entries.{entries1, entries2}
 
 -- of the first entry with the glyph
 unfoldable pub entry_of : List Entry → ℕ → Option ℕ
-entry_of [] a = none
-entry_of (e ∷ es) a = cond (eqb e.glyph a) (some e.class) (entry_of es a)
+entry_of [] a = None
+entry_of (e ∷ es) a = cond (eqb e.glyph a) (Some e.class) (entry_of es a)
 
 entry_places : (h : ℕ → ℕ) (c n a : ℕ) → entry_of (upto (λ k. entry (h k) (c + k)) n) a ≡ mapped (λ i. c + i) (find (upto h n) a)
 unfolding entry_of find flat
 entry_places h c zero a = refl
 entry_places h c (suc n) a =
     ap (λ (x : List Entry). entry_of x a) (upto-cons (λ k. entry (h k) (c + k)) n)
-    ∙ ap (λ (o : Option ℕ). cond (eqb (h 0) a) (some (c + 0)) o)
+    ∙ ap (λ (o : Option ℕ). cond (eqb (h 0) a) (Some (c + 0)) o)
     (ap (λ (x : List Entry). entry_of x a) (upto-same (λ k. entry (h (suc k)) (c + suc k)) (λ k. entry (h (suc k)) (suc c + k)) n (λ k l. let z : c + suc k ≡ suc c + k = omega arith in ap (entry (h (suc k))) z))
     ∙ entry_places (λ k. h (suc k)) (suc c) n a)
     ∙ go (eqb (h 0) a) (find (upto (λ k. h (suc k)) n) a)
     ∙ sym (ap (λ (x : List ℕ). mapped (λ i. c + i) (find x a)) (upto-cons h n))
   where
-    go : (b : Bool) (o : Option ℕ) → cond b (some (c + 0)) (mapped (λ i. suc c + i) o) ≡ mapped (λ i. c + i) (here b o)
+    go : (b : Bool) (o : Option ℕ) → cond b (Some (c + 0)) (mapped (λ i. suc c + i) o) ≡ mapped (λ i. c + i) (here b o)
     go true o = refl
-    go false none = refl
-    go false (some i) = let z : suc c + i ≡ c + suc i = omega arith in ap some z
+    go false None = refl
+    go false (Some i) = let z : suc c + i ≡ c + suc i = omega arith in ap Some z
 
 entry_map : (f : ℕ → ℕ) (gs : List ℕ) (a : ℕ) → entry_of (map (λ g. entry g (f g)) gs) a ≡ mapped (λ i. f a) (find gs a)
 unfolding entry_of find
@@ -56,15 +56,15 @@ entry_map f [] a = refl
 entry_map f (g ∷ gs) a = go (ℕ_discrete g a) (entry_map f gs a)
   where
     deep : (o : Option ℕ) → mapped (λ i. f a) o ≡ mapped (λ i. f a) (here false o)
-    deep none = refl
-    deep (some i) = refl
+    deep None = refl
+    deep (Some i) = refl
 
     go : Dec (g ≡ a) → entry_of (map (λ g. entry g (f g)) gs) a ≡ mapped (λ i. f a) (find gs a)
-        → cond (eqb g a) (some (f g)) (entry_of (map (λ g. entry g (f g)) gs) a) ≡ mapped (λ i. f a) (here (eqb g a) (find gs a))
+        → cond (eqb g a) (Some (f g)) (entry_of (map (λ g. entry g (f g)) gs) a) ≡ mapped (λ i. f a) (here (eqb g a) (find gs a))
     go (yes e) i = rw (eq-eqb g a e, e)
     go (no e) i = rw (ne_eqb g a e) (i ∙ deep (find gs a))
 
-entry_below : (es : List Entry) (lo a : ℕ) → Ascends lo es → a < lo → entry_of es a ≡ none
+entry_below : (es : List Entry) (lo a : ℕ) → Ascends lo es → a < lo → entry_of es a ≡ None
 unfolding entry_of
 entry_below [] lo a up h = refl
 entry_below (e ∷ es) lo a up h = let b : lo ≤ e.glyph = up.0 in rw (ne_eqb e.glyph a (λ z. omega arith)) (entry_below es (e.glyph + 1) a up.1 (omega arith))
@@ -79,7 +79,7 @@ entry_ranged [] from lo hi a up = refl
 entry_ranged (e ∷ es) from lo hi a up = go (ℕ_discrete e.glyph a) (in_range lo hi e) refl (entry_ranged es (e.glyph + 1) lo hi a up.1)
   where
     go : Dec (e.glyph ≡ a) → (b : Bool) → in_range lo hi e ≡ b → entry_of (reduced lo (sift (in_range lo hi) es)) a ≡ and_then (entry_of es a) (reduce lo hi)
-        → entry_of (reduced lo (cond b (e ∷ sift (in_range lo hi) es) (sift (in_range lo hi) es))) a ≡ and_then (cond (eqb e.glyph a) (some e.class) (entry_of es a)) (reduce lo hi)
+        → entry_of (reduced lo (cond b (e ∷ sift (in_range lo hi) es) (sift (in_range lo hi) es))) a ≡ and_then (cond (eqb e.glyph a) (Some e.class) (entry_of es a)) (reduce lo hi)
     go (yes z) true h i = rw (eq-eqb e.glyph a z, h)
     go (yes z) false h i = rw (eq-eqb e.glyph a z, h) (i ∙ ap (λ (o : Option ℕ). and_then o (reduce lo hi)) (entry_below es (e.glyph + 1) a up.1 (omega arith)))
     go (no z) true h i = rw (ne_eqb e.glyph a z) i
@@ -93,7 +93,7 @@ set_spot s t b i =
     and_then (given (ltb i (shape s t).count) (item_at (shape s t) i)) λ q.
     and_then (child_at s t q) λ c.
     and_then (first_record (bytes_of s c) (record_size (bytes_of s t)) b) λ r.
-    some (record { object = c; at = values_at (record_size (bytes_of s t)) r })
+    Some (record { object = c; at = values_at (record_size (bytes_of s t)) r })
 
 -- and in the row of item i
 unfoldable pub row_spot : Store → ℕ → ℕ → ℕ → Option Spot
@@ -107,8 +107,8 @@ item_spot s t b i = cond (eqb (shape s t).format 1) (set_spot s t b i) (row_spot
 
 then_mapped : {A : Type 0} (f : ℕ → ℕ) (o : Option ℕ) (h : ℕ → Option A) → and_then (mapped f o) h ≡ and_then o (λ k. h (f k))
 unfolding and_then
-then_mapped f none h = refl
-then_mapped f (some k) h = refl
+then_mapped f None h = refl
+then_mapped f (Some k) h = refl
 
 pub spot_by_item : (s : Store) (t a b : ℕ) → spot_of s t a b ≡ and_then (entry_of (entries_of s t) a) (item_spot s t b)
 unfolding spot_of spot1 spot2 cover_place set_spot row_spot
@@ -123,8 +123,8 @@ spot_by_item s t a b =
     ∙ sym (ap (λ (c : Bool). and_then (entry_of (entries_of s t) a) (λ i. cond c (set_spot s t b i) (row_spot s t b i))) e))
   where
     same : (o : Option ℕ) → mapped (λ i. 0 + i) o ≡ o
-    same none = refl
-    same (some i) = let z : 0 + i ≡ i = omega arith in ap some z
+    same None = refl
+    same (Some i) = let z : 0 + i ≡ i = omega arith in ap Some z
 
     places : entry_of (upto (λ k. entry (get_or (glyphs_of s t) k 0) k) (length (glyphs_of s t))) a ≡ find (glyphs_of s t) a
     places =
@@ -137,19 +137,19 @@ spot_by_item s t a b =
 
 -- the item lies in the range
 abbrev pub lies : ℕ → ℕ → Option ℕ → Bool
-lies lo hi none = false
-lies lo hi (some i) = leb lo i && ltb i hi
+lies lo hi None = false
+lies lo hi (Some i) = leb lo i && ltb i hi
 
 pub pair_found : (s : Store) (t a b : ℕ) → (pair_of s t a b).found ≡ false → pair_of s t a b ≡ no_pair
 unfolding pair_of pair_at
 pair_found s t a b h = go (spot_of s t a b) h
   where
     go : (o : Option Spot) → (pair_at s t o).found ≡ false → pair_at s t o ≡ no_pair
-    go none h = refl
-    go (some p) h = true_false h
+    go None h = refl
+    go (Some p) h = true_false h
 
 -- past the last item there is no pair
-spot_past : (s : Store) (t b i : ℕ) → (shape s t).count ≤ i → item_spot s t b i ≡ none
+spot_past : (s : Store) (t b i : ℕ) → (shape s t).count ≤ i → item_spot s t b i ≡ None
 unfolding set_spot row_spot and_then
 spot_past s t b i h =
     let z : ltb i (shape s t).count ≡ false = le-ltb i (shape s t).count h in
@@ -162,5 +162,5 @@ unfolding pair_of and_then pair_at
 pair_item s t a b h = ap (pair_at s t) (spot_by_item s t a b) ∙ go (entry_of (entries_of s t) a) h
   where
     go : (o : Option ℕ) → lies 0 (shape s t).count o ≡ false → pair_at s t (and_then o (item_spot s t b)) ≡ no_pair
-    go none k = refl
-    go (some i) k = ap (pair_at s t) (spot_past s t b i (⊎_elim (λ lt. true_false (sym (and_intro (leb 0 i) (ltb i (shape s t).count) (le-leb 0 i (omega arith)) (lt-ltb i (shape s t).count lt)) ∙ k)) (λ ge. ge) (either i (shape s t).count)))
+    go None k = refl
+    go (Some i) k = ap (pair_at s t) (spot_past s t b i (⊎_elim (λ lt. true_false (sym (and_intro (leb 0 i) (ltb i (shape s t).count) (le-leb 0 i (omega arith)) (lt-ltb i (shape s t).count lt)) ∙ k)) (λ ge. ge) (either i (shape s t).count)))

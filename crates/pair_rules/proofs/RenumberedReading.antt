@@ -1,10 +1,10 @@
 -- A pair reading looks at the table, at what it leads to, and at where that leads: where these are the same under other numbers in another store,
 -- so is the reading, with devices under these numbers. Assumes nothing.
+use Rattle.std.specs.Prelude.{Option, Some, None, unwrap_or}
 use Prim.Native.Nat.{ℕ, ◌+◌, ◌*◌}
 use mathlib.Core.Path.{◌≡◌, refl, sym, ap, ap₂, ◌∙◌}
 use mathlib.Core.Bool.{Bool, true, false, cond, not, ◌&&◌, ◌||◌}
 use mathlib.Core.List.{List, [], ◌∷◌, ◌++◌, map}
-use mathlib.Core.Option.{Option, some, none, get_or}
 use native.Mathlib.Numerals.{add-one}
 use lib.ListN.{length}
 use lib.Seq.{take_at, drop_at}
@@ -53,23 +53,23 @@ cases_by sounds past b parts glyphs =
 -- 4, over what it asks: the links at 2, 8 and 10, and the bytes of objects
 abbrev parts_by : Bool → Option ℕ → Option ℕ → Option ℕ → (ℕ → List ℕ) → Bool
 parts_by one o2 o8 o10 b =
-    is_some o2 && cover_readable (b (get_or o2 0))
-    && cond one true (is_some o8 && class_readable (b (get_or o8 0)) && is_some o10 && class_readable (b (get_or o10 0)))
+    is_some o2 && cover_readable (b (unwrap_or o2 0))
+    && cond one true (is_some o8 && class_readable (b (unwrap_or o8 0)) && is_some o10 && class_readable (b (unwrap_or o10 0)))
 
 -- where bytes are the same of what is linked, 4 is
 parts_by_lem : (new : ℕ → ℕ) (one : Bool) (o2 o8 o10 : Option ℕ) (b b' : ℕ → List ℕ)
-    → ((c : ℕ) → o2 ≡ some c → b' (new c) ≡ b c) → ((c : ℕ) → o8 ≡ some c → b' (new c) ≡ b c) → ((c : ℕ) → o10 ≡ some c → b' (new c) ≡ b c)
+    → ((c : ℕ) → o2 ≡ Some c → b' (new c) ≡ b c) → ((c : ℕ) → o8 ≡ Some c → b' (new c) ≡ b c) → ((c : ℕ) → o10 ≡ Some c → b' (new c) ≡ b c)
     → parts_by one (mapped new o2) (mapped new o8) (mapped new o10) b' ≡ parts_by one o2 o8 o10 b
-parts_by_lem new one none o8 o10 b b' e2 e8 e10 = refl
-parts_by_lem new true (some c) o8 o10 b b' e2 e8 e10 = rw (e2 c refl)
-parts_by_lem new false (some c) none o10 b b' e2 e8 e10 = rw (e2 c refl)
-parts_by_lem new false (some c) (some d) none b b' e2 e8 e10 =
+parts_by_lem new one None o8 o10 b b' e2 e8 e10 = refl
+parts_by_lem new true (Some c) o8 o10 b b' e2 e8 e10 = rw (e2 c refl)
+parts_by_lem new false (Some c) None o10 b b' e2 e8 e10 = rw (e2 c refl)
+parts_by_lem new false (Some c) (Some d) None b b' e2 e8 e10 =
     rw (e2 c refl, e8 d refl) (ap (λ (x : Bool). cover_readable (b c) && x) (shut (class_readable (b d)) (class_readable (b' 0)) (class_readable (b 0))))
   where
     shut : (x y z : Bool) → (x && false && y) ≡ (x && false && z)
     shut true y z = refl
     shut false y z = refl
-parts_by_lem new false (some c) (some d) (some e) b b' e2 e8 e10 = rw (e2 c refl, e8 d refl, e10 e refl)
+parts_by_lem new false (Some c) (Some d) (Some e) b b' e2 e8 e10 = rw (e2 c refl, e8 d refl, e10 e refl)
 
 -- ---- a pair under new numbers
 
@@ -84,8 +84,8 @@ no_pair_then new = refl
 -- one number
 device_then_lem : (new : ℕ → ℕ) (o : Option ℕ) → device_number (mapped new o) ≡ device_then new (device_number o)
 unfolding device_then
-device_then_lem new (some c) = ap (device_then new) (ap pos (sym (add-one c)))
-device_then_lem new none = refl
+device_then_lem new (Some c) = ap (device_then new) (ap pos (sym (add-one c)))
+device_then_lem new None = refl
 
 zero-then : (new : ℕ → ℕ) (b : Bool) → pos 0 ≡ cond b (device_then new (pos 0)) (pos 0)
 unfolding device_then
@@ -101,7 +101,7 @@ module _ {new : ℕ → ℕ} {s s' : Store} {u : ℕ} (same : SameUnder new s s'
       ∙ parts_by_lem new (eqb (shape s u).format 1) (child_at s u 2) (child_at s u 8) (child_at s u 10) (bytes_of s) (bytes_of s')
       (same.child_bytes 2) (same.child_bytes 8) (same.child_bytes 10)
 
-  missing : child_at s u 2 ≡ none → parts_readable s u ≡ false
+  missing : child_at s u 2 ≡ None → parts_readable s u ≡ false
   unfolding parts_readable
   missing e = rw e
 
@@ -115,10 +115,10 @@ module _ {new : ℕ → ℕ} {s s' : Store} {u : ℕ} (same : SameUnder new s s'
       go : (o : Option ℕ) → child_at s u 2 ≡ o
           → first_case (cases_by (sound s) (leb s.object_count u) (bytes_of s u) (parts_readable s u) (length (glyphs_of s' (new u))))
           ≡ first_case (cases_by (sound s) (leb s.object_count u) (bytes_of s u) (parts_readable s u) (length (glyphs_of s u)))
-      go (some c) e =
+      go (Some c) e =
           ap (λ (b : List ℕ). first_case (cases_by (sound s) (leb s.object_count u) (bytes_of s u) (parts_readable s u) (length (cover_glyphs b))))
           (linked_under same 2 c e)
-      go none e = rw (missing e)
+      go None e = rw (missing e)
 
   -- 11, by the slots of a table with these bytes
   abbrev slots_by : Store → (ℕ → Option ℕ) → List ℕ → Bool
@@ -132,10 +132,10 @@ module _ {new : ℕ → ℕ} {s s' : Store} {u : ℕ} (same : SameUnder new s s'
       (all_same _ _ (shape s u).count
       (λ k l. let q = item_at (shape s u) k in set-same_at (child_at s u q) (same.child_bytes q)))
     where
-      set-same_at : (o : Option ℕ) → ((c : ℕ) → o ≡ some c → bytes_of s' (new c) ≡ bytes_of s c)
+      set-same_at : (o : Option ℕ) → ((c : ℕ) → o ≡ Some c → bytes_of s' (new c) ≡ bytes_of s c)
           → sorted_in s' (record_size (bytes_of s u)) (mapped new o) ≡ sorted_in s (record_size (bytes_of s u)) o
-      set-same_at none h = refl
-      set-same_at (some c) h = ap (λ (b : List ℕ). set_sorted b (record_size (bytes_of s u))) (h c refl)
+      set-same_at None h = refl
+      set-same_at (Some c) h = ap (λ (b : List ℕ). set_sorted b (record_size (bytes_of s u))) (h c refl)
 
   -- 1 to 5 and 11
   pub refusal_same : first_case (pair_cases s' (new u)) ≡ first_case (pair_cases s u)
@@ -164,9 +164,9 @@ module _ {new : ℕ → ℕ} {s s' : Store} {u : ℕ} (same : SameUnder new s s'
       plain : ℤ
       plain = signed16 (u16_at (bytes_of s o) at)
 
-      go : (none device : Bool)
-          → cond none (pos 0) (cond device (device_number (mapped new (child_at s o at))) plain)
-          ≡ cond device (device_then new (cond none (pos 0) (cond device (device_number (child_at s o at)) plain))) (cond none (pos 0) (cond device (device_number (child_at s o at)) plain))
+      go : (None device : Bool)
+          → cond None (pos 0) (cond device (device_number (mapped new (child_at s o at))) plain)
+          ≡ cond device (device_then new (cond None (pos 0) (cond device (device_number (child_at s o at)) plain))) (cond None (pos 0) (cond device (device_number (child_at s o at)) plain))
       go true b = zero-then new b
       go false true = device_then_lem new (child_at s o at)
       go false false = refl
@@ -179,7 +179,7 @@ module _ {new : ℕ → ℕ} {s s' : Store} {u : ℕ} (same : SameUnder new s s'
       number_then_lem o q vf j m
       ∙ ap (λ (x : ℤ). cond (field_at j).device (device_then new x) x) (sym (upto-at (number_of s o q vf) 8 j (pos 0) l)))
 
-  spot_then : (o q : ℕ) → Moved o → pair_at s' (new u) (some (record { object = new o; at = q })) ≡ pair_then new (pair_at s u (some (record { object = o; at = q })))
+  spot_then : (o q : ℕ) → Moved o → pair_at s' (new u) (Some (record { object = new o; at = q })) ≡ pair_then new (pair_at s u (Some (record { object = o; at = q })))
   unfolding pair_at
   spot_then o q m =
       let x = value1 (bytes_of s u) in
@@ -195,26 +195,26 @@ module _ {new : ℕ → ℕ} {s s' : Store} {u : ℕ} (same : SameUnder new s s'
 
   -- the reading from a set on
   abbrev in_set : Store → ℕ → ℕ → ℕ → Option Spot
-  in_set r size b c = and_then (first_record (bytes_of r c) size b) λ k. some (record { object = c; at = values_at size k })
+  in_set r size b c = and_then (first_record (bytes_of r c) size b) λ k. Some (record { object = c; at = values_at size k })
 
   -- and from the slot of a set of table v on
   abbrev in_slot : Store → ℕ → List ℕ → ℕ → ℕ → Option Spot
   in_slot r v own b k = and_then (given (ltb k (shape_of own).count) (item_at (shape_of own) k)) λ q. and_then (child_at r v q) (in_set r (record_size own) b)
 
-  set_then : (b : ℕ) (o : Option ℕ) → ((c : ℕ) → o ≡ some c → Moved c)
+  set_then : (b : ℕ) (o : Option ℕ) → ((c : ℕ) → o ≡ Some c → Moved c)
       → pair_at s' (new u) (and_then (mapped new o) (in_set s' (record_size (bytes_of s u)) b)) ≡ pair_then new (pair_at s u (and_then o (in_set s (record_size (bytes_of s u)) b)))
   unfolding and_then pair_at
-  set_then b none k = sym (no_pair_then new)
-  set_then b (some c) k =
+  set_then b None k = sym (no_pair_then new)
+  set_then b (Some c) k =
       let size = record_size (bytes_of s u) in
-      ap (λ (z : List ℕ). pair_at s' (new u) (and_then (first_record z size b) λ k. some (record { object = new c; at = values_at size k }))) (k c refl).0
+      ap (λ (z : List ℕ). pair_at s' (new u) (and_then (first_record z size b) λ k. Some (record { object = new c; at = values_at size k }))) (k c refl).0
       ∙ go (k c refl) (first_record (bytes_of s c) size b)
     where
       go : Moved c → (o : Option ℕ)
-          → pair_at s' (new u) (and_then o λ k. some (record { object = new c; at = values_at (record_size (bytes_of s u)) k }))
-          ≡ pair_then new (pair_at s u (and_then o λ k. some (record { object = c; at = values_at (record_size (bytes_of s u)) k })))
-      go m none = sym (no_pair_then new)
-      go m (some k) = spot_then c (values_at (record_size (bytes_of s u)) k) m
+          → pair_at s' (new u) (and_then o λ k. Some (record { object = new c; at = values_at (record_size (bytes_of s u)) k }))
+          ≡ pair_then new (pair_at s u (and_then o λ k. Some (record { object = c; at = values_at (record_size (bytes_of s u)) k })))
+      go m None = sym (no_pair_then new)
+      go m (Some k) = spot_then c (values_at (record_size (bytes_of s u)) k) m
 
   pair1_then : (a b : ℕ) → Parts s u → pair_at s' (new u) (spot1 s' (new u) a b) ≡ pair_then new (pair_at s u (spot1 s u a b))
   unfolding spot1 and_then pair_at
@@ -231,8 +231,8 @@ module _ {new : ℕ → ℕ} {s s' : Store} {u : ℕ} (same : SameUnder new s s'
           ∙ set_then b (child_at s u q) (λ c e. (same.child_bytes q c e, same.child_links q c e))
 
       place : (o : Option ℕ) → pair_at s' (new u) (and_then o (in_slot s' (new u) (bytes_of s u) b)) ≡ pair_then new (pair_at s u (and_then o (in_slot s u (bytes_of s u) b)))
-      place none = sym (no_pair_then new)
-      place (some k) = slot (ltb k (shape s u).count) (item_at (shape s u) k)
+      place None = sym (no_pair_then new)
+      place (Some k) = slot (ltb k (shape s u).count) (item_at (shape s u) k)
 
   -- ---- format 2
 
@@ -268,8 +268,8 @@ module _ {new : ℕ → ℕ} {s s' : Store} {u : ℕ} (same : SameUnder new s s'
       place : (o : Option ℕ)
           → pair_at s' (new u) (and_then o λ k. given within (record { object = new u; at = at }))
           ≡ pair_then new (pair_at s u (and_then o λ k. given within (record { object = u; at = at })))
-      place none = sym (no_pair_then new)
-      place (some k) = row within
+      place None = sym (no_pair_then new)
+      place (Some k) = row within
 
   -- ---- the reading
 
@@ -288,8 +288,8 @@ unfolding pair_of pair_at no_pair
 both_eight s u a b = go (spot_of s u a b)
   where
     go : (o : Option Spot) → (length (pair_at s u o).first ≡ 8) × (length (pair_at s u o).second ≡ 8)
-    go none = (refl, refl)
-    go (some p) =
+    go None = (refl, refl)
+    go (Some p) =
         let b = bytes_of s u in
         (length-upto (number_of s p.object p.at (value1 b)) 8, length-upto (number_of s p.object (p.at + 2 * field_count (value1 b)) (value2 b)) 8)
 
@@ -307,8 +307,8 @@ module _ {new : ℕ → ℕ} {s s' : Store} {u : ℕ} (same : SameUnder new s s'
   reading_then a b = ap (λ (o : Option ℕ). settle_pair o (pair_of s' (new u) a b)) (refusal_same same) ∙ go (first_case (pair_cases s u)) refl
     where
       go : (o : Option ℕ) → first_case (pair_cases s u) ≡ o → settle_pair o (pair_of s' (new u) a b) ≡ outcome_then new (settle_pair o (pair_of s u a b))
-      go (some n) e = ap (reported n) (sym (no_pair_then new)) ∙ reported_then new n no_pair refl
-      go none e = ap (reported 0) (pair_then_lem same a b (no_case_pairs s u e).reads) ∙ reported_then new 0 (pair_of s u a b) (both_eight s u a b).0
+      go (Some n) e = ap (reported n) (sym (no_pair_then new)) ∙ reported_then new n no_pair refl
+      go None e = ap (reported 0) (pair_then_lem same a b (no_case_pairs s u e).reads) ∙ reported_then new 0 (pair_of s u a b) (both_eight s u a b).0
 
 -- and so with several tables in order
 pub in_order_then : (new : ℕ → ℕ) (s s' : Store) (us : List ℕ) → Each (SameUnder new s s') us → (a b : ℕ)

@@ -1,11 +1,10 @@
 -- A table is cut alike in two stores, where the second has all of the first and leads from what the table reaches as the first does. Assumes nothing.
+use Rattle.std.specs.Prelude.{Option, unwrap_or}
 use Prim.Native.Nat.{ℕ, ◌-◌, ◌+◌, ◌<◌, ◌≤◌}
 use mathlib.Core.Path.{◌≡◌, sym, ap, ap₂, subst, ◌∙◌}
 use mathlib.Core.Bool.{Bool, true, false, cond, ◌&&◌}
 use mathlib.Core.List.{List, map}
 use mathlib.Core.Logic.{◌⊎◌, inl, inr, ⊎_elim}
-use mathlib.Core.Option
-use mathlib.Core.Option.{Option}
 use native.Mathlib.Omega.{arith}
 use lib.ListN.{length, get_or}
 use lib.Dec.{eqb, leb, ltb}
@@ -126,7 +125,7 @@ module _ {x y : Store} {t : ℕ} (e : Extends x y t) where
       items_own lo hi n p q a = (and_three (eqb n 0 && eqb p t) (leb (item_at sh lo) q) (ltb q (item_at sh hi)) a).0
 
   linked_at_lem : (q : ℕ) → linked_at y t q ≡ linked_at x t q
-  linked_at_lem q = ap (λ (o : Option ℕ). Option.get_or o 0) (e.links q)
+  linked_at_lem q = ap (λ (o : Option ℕ). unwrap_or o 0) (e.links q)
 
   linked_bytes_lem : (q : ℕ) → linked_bytes y t q ≡ linked_bytes x t q
   linked_bytes_lem q = ap (bytes_of y) (linked_at_lem q) ∙ e.bytes (linked_at x t q) (linked_used x t e.fits e.used q)

@@ -1,9 +1,9 @@
 -- A pair reading looks at the table, at what it leads to, and at where that leads: where these are the same in two stores, so is the reading. Assumes nothing.
+use Rattle.std.specs.Prelude.{Option, Some, None}
 use Prim.Native.Nat.{ℕ, zero, suc}
 use mathlib.Core.Path.{◌≡◌, refl, sym, ap, ◌∙◌}
 use mathlib.Core.Bool.{Bool, true, false, cond}
 use mathlib.Core.List.{List, ◌++◌}
-use mathlib.Core.Option.{Option, some, none}
 use native.Mathlib.Numerals.{add-one}
 use lib.ListN.{length, get_or, take, drop}
 use lib.Seq.{take_at, drop_at}
@@ -29,8 +29,8 @@ pub record SameAround (s s' : Store) (u : ℕ) : Type 0 where
   pub used : leb s'.object_count u ≡ leb s.object_count u
   pub bytes : bytes_of s' u ≡ bytes_of s u
   pub links : (q : ℕ) → child_at s' u q ≡ child_at s u q
-  pub child_bytes : (q c : ℕ) → child_at s u q ≡ some c → bytes_of s' c ≡ bytes_of s c
-  pub child_links : (q c : ℕ) → child_at s u q ≡ some c → (r : ℕ) → child_at s' c r ≡ child_at s c r
+  pub child_bytes : (q c : ℕ) → child_at s u q ≡ Some c → bytes_of s' c ≡ bytes_of s c
+  pub child_links : (q c : ℕ) → child_at s u q ≡ Some c → (r : ℕ) → child_at s' c r ≡ child_at s c r
 
 -- under its own number
 abbrev own : ℕ → ℕ
@@ -82,8 +82,8 @@ unfolding pair_call settle_pair no_pair
 outcome_own s u a b = go (first_case (pair_cases s u))
   where
     go : (o : Option ℕ) → outcome_then own (settle_pair o (pair_of s u a b)) ≡ settle_pair o (pair_of s u a b)
-    go (some n) = reported_own n no_pair (refl, refl)
-    go none = reported_own 0 (pair_of s u a b) (both_eight s u a b)
+    go (Some n) = reported_own n no_pair (refl, refl)
+    go None = reported_own 0 (pair_of s u a b) (both_eight s u a b)
 
 -- ---- so the reading is
 

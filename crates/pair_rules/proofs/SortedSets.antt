@@ -1,8 +1,8 @@
 -- Tables whose pair sets are sorted: each linked one is, and so the pair reading takes the table. Assumes nothing.
+use Rattle.std.specs.Prelude.{Option, Some, None}
 use Prim.Native.Nat.{ℕ, ◌<◌}
 use mathlib.Core.Path.{◌≡◌, refl, ◌∙◌}
 use mathlib.Core.Bool.{Bool, true, false}
-use mathlib.Core.Option.{Option, some, none}
 use lib.Dec.{eqb}
 use borrow.Author.Tests.{not-false}
 use Rattle.folds.specs.Folds.{all}
@@ -19,12 +19,12 @@ use Rattle.pair_rules.proofs.Checks.{no_case_reads, reads_no_case}
 
 -- ---- a slot
 
-pub sorted_some : (s : Store) (size : ℕ) (o : Option ℕ) (c : ℕ) → o ≡ some c → sorted_in s size o ≡ set_sorted (bytes_of s c) size
+pub sorted_some : (s : Store) (size : ℕ) (o : Option ℕ) (c : ℕ) → o ≡ Some c → sorted_in s size o ≡ set_sorted (bytes_of s c) size
 sorted_some s size o c e = rw e
 
-pub sorted_where : (s : Store) (size : ℕ) (o : Option ℕ) → ((c : ℕ) → o ≡ some c → set_sorted (bytes_of s c) size ≡ true) → sorted_in s size o ≡ true
-sorted_where s size none h = refl
-sorted_where s size (some c) h = h c refl
+pub sorted_where : (s : Store) (size : ℕ) (o : Option ℕ) → ((c : ℕ) → o ≡ Some c → set_sorted (bytes_of s c) size ≡ true) → sorted_in s size o ≡ true
+sorted_where s size None h = refl
+sorted_where s size (Some c) h = h c refl
 
 -- ---- all of them
 
@@ -42,13 +42,13 @@ module _ (s : Store) (t : ℕ) where
   no_sets e = rw e
 
   pub set_sorted_lem : sets_sorted s t ≡ true → eqb (shape s t).format 1 ≡ true
-      → (k c : ℕ) → k < (shape s t).count → child_at s t (item_at (shape s t) k) ≡ some c → set_sorted (bytes_of s c) (record_size (bytes_of s t)) ≡ true
+      → (k c : ℕ) → k < (shape s t).count → child_at s t (item_at (shape s t) k) ≡ Some c → set_sorted (bytes_of s c) (record_size (bytes_of s t)) ≡ true
   unfolding sets_sorted
   set_sorted_lem h e k c l child =
       rw (← sorted_some s (record_size (bytes_of s t)) (child_at s t (item_at (shape s t) k)) c child) (all_at_lem slot_sorted (shape s t).count (rw e at h) k l)
 
   pub sets_sorted_lem :
-      (eqb (shape s t).format 1 ≡ true → (k c : ℕ) → k < (shape s t).count → child_at s t (item_at (shape s t) k) ≡ some c
+      (eqb (shape s t).format 1 ≡ true → (k c : ℕ) → k < (shape s t).count → child_at s t (item_at (shape s t) k) ≡ Some c
       → set_sorted (bytes_of s c) (record_size (bytes_of s t)) ≡ true)
       → sets_sorted s t ≡ true
   sets_sorted_lem h =
@@ -60,12 +60,12 @@ module _ (s : Store) (t : ℕ) where
 
 -- ---- 1 to 5 and 11
 
-pub no_case_pairs : (s : Store) (t : ℕ) → first_case (pair_cases s t) ≡ none → ReadsPairs s t
+pub no_case_pairs : (s : Store) (t : ℕ) → first_case (pair_cases s t) ≡ None → ReadsPairs s t
 unfolding pair_cases
 no_case_pairs s t h =
     let (reading, eleven) = first_append (read_cases s t) _ h in
     record { reads = no_case_reads s t reading; sorted = not-false (sets_sorted s t) (first_head _ _ eleven).0 }
 
-pub pairs_no_case : (s : Store) (t : ℕ) → ReadsPairs s t → first_case (pair_cases s t) ≡ none
+pub pairs_no_case : (s : Store) (t : ℕ) → ReadsPairs s t → first_case (pair_cases s t) ≡ None
 unfolding pair_cases first_case
 pairs_no_case s t r = first_skip (read_cases s t) _ (reads_no_case s t r.reads) ∙ rw r.sorted

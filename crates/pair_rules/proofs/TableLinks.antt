@@ -1,10 +1,10 @@
 -- The links of a new table, its header's and then those of its items, and the links that stay. Assumes nothing.
+use Rattle.std.specs.Prelude.{Some, None}
 use Prim.Native.Nat.{ℕ, suc, ◌+◌, ◌-◌, ◌*◌, ◌≤◌}
 use mathlib.Core.Path.{◌≡◌, refl, sym, ap, ◌∙◌}
 use mathlib.Core.Bool.{true, false}
 use mathlib.Core.List.{List, ◌++◌, map}
 use mathlib.Core.Logic.{inl, ⊎_elim}
-use mathlib.Core.Option.{some, none}
 use native.Mathlib.Omega.{arith}
 use native.Mathlib.Decide.{ℕ_discrete}
 use lib.Dec.{eqb}
@@ -43,24 +43,24 @@ unfolding moved
 moved_child_lem sh u lo l = refl
 
 -- no header link stands past the header
-pub past_header : (b : List ℕ) (u : ℕ) (old : ℕ → ℕ) (q : ℕ) → (shape_of b).header ≤ q → lookup (head_links (shape_of b) u old) u q ≡ none
+pub past_header : (b : List ℕ) (u : ℕ) (old : ℕ → ℕ) (q : ℕ) → (shape_of b).header ≤ q → lookup (head_links (shape_of b) u old) u q ≡ None
 past_header b u old q h = header_none (shape_of b).own u old (heads (shape_of b)) u q (heads_within b q h)
 
 module _ (b : List ℕ) (u : ℕ) (old : ℕ → ℕ) (rest : List Link) where
-  pub head_cover : lookup (head_links (shape_of b) u old ++ rest) u cover_at ≡ some (u + 1)
+  pub head_cover : lookup (head_links (shape_of b) u old ++ rest) u cover_at ≡ Some (u + 1)
   unfolding header_links own_child lookup
   head_cover = ⊎_elim (λ f. rw (f.own_is, eq-eqb u u refl)) (λ f. rw (f.own_is, eq-eqb u u refl)) (formats b)
 
-  pub head_class1 : eqb (shape_of b).format 1 ≡ false → lookup (head_links (shape_of b) u old ++ rest) u class1_at ≡ some (u + 2)
+  pub head_class1 : eqb (shape_of b).format 1 ≡ false → lookup (head_links (shape_of b) u old ++ rest) u class1_at ≡ Some (u + 2)
   unfolding header_links own_child lookup
-  head_class1 e = rw ((format_two b e).own_is, eq-eqb u u refl) (ap some (omega arith))
+  head_class1 e = rw ((format_two b e).own_is, eq-eqb u u refl) (ap Some (omega arith))
 
-  pub head_class2 : eqb (shape_of b).format 1 ≡ false → lookup (head_links (shape_of b) u old ++ rest) u class2_at ≡ some (old class2_at)
+  pub head_class2 : eqb (shape_of b).format 1 ≡ false → lookup (head_links (shape_of b) u old ++ rest) u class2_at ≡ Some (old class2_at)
   unfolding header_links own_child lookup
   head_class2 e = rw ((format_two b e).own_is, (format_two b e).shared_is, eq-eqb u u refl)
 
 -- no link of a table has another parent
-pub table_none : (s : Store) (t : ℕ) (sh : Shape) (v lo hi u q : ℕ) → (v ≡ u → ⊥) → lookup (table_links s t sh v lo hi) u q ≡ none
+pub table_none : (s : Store) (t : ℕ) (sh : Shape) (v lo hi u q : ℕ) → (v ≡ u → ⊥) → lookup (table_links s t sh v lo hi) u q ≡ None
 unfolding table_links moved
 table_none s t sh v lo hi u q ne =
     lookup_append (head_links sh v (linked_at s t)) (map (moved sh v lo) (sift (of_items t sh lo hi) (links_of s))) u q

@@ -1,6 +1,5 @@
 -- The calls on pair tables: "Given exactly if (first that applies, in this order)", and the outcome of each. Assumes nothing.
-use Rattle.std.specs.Prelude.{ℕ, Bool, cond, not, ◌&&◌, ◌||◌, List, [], ◌∷◌, ◌++◌, length, ℤ, leb, ltb, eqb}
-use Rattle.std.proofs.Math.Option.{Option, some, none}
+use Rattle.std.specs.Prelude.{ℕ, Bool, cond, not, ◌&&◌, ◌||◌, List, [], ◌∷◌, ◌++◌, length, ℤ, leb, ltb, eqb, Option, Some, None}
 use Rattle.folds.specs.Lists.{is_empty}
 use Rattle.ot_layouts.specs.PairPos.{format_of, exact}
 use Rattle.store_rules.specs.Store.{Store, sound, bytes_of}
@@ -90,8 +89,8 @@ reported n p = record { answer = n; found = cond p.found 1 0; values = p.first +
 
 -- "refuses by 1 to 5 in this order with no pair and sixteen zeros; another format is 0 and no pair"; 11 refuses as they do
 unfoldable pub settle_pair : Option ℕ → Pair → PairOutcome
-settle_pair (some n) p = reported n no_pair
-settle_pair none p = reported 0 p
+settle_pair (Some n) p = reported n no_pair
+settle_pair None p = reported 0 p
 
 -- the outcome of a pair reading, which "takes 16-bit glyph numbers and no scratch, writes nothing"
 unfoldable pub pair_call : Store → ℕ → ℕ → ℕ → PairOutcome

@@ -1,6 +1,5 @@
 -- "Pair reading": where the values of a pair stand, and the eight numbers of each. Assumes nothing.
-use Rattle.std.specs.Prelude.{ℕ, ◌+◌, ◌*◌, Bool, true, false, cond, ◌&&◌, List, [], ◌∷◌, replicate, ℤ, pos, ltb, eqb}
-use Rattle.std.proofs.Math.Option.{Option, some, none}
+use Rattle.std.specs.Prelude.{ℕ, ◌+◌, ◌*◌, Bool, true, false, cond, ◌&&◌, List, [], ◌∷◌, replicate, ℤ, pos, ltb, eqb, Option, Some, None}
 use Rattle.folds.specs.Folds.{upto}
 use Rattle.folds.specs.Lists.{given, and_then}
 use Rattle.ot_layouts.specs.Numbers.{u16_at, signed16}
@@ -23,7 +22,7 @@ spot1 s t a b =
     and_then (given (ltb k (shape s t).count) (item_at (shape s t) k)) λ q.
     and_then (child_at s t q) λ c.
     and_then (first_record (bytes_of s c) (record_size (bytes_of s t)) b) λ r.
-    some (record { object = c; at = values_at (record_size (bytes_of s t)) r })
+    Some (record { object = c; at = values_at (record_size (bytes_of s t)) r })
 
 -- "first glyph covered, both classes below their counts, then the record at row·class2Count + column"
 unfoldable pub spot2 : Store → ℕ → ℕ → ℕ → Option Spot
@@ -40,8 +39,8 @@ spot_of s t a b = cond (eqb (shape s t).format 1) (spot1 s t a b) (spot2 s t a b
 
 -- "for a device the linked object's number plus one, or 0"
 abbrev pub device_number : Option ℕ → ℤ
-device_number (some c) = pos (c + 1)
-device_number none = pos 0
+device_number (Some c) = pos (c + 1)
+device_number None = pos 0
 
 -- field j of a value record of format vf at q of object o: "signed 16-bit field values .. Absent fields are 0; the raw bytes of a device field are never read."
 unfoldable pub number_of : Store → ℕ → ℕ → ℕ → ℕ → ℤ
@@ -61,8 +60,8 @@ no_pair = record { found = false; first = replicate 8 (pos 0); second = replicat
 
 -- the two value records from that byte on, the second behind the first
 unfoldable pub pair_at : Store → ℕ → Option Spot → Pair
-pair_at s t none = no_pair
-pair_at s t (some p) =
+pair_at s t None = no_pair
+pair_at s t (Some p) =
     record {
       found = true;
       first = upto (number_of s p.object p.at (value1 (bytes_of s t))) 8;

@@ -1,6 +1,5 @@
 -- A PairPos table in a store: its parts, its covered glyphs with their items, and its cuts. Assumes nothing.
-use Rattle.std.specs.Prelude.{ℕ, Bool, true, cond, ◌&&◌, List, map, length, get_or, eqb}
-use Rattle.std.proofs.Math.Option.{Option, some, none}
+use Rattle.std.specs.Prelude.{ℕ, Bool, true, cond, ◌&&◌, List, map, length, get_or, eqb, Option, Some, None}
 use Rattle.folds.specs.Folds.{all, upto}
 use Rattle.folds.specs.Lists.{is_some}
 use Rattle.ot_layouts.specs.Coverage.{Entry, cover_readable, cover_glyphs}
@@ -40,8 +39,8 @@ all_at_slots s t = all_at s t (is_slot (shape s t))
 
 -- where a slot leads to a pair set, that set is sorted; records have so many bytes behind their glyph
 abbrev pub sorted_in : Store → ℕ → Option ℕ → Bool
-sorted_in s size none = true
-sorted_in s size (some c) = set_sorted (bytes_of s c) size
+sorted_in s size None = true
+sorted_in s size (Some c) = set_sorted (bytes_of s c) size
 
 -- 11 does not apply: "a linked pair set unsorted or of wrong length"; a table of format 2 has no pair sets
 unfoldable pub sets_sorted : Store → ℕ → Bool

@@ -1,9 +1,9 @@
 -- Format 1: a slot is not empty exactly if a row stands in its bytes, and what the coverage of the pair sets in a table takes. Assumes nothing.
+use Rattle.std.specs.Prelude.{Option, Some, None}
 use Prim.Native.Nat.{ℕ, ◌+◌, ◌*◌, ◌≤◌, ◌<◌, min}
 use mathlib.Core.Path.{◌≡◌, refl, sym, ap, subst, ◌∙◌}
 use mathlib.Core.Bool.{Bool, true, false, cond, not, ◌&&◌, ◌||◌}
 use mathlib.Core.List.{List}
-use mathlib.Core.Option.{Option, some, none}
 use native.Mathlib.Omega.{arith}
 use lib.Dec.{leb, ltb, eqb}
 use lib.ListN.{length}
@@ -74,7 +74,8 @@ module _ (how : Settings) (s : Store) (t : ℕ) (one : eqb (shape s t).format 1 
 
 -- ---- empty slots
 
-module _ {s : Store} {t a i row e : ℕ} {w : List ℕ} {m : Measured} {w' : List ℕ} (one : eqb (shape s t).format 1 ≡ true) (slots : all_at_slots s t ≡ true) (short : item_at (shape s t) (i + 1) ≤ orders)
+module _ {s : Store} {t a i row e : ℕ} {w : List ℕ} {m : Measured} {w' : List ℕ} (one : eqb (shape s t).format 1 ≡ true) (slots : all_at_slots s t ≡ true)
+    (short : item_at (shape s t) (i + 1) ≤ orders)
     (x : At s t (shape s t) a i row e w) (y : Measures s t (shape s t) a i row e w m w') where
   in_slot_lem : (k : ℕ) → k < s.link_count → (leb row k && ltb k m.next) ≡ of_span t (item_at (shape s t) i) (item_at (shape s t) (i + 1)) (link_at s k)
   in_slot_lem k h = span_rows s (at_fits x) t (item_at (shape s t) i) (item_at (shape s t) (i + 1)) x.first y.after.first short k h
@@ -87,11 +88,15 @@ module _ {s : Store} {t a i row e : ℕ} {w : List ℕ} {m : Measured} {w' : Lis
   slot_linked ne =
       let h : row < m.next = omega (arith, y.later) in
       let used : row < s.link_count = omega (arith, y.after.first.within) in
-      let (p, below) = and_both (offset_of t (link_at s row) && leb (item_at (shape s t) i) (position_of s row)) (ltb (position_of s row) (item_at (shape s t) (i + 1))) (sym (in_slot_lem row used) ∙ rw (le-leb row row (omega arith), lt-ltb row m.next h)) in
+      let (p, below) =
+      and_both (offset_of t (link_at s row) && leb (item_at (shape s t) i) (position_of s row))
+      (ltb (position_of s row) (item_at (shape s t) (i + 1))) (sym (in_slot_lem row used) ∙ rw (le-leb row row (omega arith), lt-ltb row m.next h)) in
       let (own, above) = and_both (offset_of t (link_at s row)) (leb (item_at (shape s t) i) (position_of s row)) p in
       let q : parent_of s row ≡ t = of_parent t (link_at s row) own in
       let o : kind_of s row ≡ 0 = eqb-true (kind_of s row) 0 (of_offset t (link_at s row) own) in
-      let g = slot_fits (bytes_of s t) (position_of s row) (i + 1) (at_slot s t slots row used own) (ltb-true (position_of s row) (item_at (shape s t) (i + 1)) below) in
+      let g =
+      slot_fits (bytes_of s t) (position_of s row) (i + 1) (at_slot s t slots row used own)
+      (ltb-true (position_of s row) (item_at (shape s t) (i + 1)) below) in
       let z : position_of s row ≡ item_at (shape s t) i = omega (arith, leb-true (item_at (shape s t) i) (position_of s row) above, slot_wide) in
       sym (ap is_some (child_found_lem s t (item_at (shape s t) i) row (at_in_order x) x.first used q o z))
 
@@ -100,10 +105,12 @@ module _ {s : Store} {t a i row e : ℕ} {w : List ℕ} {m : Measured} {w' : Lis
   slot_empty none_here = go (child_at s t (item_at (shape s t) i)) refl
     where
       go : (o : Option ℕ) → child_at s t (item_at (shape s t) i) ≡ o → is_some o ≡ false
-      go none q = refl
-      go (some c) q =
+      go None q = refl
+      go (Some c) q =
           let (k, used, parent, position, child) = child_row s t (item_at (shape s t) i) c q in
-          let there : (leb row k && ltb k m.next) ≡ true = in_slot_lem k used ∙ rw (parent, position) (rw (le-leb (item_at (shape s t) i) (item_at (shape s t) i) (omega arith), lt-ltb (item_at (shape s t) i) (item_at (shape s t) (i + 1)) (omega (arith, slot_wide)))) in
+          let from = le-leb (item_at (shape s t) i) (item_at (shape s t) i) (omega arith) in
+          let to = lt-ltb (item_at (shape s t) i) (item_at (shape s t) (i + 1)) (omega (arith, slot_wide)) in
+          let there : (leb row k && ltb k m.next) ≡ true = in_slot_lem k used ∙ rw (parent, position) (rw (from, to)) in
           let (lo, hi) = and_both (leb row k) (ltb k m.next) there in
           absurd (omega (arith, leb-true row k lo, ltb-true k m.next hi))
 
@@ -125,17 +132,24 @@ module _ (looks : ℕ → Bool) where
   covered_more a i h e = sum_more (λ k. cond (leb a k && looks k) 1 0) i ∙ rw (le-leb a i h, e)
 
   covered_same : (a i : ℕ) → looks i ≡ false → covered a (i + 1) ≡ covered a i
-  covered_same a i e = sum_more (λ k. cond (leb a k && looks k) 1 0) i ∙ ap (λ (b : Bool). covered a i + cond b 1 0) (and_second (leb a i) (looks i) e) ∙ omega arith
+  covered_same a i e =
+      sum_more (λ k. cond (leb a k && looks k) 1 0) i ∙ ap (λ (b : Bool). covered a i + cond b 1 0) (and_second (leb a i) (looks i) e) ∙ omega arith
 
   covered_none : (i : ℕ) → covered i i ≡ 0
   covered_none i = sum-zero (λ k. cond (leb i k && looks k) 1 0) i (λ k h. ap (λ (b : Bool). cond b 1 0) (and_first (leb i k) (looks k) (lt-leb i k h)))
 
   covered_most : (a n : ℕ) → covered a n ≤ n
-  covered_most a n = omega (arith, sum_bound (λ k. cond (leb a k && looks k) 1 0) 1 n (λ k h. by_test (leb a k && looks k) (λ e. rw e (omega arith)) (λ e. rw e (omega arith))))
+  covered_most a n =
+      omega (
+        arith,
+        sum_bound (λ k. cond (leb a k && looks k) 1 0) 1 n
+            (λ k h. by_test (leb a k && looks k) (λ e. rw e (omega arith)) (λ e. rw e (omega arith))),
+      )
 
 -- ---- one pair set after another
 
-pub sets_start : (how : Settings) {s : Store} {x : TableInfo} {w l : List ℕ} → Ready1 s x w l → {f : Filling} {row : ℕ} → ((r : Rule) → r.start ≡ 10 → Fills f (after r 0)) → FirstRow s.links s.link_count (key_of x.table 10) row
+pub sets_start : (how : Settings) {s : Store} {x : TableInfo} {w l : List ℕ} → Ready1 s x w l → {f : Filling} {row : ℕ}
+    → ((r : Rule) → r.start ≡ 10 → Fills f (after r 0)) → FirstRow s.links s.link_count (key_of x.table 10) row
     → Below1 how s x l 0 (record { filling = f; row = row; partial = 4 }) w l
 sets_start how {s} {x} v a g =
     let start = start_one how s x.table v.table.format in
@@ -177,7 +191,9 @@ module _ {how : Settings} {s : Store} {x : TableInfo} {d : List ℕ} {i : ℕ} {
     pub set_passed : b ≡ false → Below1 how s x d (i + 1) p w' l
     set_passed skips =
         let (f, a, q) = passed how s x v.filled y (looks ∙ skips) in
-        let e : m.next ≡ p.row = by_test (eqb m.next p.row) (eqb-true m.next p.row) (λ e. true_false (sym (or-second (second how.edition) (not (eqb m.next p.row)) (ap not e)) ∙ sym told ∙ skips)) in
+        let e : m.next ≡ p.row =
+        by_test (eqb m.next p.row) (eqb-true m.next p.row)
+        (λ e. true_false (sym (or-second (second how.edition) (not (eqb m.next p.row)) (ap not e)) ∙ sym told ∙ skips)) in
         record {
           table = v.table;
           filled = f;
@@ -185,7 +201,8 @@ module _ {how : Settings} {s : Store} {x : TableInfo} {d : List ℕ} {i : ℕ} {
           coverage = rw q (omega (arith, v.coverage, covered_same looks_in (cutting_at how s x i).first i (looks_in_lem ∙ skips)));
         }
 
-    module _ (taken : b ≡ true) {beside : ℕ} (stands : beside ≡ min (p.partial + 2) x.beside) {b' : Bool} (weighs : IsDue p.filling i (m.size + 2) beside how.edition b') where
+    module _ (taken : b ≡ true) {beside : ℕ} (stands : beside ≡ min (p.partial + 2) x.beside) {b' : Bool}
+        (weighs : IsDue p.filling i (m.size + 2) beside how.edition b') where
       costs : m.size + 2 ≡ cost_now rule (cutting_at how s x i) i
       costs = ap (λ (n : ℕ). n + 2) y.size ∙ sym (cost_one how s x.table v.table.format (cutting_at how s x i).seen i)
 
@@ -205,18 +222,30 @@ module _ {how : Settings} {s : Store} {x : TableInfo} {d : List ℕ} {i : ℕ} {
       starts = start_one how s x.table v.table.format
 
       -- no cut
-      pub set-added : b' ≡ false → {f' : Filling} → ItemAdded p.filling (m.size + 2) f' → Below1 how s x d (i + 1) (record { filling = f'; row = m.next; partial = p.partial + 2 }) w' l
+      pub set-added : b' ≡ false → {f' : Filling} → ItemAdded p.filling (m.size + 2) f'
+          → Below1 how s x d (i + 1) (record { filling = f'; row = m.next; partial = p.partial + 2 }) w' l
       set-added stays g =
-          let (f, a, q) = added how s x v.filled y (looks ∙ taken) (m.size + 2) costs (is_due_lem ∙ stays) (omega (arith, y.most, starts)) (g (cutting_at how s x i) d l v.filled.listed) in
+          let (f, a, q) =
+          added how s x v.filled y (looks ∙ taken) (m.size + 2) costs (is_due_lem ∙ stays) (omega (arith, y.most, starts))
+          (g (cutting_at how s x i) d l v.filled.listed) in
           record { table = v.table; filled = f; at = a; coverage = rw q (omega (arith, v.coverage, one_more)) }
 
       -- a cut
-      pub set_cut : b' ≡ true → {size : ℕ} {w'' : List ℕ} → Restarts s x.table (shape s x.table) i m.next how.edition (x.epoch + p.filling.cuts + 1) m.size size w''
-          → {f' : Filling} {l' : List ℕ} → Cut p.filling i (size + 2) 10 l f' l' → Below1 how s x d (i + 1) (record { filling = f'; row = m.next; partial = 6 }) w'' l'
+      pub set_cut : b' ≡ true → {size : ℕ} {w'' : List ℕ}
+          → Restarts s x.table (shape s x.table) i m.next how.edition (x.epoch + p.filling.cuts + 1) m.size size w''
+          → {f' : Filling} {l' : List ℕ} → Cut p.filling i (size + 2) 10 l f' l'
+          → Below1 how s x d (i + 1) (record { filling = f'; row = m.next; partial = 6 }) w'' l'
       set_cut due-now {size} z g =
           let at_cut : cost_at_cut rule i (m.size + 2) ≡ size + 2 = cut_cost_one how s x.table v.table.format i m.size ∙ ap (λ (n : ℕ). n + 2) (sym z.size) in
-          let (f, a, q) = cut how s x v.filled y (looks ∙ taken) (m.size + 2) costs (is_due_lem ∙ due-now) (omega (arith, at_cut, z.most y.most, starts)) (g rule (cutting_at how s x i) d (m.size + 2) starts at_cut v.filled.listed) z in
-          record { table = v.table; filled = f; at = a; coverage = rw q (omega (arith, covered_none looks_in i, covered_more looks_in i i (omega arith) (looks_in_lem ∙ taken))) }
+          let (f, a, q) =
+          cut how s x v.filled y (looks ∙ taken) (m.size + 2) costs (is_due_lem ∙ due-now) (omega (arith, at_cut, z.most y.most, starts))
+          (g rule (cutting_at how s x i) d (m.size + 2) starts at_cut v.filled.listed) z in
+          record {
+            table = v.table;
+            filled = f;
+            at = a;
+            coverage = rw q (omega (arith, covered_none looks_in i, covered_more looks_in i i (omega arith) (looks_in_lem ∙ taken)));
+          }
 
 module _ {how : Settings} {s : Store} {x : TableInfo} {d : List ℕ} {i : ℕ} {p : Sets} {w l : List ℕ} (v : Below1 how s x d i p w l) (e : i ≡ x.count) where
   pub sets_stop : Placed (cut_places how s x.table) d l p.filling.cuts

@@ -7,7 +7,6 @@ ghost use Rattle.folds.specs.Moments.{came, left};
 ghost use Rattle.cut_rules.specs.Cuts.{second};
 ghost use Rattle.pair_set_points.specs.Format1.{Ready1, Below1, Weighs1, Places1, Tells1};
 
-use buffers::lesser;
 use call_rules::Settings;
 use cut_filling::Filling;
 use pair_items::measuring::{measure, measure_at_cut};
@@ -43,10 +42,8 @@ pub fn compute_format1_split_points(
         row: first_row(links, count, info.table, 10),
         partial: 4,
     };
-    let mut i: u16 = 0;
-    while i < info.count {
+    for i in 0..info.count {
         sets = weigh_set(objects, links, counts, info, settings, sets, i, walk, cuts);
-        i += 1;
     }
     sets.filling.cuts
 }
@@ -76,7 +73,7 @@ fn weigh_set(
         return sets;
     }
     let partial = sets.partial + 2;
-    let beside = lesser(partial as usize, info.beside as usize) as u64;
+    let beside = partial.min(info.beside as u64);
     if filling.is_due(i, set.size + 2, beside, settings.edition) {
         let size = measure_at_cut(
             objects,
@@ -105,8 +102,5 @@ fn weigh_set(
 fn is_looked_at(row: usize, next: usize, edition: u32) -> bool
     ensures { result ≡ (second edition || not (eqb next row)) }
 {
-    if next == row {
-        return edition == 2;
-    }
-    true
+    next != row || edition == 2
 }

@@ -1,9 +1,9 @@
 -- A table's pair sets by its link rows: they are all sorted where each row of its own leads to a sorted one. Assumes nothing.
+use Rattle.std.specs.Prelude.{Some}
 use Prim.Native.Nat.{ℕ, ◌+◌, ◌-◌, ◌*◌, ◌/◌, ◌%◌, ◌≤◌, ◌<◌}
 use mathlib.Core.Path.{◌≡◌, sym, ap, ◌∙◌}
 use mathlib.Core.Bool.{Bool, true, false, not, ◌&&◌}
 use mathlib.Core.List.{List}
-use mathlib.Core.Option.{some}
 use native.Mathlib.Omega.{arith}
 use lib.ListN.{length}
 use lib.Dec.{leb, ltb, eqb}
@@ -101,7 +101,7 @@ module _ (s : Store) (t : ℕ) (reads : Reads s t) (one : eqb (shape s t).format
   rows_test = all (λ i. leads_sorted s (record_size (bytes_of s t)) (r.first + i)) (r.after - r.first)
 
   -- a slot's set, by the row that leads to it
-  by_row : rows_test ≡ true → (k c : ℕ) → k < (shape s t).count → child_at s t (item_at (shape s t) k) ≡ some c → set_sorted (bytes_of s c) size ≡ true
+  by_row : rows_test ≡ true → (k c : ℕ) → k < (shape s t).count → child_at s t (item_at (shape s t) k) ≡ Some c → set_sorted (bytes_of s c) size ≡ true
   by_row h k c l child =
       let (j, used, parent, position, is) = child_row s t (item_at (shape s t) k) c child in
       let (from, to) = and_both (leb r.first j) (ltb j r.after) (owned j used ∙ parent) in
@@ -127,7 +127,7 @@ module _ (s : Store) (t : ℕ) (reads : Reads s t) (one : eqb (shape s t).format
       let inside : position_of s k + 2 ≤ length (bytes_of s t)
       = rw (size_bytes s fits t reads.used) (rw own at (offset_inside (size_of s (parent_of s k)) (link_at s k) offset (fits.link k used).shape)) in
       let long : length (bytes_of s t) ≡ 10 + 2 * (shape s t).count = reads.exactly ∙ slot_place (shape s t).count in
-      let child : child_at s t (item_at (shape s t) n) ≡ some (child_of s k)
+      let child : child_at s t (item_at (shape s t) n) ≡ Some (child_of s k)
       = ap (child_at s t) (sym at) ∙ ap (λ (p : ℕ). child_at s p (position_of s k)) (sym own) ∙ row_child_lem s fits k used offset in
       at_slot s size k y ∙ set_sorted_lem s t h one n (child_of s k) (omega arith) child)
       (at_no_slot s size k)

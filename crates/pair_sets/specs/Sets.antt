@@ -1,16 +1,8 @@
--- Records that are found, and link rows that lead to pair sets. Assumes nothing.
+-- Link rows that lead to pair sets. Assumes nothing.
 use Rattle.std.specs.Prelude.{ℕ, ◌+◌, ◌*◌, ◌%◌, ◌≤◌, ◌<◌, ◌≡◌, Bool, true, cond, ◌&&◌, List, length, get_or, leb, eqb}
-use Rattle.std.proofs.Math.Option.{Option, some, none}
 use Rattle.ot_layouts.specs.PairPos.{set_sorted}
 use Rattle.store_rules.specs.Store.{Store, per_link, row_position, row_child, bytes_of, position_of, child_of}
 use Rattle.store_reader.specs.Rows.{Inside}
-use Rattle.pair_sets.specs.declared.Found.{Found}
-use Rattle.pair_sets.specs.declared.Found.TheVariants.{At, Nothing}
-
--- which record was found, if any
-abbrev pub record_found : Found → Option ℕ
-record_found (At r) = some r
-record_found Nothing = none
 
 -- a pair set is linked at q of a table of format 1: "slot 10+2k"
 unfoldable pub is_set_slot : ℕ → Bool

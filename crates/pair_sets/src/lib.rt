@@ -7,18 +7,10 @@ pub mod marked;
 ghost use Rattle.std.specs.Prelude.{◌≡◌, true, ◌+◌, ◌-◌, ◌*◌, ◌≤◌, ◌<◌, length};
 ghost use Rattle.ot_layouts.specs.PairPos.{set_sorted, first_record};
 ghost use Rattle.folds.specs.Moments.{left};
-ghost use Rattle.pair_sets.specs.Sets.{record_found};
 ghost use Rattle.pair_sets.specs.Rising.{second_at, rises, RisesFrom};
 
-use buffers::lesser;
+use halving::partition_point;
 use ot_wire::u16_at;
-
-// The record of a pair set that a search finds.
-#[derive(Clone, Copy)]
-pub enum Found {
-    At(usize),
-    Nothing,
-}
 
 // The second glyph of record `k`. A record has `size` bytes behind it.
 fn glyph_of(set: &[u8], size: usize, k: usize) -> u16
@@ -82,7 +74,7 @@ fn many_rise(set: &[u8], size: usize, count: usize) -> bool
         if last <= at {
             return true;
         }
-        at = lesser(at + 16 * step, last);
+        at = (at + 16 * step).min(last);
     }
 }
 
@@ -95,14 +87,12 @@ fn few_rise(set: &[u8], size: usize, count: usize) -> bool
         return true;
     }
     let mut last = glyph_of(set, size, 0);
-    let mut k: usize = 0;
-    while k + 1 < count {
-        let glyph = glyph_of(set, size, k + 1);
+    for k in 1..count {
+        let glyph = glyph_of(set, size, k);
         if glyph <= last {
             return false;
         }
         last = glyph;
-        k += 1;
     }
     true
 }
@@ -115,7 +105,7 @@ pub fn is_sorted(set: &[u8], size: usize) -> bool
     if set.len() < 2 {
         return false;
     }
-    let count = u16_at(set, 0) as usize;
+    let count = usize::from(u16_at(set, 0));
     if set.len() != 2 + (2 + size) * count {
         return false;
     }
@@ -125,25 +115,16 @@ pub fn is_sorted(set: &[u8], size: usize) -> bool
     many_rise(set, size, count)
 }
 
-// The record of a sorted set with the second glyph, by halving: the glyphs before `lo` are below it, and those from `hi` on above it.
-pub fn record_in_set(set: &[u8], size: usize, glyph: u16) -> Found
+// The record of a sorted set with the second glyph: the first whose glyph is not below it, where that is the glyph.
+pub fn record_in_set(set: &[u8], size: usize, glyph: u16) -> Option<usize>
     requires { (size ≤ 32) × (set_sorted set.now size ≡ true) }
-    ensures { record_found result ≡ first_record set.now size glyph }
+    ensures { result ≡ first_record set.now size glyph }
 {
-    let mut lo: usize = 0;
-    let mut hi = u16_at(set, 0) as usize;
-    while lo < hi {
-        let mid = lo + (hi - lo) / 2;
-        let here = u16_at(set, 2 + (2 + size) * mid);
-        if here < glyph {
-            lo = mid + 1;
-        } else {
-            if glyph < here {
-                hi = mid;
-            } else {
-                return Found::At(mid);
-            }
-        }
+    let count = usize::from(u16_at(set, 0));
+    let k = partition_point(0, count, |k| glyph_of(set, size, k) < glyph);
+    if k < count && glyph_of(set, size, k) == glyph {
+        Some(k)
+    } else {
+        None
     }
-    Found::Nothing
 }

@@ -93,12 +93,10 @@ fn rows_sorted(
 {
     let first = rows.first;
     let count = rows.after - first;
-    let mut i: usize = 0;
-    while i < count {
+    for i in 0..count {
         if !row_sorted(data, objects, links, first, first + i, size, seen) {
             return false;
         }
-        i += 1;
     }
     true
 }

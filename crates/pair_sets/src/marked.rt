@@ -10,7 +10,6 @@ ghost use Rattle.pair_sets.specs.Marked.{RowLeads, MarksSets, mark_sorted};
 
 use crate::is_sorted;
 use crate::linked::is_set_slot;
-use buffers::clear_u32;
 use store_reader::{CHILD, LinkRows, PER_LINK, POSITION, bytes_of};
 
 // Gives the pair set that row `k` leads to a mark, if it leads to one.
@@ -31,10 +30,8 @@ fn mark_sets(links: &[u32], rows: LinkRows, marks: &mut [u32])
     requires marks_value { marks.old ≡ replicate (length marks.old) 0 }
     ensures { MarksSets links.now rows.first rows.after (left marks) }
 {
-    let mut k = rows.first;
-    while k < rows.after {
+    for k in rows.first..rows.after {
         mark_set(links, k, marks);
-        k += 1;
     }
 }
 
@@ -54,12 +51,10 @@ fn marked_sorted(data: &[u8], objects: &[u32], marks: &[u32], size: usize) -> bo
     requires { ((i : ℕ) → i < length marks.now → Inside (length «data».now) objects.now i) × (size ≤ 32) }
     ensures { (l c : List ℕ) → result ≡ all (mark_sorted (lent «data».now objects.now l c) marks.now size) (length marks.now) }
 {
-    let mut i: usize = 0;
-    while i < marks.len() {
+    for i in 0..marks.len() {
         if !mark_sorted(data, objects, marks, size, i) {
             return false;
         }
-        i += 1;
     }
     true
 }
@@ -79,7 +74,7 @@ pub fn sorted_in_order(
         → result
         ≡ all (λ i. leads_sorted (lent «data».now objects.now links.now c) size (rows.first + i)) (rows.after - rows.first) }
 {
-    clear_u32(marks);
+    marks.fill(0);
     mark_sets(links, rows, marks);
     marked_sorted(data, objects, marks, size)
 }

@@ -1,8 +1,8 @@
 -- A plan's cuts, and in format 2 the covered glyphs by class, at the front of the scratch: what deciding leaves there, and what is lent on. Assumes nothing.
+use Rattle.std.specs.Prelude.{None, Ok, Result}
 use Prim.Native.Nat.{ℕ, ◌-◌}
 use mathlib.Core.Path.{◌≡◌, sym, ap, ap₂, subst, ◌∙◌}
 use mathlib.Core.List.{List, map, ◌++◌}
-use mathlib.Core.Option.{none}
 use native.Mathlib.Omega.{arith}
 use lib.ListN.{length, take, drop, length-map}
 use Rattle.folds.specs.Lists.{put, part, Bytes}
@@ -13,10 +13,12 @@ use Rattle.folds.proofs.Ascending.{length-ascending}
 use Rattle.ot_layouts.specs.Coverage.{Entry}
 use Rattle.store_rules.specs.Store.{Store}
 use Rattle.cut_filling.proofs.Turns.{placed_front}
+use Rattle.call_rules.specs.declared.Answer.{Answer}
+use Rattle.call_lists.specs.declared.Plan.{Plan}
 use Rattle.pair_rules.specs.Table.{shape, entries_of, glyphs_of, cut_places}
 use Rattle.call_rules.specs.declared.Settings.{Settings}
 use Rattle.call_rules.specs.Scratch.{Scratch, lengths_of}
-use Rattle.call_rules.specs.Answers.{first_case}
+use Rattle.call_rules.specs.Answers.{first_case, refusal}
 use Rattle.call_rules.specs.Settings.{settings_cases}
 use Rattle.pair_rules.specs.Calls.{read_cases, scratch_short, cut_cases}
 use Rattle.call_rules.proofs.Scratch.{LongEnough, long_enough}
@@ -26,10 +28,8 @@ use Rattle.pair_rules.proofs.Entries.{entries_glyphs}
 use Rattle.pair_rules.proofs.TableCuts.{table_cuts}
 use Rattle.glyph_sort.specs.Pairs.{keyed_at, pairs, keys_of, beside_of}
 use Rattle.glyph_sort.specs.ByClass.{class_pairs, ByClass}
-use Rattle.pair_plan.specs.declared.Plan.{Plan}
-use Rattle.pair_plan.specs.declared.Decision.{Decision}
-use Rattle.pair_plan.specs.declared.Decision.TheVariants.{Cut}
-use Rattle.pair_plan.specs.Decided.{decided_as, Planned, Decided}
+use Rattle.pair_checks.specs.declared.PairTable.{PairTable}
+use Rattle.pair_plan.specs.Decided.{Planned, Decided}
 use Rattle.pair_plan.proofs.Counting.{planned_few}
 use Rattle.pair_carrying.specs.Arranging.{Arranging}
 use Rattle.pair_split.specs.Splitting.{PlanReady}
@@ -52,19 +52,20 @@ entries_long : (s : Store) (t : ℕ) → length (entries_of s t) ≡ length (gly
 entries_long s t = sym (length-map (entries_of s t) (λ e. e.glyph)) ∙ ap length (entries_glyphs s t)
 
 -- 6 does not apply
-pub scratch_long : (how : Settings) (s : Store) (t : ℕ) (w : Scratch) → first_case (cut_cases how s t w) ≡ none
+pub scratch_long : (how : Settings) (s : Store) (t : ℕ) (w : Scratch) → first_case (cut_cases how s t w) ≡ None
     → LongEnough (lengths_of w) s.object_count (length (glyphs_of s t)) (shape s t).count
 unfolding cut_cases scratch_short
 scratch_long how s t w h =
     let (read, rest) = first_append (settings_cases how ++ read_cases s t) _ h in
     long_enough (lengths_of w) s.object_count (length (glyphs_of s t)) (shape s t).count (first_head _ _ rest).0
 
-module _ {how : Settings} {s : Store} {t : ℕ} {w : Scratch} {d : Decision} {gs ks cuts : List ℕ} (x : Decided how s t w d gs ks cuts) {p : Plan} (y : d ≡ Cut p) where
+module _ {how : Settings} {s : Store} {t : ℕ} {w : Scratch} {d : Result (Plan PairTable) Answer} {gs ks cuts : List ℕ}
+    (x : Decided how s t w d gs ks cuts) {p : Plan PairTable} (y : d ≡ Ok p) where
   abbrev k : Planned how s t w p gs ks cuts
   k = x.plans p y
 
-  pub none_applies : first_case (cut_cases how s t w) ≡ none
-  none_applies = x.answers ∙ ap decided_as y
+  pub none_applies : first_case (cut_cases how s t w) ≡ None
+  none_applies = x.answers ∙ ap refusal y
 
   pub at_places : part cuts 0 p.cuts ≡ cut_places how s t
   at_places = placed_front k.cut.placed
@@ -101,7 +102,7 @@ module _ {how : Settings} {s : Store} {t : ℕ} {w : Scratch} {d : Decision} {gs
 
 -- ---- lent on
 
-pub fronts_lent : {s : Store} {t : ℕ} {p : Plan} {gs ks cuts : List ℕ} → PlanReady s t p gs ks cuts → (p.cuts ≡ 0 → ⊥)
+pub fronts_lent : {s : Store} {t : ℕ} {p : Plan PairTable} {gs ks cuts : List ℕ} → PlanReady s t p gs ks cuts → (p.cuts ≡ 0 → ⊥)
     → Arranging s t p.table (part gs 0 p.table.glyphs) (part ks 0 p.table.glyphs) (part cuts 0 p.cuts)
 fronts_lent {p = p} {gs = gs} {ks = ks} {cuts = cuts} k some =
     record {

@@ -1,8 +1,8 @@
 -- Where a pair's values stand, by what the checks hold of an open table, and that both value records stand there whole. Assumes nothing.
+use Rattle.std.specs.Prelude.{Option, Some, None}
 use Prim.Native.Nat.{ℕ, ◌+◌, ◌*◌, ◌≤◌, ◌<◌}
 use mathlib.Core.Path.{◌≡◌, refl, sym, ap, subst, ◌∙◌}
 use mathlib.Core.Bool.{Bool, true, false, cond, ◌&&◌}
-use mathlib.Core.Option.{Option, some, none}
 use native.Mathlib.Nat.{mul_comm, mul_assoc}
 use native.Mathlib.Omega.{arith}
 use lib.ListN.{length}
@@ -30,12 +30,12 @@ use Rattle.pair_sets.proofs.Halved.{values_within}
 
 -- ---- one answer after another
 
-then_some : {A B : Type 0} (o : Option A) (f : A → Option B) (x : B) → and_then o f ≡ some x → (a : A) × (o ≡ some a) × (f a ≡ some x)
+then_some : {A B : Type 0} (o : Option A) (f : A → Option B) (x : B) → and_then o f ≡ Some x → (a : A) × (o ≡ Some a) × (f a ≡ Some x)
 unfolding and_then
-then_some none f x e = let z : ◌≡◌ {A = ℕ} 0 1 = cc in absurd (omega arith)
-then_some (some a) f x e = (a, refl, e)
+then_some None f x e = let z : ◌≡◌ {A = ℕ} 0 1 = cc in absurd (omega arith)
+then_some (Some a) f x e = (a, refl, e)
 
-given-some : {A : Type 0} (b : Bool) (a x : A) → given b a ≡ some x → (b ≡ true) × (a ≡ x)
+given-some : {A : Type 0} (b : Bool) (a x : A) → given b a ≡ Some x → (b ≡ true) × (a ≡ x)
 given-some true a x e = (refl, cc)
 given-some false a x e = let z : ◌≡◌ {A = ℕ} 0 1 = cc in absurd (omega arith)
 
@@ -68,7 +68,7 @@ module _ {s : Store} {t : ℕ} {p : PairTable} (o : Opens s t p) where
         and_then (given (ltb k (sym same_count i)) (form1.header_is i + form1.item_is i * k)) λ q.
         and_then (child_at s t q) λ c.
         and_then (first_record (bytes_of s c) (sym same_size i) b) λ r.
-        some (record { object = c; at = values_at (sym same_size i) r }))
+        Some (record { object = c; at = values_at (sym same_size i) r }))
 
   module _ (two : eqb (shape s t).format 1 ≡ false) where
     pub same_unit : p.layout.unit ≡ record_size (bytes_of s t)
@@ -95,7 +95,11 @@ module _ {s : Store} {t : ℕ} {p : PairTable} (o : Opens s t p) where
         ap (λ (c : Bool). cond c (spot1 s t a b) (spot2 s t a b)) two
         ∙ (λ i. and_then (cover_place (sym same_cover i) a) λ k.
         given (ltb (class_of (sym same_class1 i) a) (sym same_count i) && ltb (class_of (sym same_class2 i) b) (sym same_columns i))
-        (record { object = t; at = (Shapes.format_two (bytes_of s t) two).header_is i + sym same_unit i * (class_of (sym same_class1 i) a * sym same_columns i + class_of (sym same_class2 i) b) }))
+        (record {
+          object = t;
+          at = (Shapes.format_two (bytes_of s t) two).header_is i
+              + sym same_unit i * (class_of (sym same_class1 i) a * sym same_columns i + class_of (sym same_class2 i) b);
+        }))
 
 -- ---- whole
 
@@ -112,7 +116,7 @@ pub record Whole (s : Store) (t : ℕ) (q : Spot) : Type 0 where
   pub used : q.object < s.object_count
   pub within : q.at + record_size (bytes_of s t) ≤ length (bytes_of s q.object)
 
-module _ {s : Store} {t : ℕ} {p : PairTable} (o : Opens s t p) (a b : ℕ) (q : Spot) (e : spot_of s t a b ≡ some q) where
+module _ {s : Store} {t : ℕ} {p : PairTable} (o : Opens s t p) (a b : ℕ) (q : Spot) (e : spot_of s t a b ≡ Some q) where
   fits : Fits s
   fits = sound_fits s o.reads.sounds
 
@@ -127,7 +131,8 @@ module _ {s : Store} {t : ℕ} {p : PairTable} (o : Opens s t p) (a b : ℕ) (q 
       subst (Whole s t) y
       (record {
         used = child_used_lem s t fits slot c child;
-        within = subst (λ (n : ℕ). values_at (field_bytes p.layout) r + n ≤ length (bytes_of s c)) (same_size o) (values_within (bytes_of s c) (field_bytes p.layout) b r found);
+        within = subst (λ (n : ℕ). values_at (field_bytes p.layout) r + n ≤ length (bytes_of s c)) (same_size o)
+            (values_within (bytes_of s c) (field_bytes p.layout) b r found);
       })
 
   row_whole : eqb (shape s t).format 1 ≡ false → Whole s t q

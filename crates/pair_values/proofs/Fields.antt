@@ -1,4 +1,5 @@
 -- The numbers of a value record: a field's bytes stand within the object, and what each kind of field answers. Assumes nothing.
+use Rattle.std.specs.Prelude.{Option, Some, None}
 use Prim.Native.Nat.{ℕ, suc, ◌+◌, ◌-◌, ◌*◌, ◌≤◌, ◌<◌}
 use mathlib.Core.Path.{◌≡◌, sym, ap, ap₂, ◌∙◌}
 use mathlib.Core.Bool.{Bool, true, false, not}
@@ -16,9 +17,6 @@ use Rattle.ot_layouts.specs.Values.{bit, field_at, position}
 use Rattle.ot_layouts.specs.declared.Field.{Field}
 use Rattle.ot_layouts.proofs.Values.{bit_below, position_more, position_le, position_all}
 use Rattle.store_reader.specs.Rows.{Inside, InOrder}
-use Rattle.store_reader.specs.Children.{child_found}
-use Rattle.store_reader.specs.declared.Child.{Child}
-use Rattle.store_reader.specs.declared.Child.TheVariants.{Of, Nowhere}
 use Rattle.store_reader.proofs.Bytes.{inside}
 use Rattle.store_reader.proofs.Rows.{in_order_lem}
 use Rattle.store_rules.specs.Store.{Store, bytes_of, child_at, child_of}
@@ -52,17 +50,17 @@ module _ (v : ℕ) where
 abbrev pub SmallChildren : Store → Type 0
 SmallChildren s = (k : ℕ) → k < s.link_count → child_of s k < 65536
 
-module _ (s : Store) (p q : ℕ) {x : Child} (e : child_found x ≡ child_at s p q) where
-  pub child_small : SmallChildren s → {c : ℕ} → x ≡ Of c → c < 65536
+module _ (s : Store) (p q : ℕ) {x : Option ℕ} (e : x ≡ child_at s p q) where
+  pub child_small : SmallChildren s → {c : ℕ} → x ≡ Some c → c < 65536
   child_small small {c} y =
-      let (k, l, a, b, z) = child_row s p q c (sym e ∙ ap child_found y) in
+      let (k, l, a, b, z) = child_row s p q c (sym e ∙ y) in
       rw z at (small k l)
 
-  pub device_linked : {c : ℕ} → x ≡ Of c → c < 65536 → to_z w32 (c + 1) ≡ device_number (child_at s p q)
-  device_linked {c} y h = to_z_pos w32 (c + 1) (omega arith) ∙ ap device_number (sym (ap child_found y) ∙ e)
+  pub device_linked : {c : ℕ} → x ≡ Some c → c < 65536 → to_z w32 (c + 1) ≡ device_number (child_at s p q)
+  device_linked {c} y h = to_z_pos w32 (c + 1) (omega arith) ∙ ap device_number (sym y ∙ e)
 
-  pub device_none : x ≡ Nowhere → pos 0 ≡ device_number (child_at s p q)
-  device_none y = ap device_number (sym (ap child_found y) ∙ e)
+  pub device_none : x ≡ None → pos 0 ≡ device_number (child_at s p q)
+  device_none y = ap device_number (sym y ∙ e)
 
 -- ---- fields
 

@@ -15,7 +15,7 @@ use ot_layouts::field_at;
 use ot_pairpos::Layout;
 use ot_values::{field_count, has_field, position};
 use ot_wire::u16_at;
-use store_reader::{Child, bytes_of, child_at};
+use store_reader::{bytes_of, child_at};
 
 // A pair as it is answered: whether there is one, and eight numbers for each glyph.
 #[derive(Clone, Copy)]
@@ -43,8 +43,8 @@ fn device_number(links: &[u32], counts: [u32; 3], object: u32, position: u32) ->
 {
     let child = child_at(links, counts, object, position);
     match child {
-        Child::Of(c) => (c + 1) as i32,
-        Child::Nowhere => 0,
+        Some(c) => (c + 1) as i32,
+        None => 0,
     }
 }
 
@@ -87,11 +87,9 @@ fn numbers_at(
     ensures { result ≡ upto (number_of (store_came_with «data» objects links counts) object at format) 8 }
 {
     let mut numbers = [0i32; 8];
-    let mut j: usize = 0;
-    while j < 8 {
+    for j in 0..8 {
         let name = field_at(j).name;
         numbers[name] = number_at(data, objects, links, counts, object, at, format, j);
-        j += 1;
     }
     numbers
 }

@@ -1,9 +1,9 @@
 -- What 12 and the checks from 6 on ask of any call, where none of its cases applies, and the other way round. Assumes nothing.
+use Rattle.std.specs.Prelude.{Option, Some, None}
 use Prim.Native.Nat.{ℕ, ◌+◌, ◌<◌, ◌≤◌}
 use mathlib.Core.Path.{◌≡◌, refl, ap, ◌∙◌}
 use mathlib.Core.Bool.{Bool, true, false, not, cond, ◌||◌}
 use mathlib.Core.List.{List, [], ◌∷◌, ◌++◌}
-use mathlib.Core.Option.{Option, some, none}
 use native.Mathlib.Omega.{arith}
 use lib.ListN.{length}
 use lib.Dec.{ltb}
@@ -26,8 +26,8 @@ module _ (how : Settings) (read : List Case) (short slots loop : Bool) (others :
   abbrev later : List Case
   later = case ShortScratch short ∷ case BadLinks (not slots || loop) ∷ others
 
-  pub no_case_checks : first_case (settings_cases how ++ read ++ later) ≡ none
-      → (known how ≡ true) × (first_case read ≡ none) × (short ≡ false) × (slots ≡ true) × (loop ≡ false) × (first_case others ≡ none)
+  pub no_case_checks : first_case (settings_cases how ++ read ++ later) ≡ None
+      → (known how ≡ true) × (first_case read ≡ None) × (short ≡ false) × (slots ≡ true) × (loop ≡ false) × (first_case others ≡ None)
   unfolding settings_cases
   no_case_checks h =
       let (front, rest) = first_append (settings_cases how ++ read) later h in
@@ -37,8 +37,8 @@ module _ (how : Settings) (read : List Case) (short slots loop : Bool) (others :
       let (at, round) = or_none (not slots) loop stands in
       (not-false (known how) twelve, none_read, six, not-false slots at, round, none_other)
 
-  pub checks_no_case : known how ≡ true → first_case read ≡ none → short ≡ false → slots ≡ true → loop ≡ false → first_case others ≡ none
-      → first_case (settings_cases how ++ read ++ later) ≡ none
+  pub checks_no_case : known how ≡ true → first_case read ≡ None → short ≡ false → slots ≡ true → loop ≡ false → first_case others ≡ None
+      → first_case (settings_cases how ++ read ++ later) ≡ None
   unfolding first_case
   checks_no_case k a b c d e = first_skip (settings_cases how ++ read) later (first_skip (settings_cases how) read (known_pass how k) ∙ a) ∙ rw (b, c, d) e
 
@@ -99,19 +99,19 @@ module _ (cut : List Case) (cs : List ℕ) (s : Store) (list : List ℕ) (n : Ne
   abbrev last : List Case
   last = case Done (is_empty cs) ∷ case NoRoom (room_short s list n) ∷ []
 
-  pub no_case_room : first_case (cut ++ last) ≡ none → (first_case cut ≡ none) × (0 < length cs) × RoomFor s list n
+  pub no_case_room : first_case (cut ++ last) ≡ None → (first_case cut ≡ None) × (0 < length cs) × RoomFor s list n
   no_case_room h =
       let (none_cut, rest) = first_append cut last h in
       let (cuts, eight) = first_head _ _ rest in
       (none_cut, not_empty cs cuts, not_short s list n (first_head _ _ eight).0)
 
-  pub room_no_case : first_case cut ≡ none → 0 < length cs → RoomFor s list n → first_case (cut ++ last) ≡ none
+  pub room_no_case : first_case cut ≡ None → 0 < length cs → RoomFor s list n → first_case (cut ++ last) ≡ None
   unfolding first_case
   room_no_case none_cut cuts r = first_skip cut last none_cut ∙ rw (some_cut_lem cs cuts, room_enough s list n r)
 
   -- with no cut there is nothing more to ask
-  pub no_cut_case : first_case cut ≡ none → cs ≡ [] → first_case (cut ++ last) ≡ some 0
+  pub no_cut_case : first_case cut ≡ None → cs ≡ [] → first_case (cut ++ last) ≡ Some 0
   unfolding first_case is_empty
   no_cut_case none_cut e =
       let eight : Option ℕ = first_case (case NoRoom (room_short s list n) ∷ []) in
-      first_skip cut last none_cut ∙ ap (λ (places : List ℕ). cond (is_empty places) (some 0) eight) e
+      first_skip cut last none_cut ∙ ap (λ (places : List ℕ). cond (is_empty places) (Some 0) eight) e

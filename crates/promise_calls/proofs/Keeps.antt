@@ -1,9 +1,9 @@
 -- A call whose outcome is settled by its cases keeps what is promised of it, and no second outcome does. Assumes nothing.
+use Rattle.std.specs.Prelude.{Option, Some, None}
 use Prim.Native.Nat.{ℕ}
 use mathlib.Core.Path.{◌≡◌, refl, sym, ◌∙◌}
 use mathlib.Core.List.{List}
 use mathlib.Core.Logic.{◌⊎◌, inl, inr, ⊎_elim}
-use mathlib.Core.Option.{Option, some, none}
 use native.Mathlib.Omega.{arith}
 use Rattle.store_rules.specs.Store.{Store}
 use Rattle.call_rules.specs.Answers.{Case, first_case}
@@ -14,17 +14,17 @@ use Rattle.promise_calls.proofs.Settled.{stands, zeroed}
 use Rattle.promise_calls.proofs.Given.{gives_one, settle_gives}
 use Rattle.promise_calls.proofs.Unique.{same_outcome, one_unchanged}
 
-some_none : (n : ℕ) → ◌≡◌ {A = Option ℕ} (some n) none → ⊥
+some_none : (n : ℕ) → ◌≡◌ {A = Option ℕ} (Some n) None → ⊥
 some_none n e = let z : ◌≡◌ {A = ℕ} 0 1 = cc in omega arith
 
-module _ (cases : List Case) (May : Type 0) (may : first_case cases ≡ none → May) (clear : May → first_case cases ≡ none) where
+module _ (cases : List Case) (May : Type 0) (may : first_case cases ≡ None → May) (clear : May → first_case cases ≡ None) where
   -- what has to hold does or does not: the cases decide it
   pub decided : May ⊎ (May → ⊥)
   decided = go (first_case cases) may clear
     where
-      go : (c : Option ℕ) → (c ≡ none → May) → (May → c ≡ none) → May ⊎ (May → ⊥)
-      go (some n) f g = inr (λ m. some_none n (g m))
-      go none f g = inl (f refl)
+      go : (c : Option ℕ) → (c ≡ None → May) → (May → c ≡ None) → May ⊎ (May → ⊥)
+      go (Some n) f g = inr (λ m. some_none n (g m))
+      go None f g = inl (f refl)
 
   module _ (Leaves : Outcome → Type 0) (s : Store) (w : Scratch) (list : List ℕ) where
     -- where going ahead answers 0, clears the scratch, and leaves what is promised

@@ -1,10 +1,10 @@
 -- A kept pair table is cut after a compaction where it would have been cut before, its links stand as they stood, and a split of it needs the same. Assumes
 -- nothing.
+use Rattle.std.specs.Prelude.{Option, Some, None}
 use Prim.Native.Nat.{ℕ}
 use mathlib.Core.Path.{◌≡◌, refl, sym, ap, ◌∙◌}
 use mathlib.Core.Bool.{Bool, true, false, cond}
 use mathlib.Core.List.{List, map}
-use mathlib.Core.Option.{Option, some, none}
 use native.Mathlib.Omega.{arith}
 use lib.ListN.{length, get_or}
 use lib.Dec.{eqb}
@@ -38,8 +38,8 @@ use Rattle.promise_compaction.proofs.Readings.{child_keeps, same_under, all-at_k
 use Rattle.promise_compaction.proofs.Rests.{fewer_enough}
 
 there : (new : ℕ → ℕ) (o : Option ℕ) → is_some (mapped new o) ≡ is_some o
-there new none = refl
-there new (some c) = refl
+there new None = refl
+there new (Some c) = refl
 
 -- entries, over the format, coverage and class definition 1
 abbrev entries_by : Bool → List ℕ → List ℕ → List Entry
@@ -67,7 +67,7 @@ module _ (s : Store) (f : Fits s) (keep : ℕ → Bool) (k : Keeps s keep) (how 
       (rule1 how (shape_of b).count (λ i. is_some (child_at x u (item_at (shape_of b) i))) (item_size x (of_items u (shape_of b))) (size_of x (linked_at x u cover_at)))
       (rule2 how (shape_of b).count (shape_of b).item (item_size x (of_items u (shape_of b))) (entries_of x u) (size_of x (linked_at x u class2_at)))
 
-  linked_size : (q c : ℕ) → child_at s t q ≡ some c → size_of left (linked_at left (new t) q) ≡ size_of s (linked_at s t q)
+  linked_size : (q c : ℕ) → child_at s t q ≡ Some c → size_of left (linked_at left (new t) q) ≡ size_of s (linked_at s t q)
   linked_size q c e =
       ap (size_of left) (linked_is left (new t) q (new c) (child_under same q c e))
       ∙ size_kept s f keep k c (child_keeps s f keep k t q c h e)

@@ -1,9 +1,9 @@
 -- The next call that enters new tables in the lookups of a kept list: it is asked what it was asked before, but for 6 and 8. Assumes nothing.
+use Rattle.std.specs.Prelude.{Option, Some, None}
 use Prim.Native.Nat.{ℕ, suc, ◌+◌, ◌*◌, ◌<◌}
 use mathlib.Core.Path.{◌≡◌, refl, sym, ap, ap₂, ◌∙◌}
 use mathlib.Core.Bool.{Bool, true, false, cond, not, ◌&&◌, ◌||◌}
 use mathlib.Core.List.{List, [], ◌∷◌, ◌++◌, map, append_assoc}
-use mathlib.Core.Option.{Option, some, none}
 use native.Mathlib.Omega.{arith}
 use lib.ListN.{length, get_or, length-append, get_or-map}
 use lib.Dec.{leb, eqb}
@@ -86,13 +86,13 @@ module _ (keep : ℕ → Bool) where
   module _ (t : ℕ) (h : Kept t) where
     leads_then : (o : Option ℕ) → Each Kept (linked_in (o ∷ [])) → leads_to (new t) (mapped new o) ≡ leads_to t o
     unfolding linked_in
-    leads_then (some c) a = number_same keep c t a.0 h
-    leads_then none a = refl
+    leads_then (Some c) a = number_same keep c t a.0 h
+    leads_then None a = refl
 
     split_kept : (o : Option ℕ) (os : List (Option ℕ)) → Each Kept (linked_in (o ∷ os)) → Each Kept (linked_in (o ∷ [])) × Each Kept (linked_in os)
     unfolding linked_in
-    split_kept (some c) os a = ((a.0, tt), a.1)
-    split_kept none os a = (tt, a)
+    split_kept (Some c) os a = ((a.0, tt), a.1)
+    split_kept None os a = (tt, a)
 
     any_then : (os : List (Option ℕ)) → Each Kept (linked_in os) → any_leads (new t) (map (mapped new) os) ≡ any_leads t os
     unfolding any_leads
@@ -106,19 +106,19 @@ module _ (keep : ℕ → Bool) where
     entered_then_lem us vs n [] a = refl
     entered_then_lem us vs n (o ∷ os) a =
         let (x, y) = split_kept o os a in
-        ap (λ (b : Bool). suc (length (cond b (map some vs ++ entered (new t) vs (map (mapped new) os)) (entered (new t) vs (map (mapped new) os))))) (leads_then o x)
+        ap (λ (b : Bool). suc (length (cond b (map Some vs ++ entered (new t) vs (map (mapped new) os)) (entered (new t) vs (map (mapped new) os))))) (leads_then o x)
         ∙ go (leads_to t o) (entered_then_lem us vs n os y)
       where
         go : (b : Bool) → length (entered (new t) vs (map (mapped new) os)) ≡ length (entered t us os)
-            → suc (length (cond b (map some vs ++ entered (new t) vs (map (mapped new) os)) (entered (new t) vs (map (mapped new) os))))
-            ≡ suc (length (cond b (map some us ++ entered t us os) (entered t us os)))
+            → suc (length (cond b (map Some vs ++ entered (new t) vs (map (mapped new) os)) (entered (new t) vs (map (mapped new) os))))
+            ≡ suc (length (cond b (map Some us ++ entered t us os) (entered t us os)))
         go true i =
             omega (
               arith,
-              length-append (map some vs) (entered (new t) vs (map (mapped new) os)),
-              length-append (map some us) (entered t us os),
-              length-map some vs,
-              length-map some us,
+              length-append (map Some vs) (entered (new t) vs (map (mapped new) os)),
+              length-append (map Some us) (entered t us os),
+              length-map Some vs,
+              length-map Some us,
             )
         go false i = ap suc i
 
@@ -321,7 +321,7 @@ module _ (s : Store) (f : Fits s) (keep : ℕ → Bool) (k : Keeps s keep) (how 
       ∙ ap₂ or_else (ap first_case list_same) (settings_first how (read_cases s' t') (read_cases s t) (checks_same (same_under s f keep k t ht)))
       ∙ sym (first_either (list_cases how s l t) (settings_cases how ++ read_cases s t))
 
-  enter_alike : first_case (enter_asking how s l t w).front ≡ none → AskedAlike (enter_asking how s l t w) (enter_asking how s' l' t' w)
+  enter_alike : first_case (enter_asking how s l t w).front ≡ None → AskedAlike (enter_asking how s l t w) (enter_asking how s' l' t' w)
   unfolding needed_in_all
   enter_alike e =
       let reads = (first_append (settings_cases how) (read_cases s t) (first_append (list_cases how s l t) _ e).1).1 in

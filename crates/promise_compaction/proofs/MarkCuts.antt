@@ -1,11 +1,11 @@
 -- A kept mark-to-base table is cut after a compaction where it would have been cut before, its links stand as they stood, and a split of it needs the same.
 -- Assumes nothing.
+use Rattle.std.specs.Prelude.{Some}
 use Prim.Native.Nat.{ℕ, ◌+◌, ◌-◌, ◌*◌}
 use mathlib.Core.Path.{◌≡◌, sym, ap, ap₂, ◌∙◌}
 use mathlib.Core.Bool.{Bool, true, false, ◌&&◌, ◌||◌}
 use mathlib.Core.List.{List, [], ◌∷◌, ◌++◌, map, map-map}
 use mathlib.Core.Logic.{⊎_elim}
-use mathlib.Core.Option.{some}
 use native.Mathlib.Omega.{arith}
 use lib.ListN.{length, get_or, get_or-map}
 use Rattle.folds.specs.Folds.{flat, upto}
@@ -125,7 +125,7 @@ module _ (s : Store) (f : Fits s) (keep : ℕ → Bool) (k : Keeps s keep) (how 
 
   -- ---- a part under its new number
 
-  module _ (q c : ℕ) (e : child_at s t q ≡ some c) where
+  module _ (q c : ℕ) (e : child_at s t q ≡ Some c) where
     part-kept : keep (linked_at s t q) ≡ true
     part-kept = ap keep (linked_is s t q c e) ∙ child_keeps s f keep k t q c h e
 

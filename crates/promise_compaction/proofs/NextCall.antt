@@ -1,9 +1,9 @@
 -- Two calls that ask the same, but for 6 and 8, of which the second asks for less: what the second answers. Assumes nothing.
+use Rattle.std.specs.Prelude.{Option, Some, None}
 use Prim.Native.Nat.{ℕ, ◌<◌}
 use mathlib.Core.Path.{◌≡◌, refl, sym, ap, ◌∙◌}
 use mathlib.Core.Bool.{Bool, true, false, cond, not, ◌&&◌, ◌||◌}
 use mathlib.Core.List.{List, [], ◌∷◌, ◌++◌}
-use mathlib.Core.Option.{Option, some, none}
 use native.Mathlib.Omega.{arith}
 use lib.ListN.{length}
 use lib.Dec.{eqb}
@@ -37,21 +37,21 @@ record Alike (m m' : Option ℕ) (six six' eight eight' : Bool) : Type 0 where
 
 module _ {m' : Option ℕ} {six' eight' : Bool} where
   -- any number but 6 and 8 stays
-  stays : (f : Option ℕ) (six : Bool) (m : Option ℕ) (eight : Bool) → (f ≡ none → Alike m m' six six' eight eight')
-      → (asked f six m eight ≡ some 6 → ⊥) → (asked f six m eight ≡ some 8 → ⊥) → asked f six' m' eight' ≡ asked f six m eight
-  stays (some n) six m eight h a b = refl
-  stays none true m eight h a b = absurd (a refl)
-  stays none false (some n) eight h a b = rw ((h refl).same, (h refl).fewer refl)
-  stays none false none true h a b = absurd (b refl)
-  stays none false none false h a b = rw ((h refl).same, (h refl).fewer refl, (h refl).roomier refl)
+  stays : (f : Option ℕ) (six : Bool) (m : Option ℕ) (eight : Bool) → (f ≡ None → Alike m m' six six' eight eight')
+      → (asked f six m eight ≡ Some 6 → ⊥) → (asked f six m eight ≡ Some 8 → ⊥) → asked f six' m' eight' ≡ asked f six m eight
+  stays (Some n) six m eight h a b = refl
+  stays None true m eight h a b = absurd (a refl)
+  stays None false (Some n) eight h a b = rw ((h refl).same, (h refl).fewer refl)
+  stays None false None true h a b = absurd (b refl)
+  stays None false None false h a b = rw ((h refl).same, (h refl).fewer refl, (h refl).roomier refl)
 
   -- where 8 was the first, nothing else refuses
-  eighth : (f : Option ℕ) (six : Bool) (m : Option ℕ) (eight : Bool) → (f ≡ none → Alike m m' six six' eight eight')
-      → (f ≡ some 8 → ⊥) → (m ≡ some 8 → ⊥) → asked f six m eight ≡ some 8 → (f ≡ none) × (asked f six' m' eight' ≡ given eight' 8)
-  eighth (some n) six m eight h a b e = absurd (a e)
-  eighth none true m eight h a b e = let z : ◌≡◌ {A = ℕ} 6 8 = cc in absurd (omega arith)
-  eighth none false (some n) eight h a b e = absurd (b e)
-  eighth none false none eight h a b e = (refl, rw ((h refl).same, (h refl).fewer refl))
+  eighth : (f : Option ℕ) (six : Bool) (m : Option ℕ) (eight : Bool) → (f ≡ None → Alike m m' six six' eight eight')
+      → (f ≡ Some 8 → ⊥) → (m ≡ Some 8 → ⊥) → asked f six m eight ≡ Some 8 → (f ≡ None) × (asked f six' m' eight' ≡ given eight' 8)
+  eighth (Some n) six m eight h a b e = absurd (a e)
+  eighth None true m eight h a b e = let z : ◌≡◌ {A = ℕ} 6 8 = cc in absurd (omega arith)
+  eighth None false (Some n) eight h a b e = absurd (b e)
+  eighth None false None eight h a b e = (refl, rw ((h refl).same, (h refl).fewer refl))
 
 -- ---- the cases of a call that splits
 
@@ -60,12 +60,12 @@ unfoldable pub no_eight : List Case → Bool
 no_eight [] = true
 no_eight (c ∷ cs) = not (eqb c.answer 8) && no_eight cs
 
-not_eighth : (cs : List Case) → no_eight cs ≡ true → first_case cs ≡ some 8 → ⊥
+not_eighth : (cs : List Case) → no_eight cs ≡ true → first_case cs ≡ Some 8 → ⊥
 unfolding first_case no_eight
 not_eighth [] a e = let z : ◌≡◌ {A = ℕ} 0 1 = cc in omega arith
 not_eighth (c ∷ cs) a e = let (x, y) = and_both (not (eqb c.answer 8)) (no_eight cs) a in go c.applies x e (not_eighth cs y)
   where
-    go : (b : Bool) → not (eqb c.answer 8) ≡ true → cond b (some c.answer) (first_case cs) ≡ some 8 → (first_case cs ≡ some 8 → ⊥) → ⊥
+    go : (b : Bool) → not (eqb c.answer 8) ≡ true → cond b (Some c.answer) (first_case cs) ≡ Some 8 → (first_case cs ≡ Some 8 → ⊥) → ⊥
     go true x e ih = let n : c.answer ≡ 8 = cc in true_false (sym (eq-eqb c.answer 8 n) ∙ not-true (eqb c.answer 8) x)
     go false x e ih = ih e
 
@@ -108,7 +108,7 @@ first_of s list a =
     ∙ ap (λ (o : Option ℕ). or_else (given a.six 6) (or_else (first_case (middle a)) o)) (one_case eight 8))
 
 -- where none applies there is a cut
-none_cuts : (s : Store) (list : List ℕ) (a : Asking) → first_case (cases_of s list a) ≡ none → (first_case a.front ≡ none) × (0 < length a.cuts)
+none_cuts : (s : Store) (list : List ℕ) (a : Asking) → first_case (cases_of s list a) ≡ None → (first_case a.front ≡ None) × (0 < length a.cuts)
 none_cuts s list a e =
     let (front, rest) = first_append a.front _ e in
     let (middles, eight) = first_append (middle a) _ (first_head _ _ rest).1 in
@@ -132,7 +132,7 @@ pub record OneEight (a : Asking) : Type 0 where
   pub middle : no_eight (middle a) ≡ true
 
 module _ (s s'' : Store) (xs : List ℕ) (left left'' : Store) (ys : List ℕ) (w : Scratch) (list : List ℕ) (rooms : RoomFreed s left)
-    (a b : Asking) (front : first_case b.front ≡ first_case a.front) (alike : first_case a.front ≡ none → AskedAlike a b) (eights : OneEight a)
+    (a b : Asking) (front : first_case b.front ≡ first_case a.front) (alike : first_case a.front ≡ None → AskedAlike a b) (eights : OneEight a)
     (many : length xs ≡ length a.cuts) (many' : length ys ≡ length b.cuts) where
   abbrev first : Option ℕ
   first = first_case (cases_of s list a)
@@ -153,10 +153,10 @@ module _ (s s'' : Store) (xs : List ℕ) (left left'' : Store) (ys : List ℕ) (
   second_of : second ≡ asked (first_case a.front) b.six (first_case (middle b)) (room_short left list b.needs)
   second_of = first_of left list b ∙ ap (λ (o : Option ℕ). asked o b.six (first_case (middle b)) (room_short left list b.needs)) front
 
-  room : first_case a.front ≡ none → room_short left list b.needs ≡ short
+  room : first_case a.front ≡ None → room_short left list b.needs ≡ short
   room e = ap (room_short left list) (alike e).needs ∙ rooms list a.needs
 
-  parts : first_case a.front ≡ none
+  parts : first_case a.front ≡ None
       → Alike (first_case (middle a)) (first_case (middle b)) a.six b.six (room_short s list a.needs) (room_short left list b.needs)
   parts e =
       let l = alike e in
@@ -175,12 +175,12 @@ module _ (s s'' : Store) (xs : List ℕ) (left left'' : Store) (ys : List ℕ) (
       (sym (first_of s list a) ∙ refused first e) in
       second_of ∙ given-eight ∙ ap (λ (x : Bool). given x 8) (room front-none)
     where
-      refused : (c : Option ℕ) → (before c).answer ≡ 8 → c ≡ some 8
-      refused (some n) q = ap some q
-      refused none q = absurd (omega arith)
+      refused : (c : Option ℕ) → (before c).answer ≡ 8 → c ≡ Some 8
+      refused (Some n) q = ap Some q
+      refused None q = absurd (omega arith)
 
   -- any other number but 6 stays
-  first_stays : (first ≡ some 6 → ⊥) → (first ≡ some 8 → ⊥) → second ≡ first
+  first_stays : (first ≡ Some 6 → ⊥) → (first ≡ Some 8 → ⊥) → second ≡ first
   first_stays x y =
       let e = first_of s list a in
       second_of
@@ -191,12 +191,12 @@ module _ (s s'' : Store) (xs : List ℕ) (left left'' : Store) (ys : List ℕ) (
   unfolding settle done
   next_call =
       record {
-        freed = λ e z. let q : second ≡ none = first_eighth e ∙ rw z in rw q (refl, omega (arith, many', (none_cuts left list b q).1));
-        refused = λ e z. let q : second ≡ some 8 = first_eighth e ∙ rw z in rw q;
+        freed = λ e z. let q : second ≡ None = first_eighth e ∙ rw z in rw q (refl, omega (arith, many', (none_cuts left list b q).1));
+        refused = λ e z. let q : second ≡ Some 8 = first_eighth e ∙ rw z in rw q;
         stays = λ x y.
             rw (first_stays (λ q. x (ap (λ (c : Option ℕ). (before c).answer) q)) (λ q. y (ap (λ (c : Option ℕ). (before c).answer) q))) (same first refl);
       }
     where
       same : (c : Option ℕ) → first ≡ c → ((after c).answer ≡ (before c).answer) × ((after c).count ≡ (before c).count)
-      same (some n) e = (refl, refl)
-      same none e = (refl, many' ∙ ap length (alike (none_cuts s list a e).0).cuts ∙ sym many)
+      same (Some n) e = (refl, refl)
+      same None e = (refl, many' ∙ ap length (alike (none_cuts s list a e).0).cuts ∙ sym many)

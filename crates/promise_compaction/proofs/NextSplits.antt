@@ -1,9 +1,9 @@
 -- The next split of a kept table: it is asked what it was asked before, but for 6 and 8. Assumes nothing.
+use Rattle.std.specs.Prelude.{None}
 use Prim.Native.Nat.{ℕ}
 use mathlib.Core.Path.{◌≡◌, refl, sym, ap, ◌∙◌}
 use mathlib.Core.Bool.{Bool, true, not}
 use mathlib.Core.List.{List, [], ◌∷◌, ◌++◌, append_assoc}
-use mathlib.Core.Option.{none}
 use lib.ListN.{length}
 use Rattle.folds.specs.Folds.{or_else}
 use Rattle.folds.proofs.Folds.{length-upto}
@@ -83,7 +83,7 @@ module _ (s : Store) (f : Fits s) (keep : ℕ → Bool) (k : Keeps s keep) (how 
   same : SameUnder (renumber keep) s left t
   same = same_under s f keep k t h
 
-  pub pair_alike : first_case (pair_calls.read_cases s t) ≡ none → AskedAlike (pair_asking how s t w) (pair_asking how left u w)
+  pub pair_alike : first_case (pair_calls.read_cases s t) ≡ None → AskedAlike (pair_asking how s t w) (pair_asking how left u w)
   pair_alike reads =
       let r = pair_checks.no_case_reads s t reads in
       let cuts = cuts_kept s f keep k how t h r in
@@ -143,7 +143,7 @@ module _ (s : Store) (f : Fits s) (keep : ℕ → Bool) (k : Keeps s keep) (how 
   abbrev v : ℕ
   v = renumber keep t
 
-  mark_alike : first_case (mark_calls.read_cases s t) ≡ none → AskedAlike (mark_asking how s t w) (mark_asking how mark_left v w)
+  mark_alike : first_case (mark_calls.read_cases s t) ≡ None → AskedAlike (mark_asking how s t w) (mark_asking how mark_left v w)
   mark_alike reads =
       let r = mark_checks.no_case_reads s t reads in
       let cuts = mark_cuts_kept s f keep k how t h r in

@@ -1,9 +1,9 @@
 -- Every compaction keeps what is promised of it. Assumes nothing.
+use Rattle.std.specs.Prelude.{Option, Some, None}
 use Prim.Native.Nat.{ℕ, ◌*◌, ◌≤◌}
 use mathlib.Core.Path.{◌≡◌, refl, sym, ap, subst, ◌∙◌}
 use mathlib.Core.Bool.{Bool, true, false, cond, not}
 use mathlib.Core.List.{List}
-use mathlib.Core.Option.{Option, some, none}
 use native.Mathlib.Omega.{arith}
 use lib.ListN.{length}
 use lib.Dec.{ltb}
@@ -31,10 +31,10 @@ use Rattle.promise_compaction.proofs.NextSplits.{next_split, next_mark_split}
 use Rattle.promise_compaction.proofs.Entries.{next_entry}
 
 module _ (s : Store) (roots walk : List ℕ) where
-  pub no_case_may : first_case (compact_cases s roots walk) ≡ none → MayCompact s roots walk
+  pub no_case_may : first_case (compact_cases s roots walk) ≡ None → MayCompact s roots walk
   no_case_may h = let (a, b, c) = none_refuses s roots walk h in record { sounds = a; used = b; enough = c }
 
-  pub may_no_case : MayCompact s roots walk → first_case (compact_cases s roots walk) ≡ none
+  pub may_no_case : MayCompact s roots walk → first_case (compact_cases s roots walk) ≡ None
   may_no_case m = first_none s roots walk m.sounds m.used m.enough
 
   -- it goes ahead
@@ -101,28 +101,28 @@ compaction_promised s roots walk =
     done = compact_done s (kept s roots) roots walk
 
     number : (c : Option ℕ) → Gives (compact_cases s roots walk) (answer_of c) → Gives (compact_cases s roots walk) (settle_compact c s roots walk done).answer
-    number (some n) g = g
-    number none g = g
+    number (Some n) g = g
+    number None g = g
 
-    refused : (c : Option ℕ) → (c ≡ none → ⊥)
+    refused : (c : Option ℕ) → (c ≡ None → ⊥)
         → ((settle_compact c s roots walk done).moved ≡ 0) × ((settle_compact c s roots walk done).store ≡ s) × ((settle_compact c s roots walk done).roots ≡ roots)
-    refused (some n) ne = (refl, refl, refl)
-    refused none ne = absurd (ne refl)
+    refused (Some n) ne = (refl, refl, refl)
+    refused None ne = absurd (ne refl)
 
     wiped : (c : Option ℕ) → (settle_compact c s roots walk done).walk ≡ walk_left walk
-    wiped (some n) = refl
-    wiped none = refl
+    wiped (Some n) = refl
+    wiped None = refl
 
 -- whatever has the call's outcome does
 pub compact_keeps : (s : Store) (roots walk : List ℕ) (o : CompactOutcome) → o ≡ compaction_call s roots walk → CompactKeeps s roots walk o
 compact_keeps s roots walk o e = subst (CompactKeeps s roots walk) (sym e) (compaction_promised s roots walk)
 
 -- no case answers 0
-no_zero : (s : Store) (roots walk : List ℕ) → first_case (compact_cases s roots walk) ≡ some 0 → ⊥
+no_zero : (s : Store) (roots walk : List ℕ) → first_case (compact_cases s roots walk) ≡ Some 0 → ⊥
 unfolding compact_cases first_case
 no_zero s roots walk = go (not (sound s)) (not (roots_used s.object_count roots)) (ltb (length walk) (2 * s.object_count))
   where
-    go : (a b c : Bool) → cond {A = Option ℕ} a (some 1) (cond b (some 2) (cond c (some 6) none)) ≡ some 0 → ⊥
+    go : (a b c : Bool) → cond {A = Option ℕ} a (Some 1) (cond b (Some 2) (cond c (Some 6) None)) ≡ Some 0 → ⊥
     go true b c e = let z : ◌≡◌ {A = ℕ} 1 0 = cc in omega arith
     go false true c e = let z : ◌≡◌ {A = ℕ} 2 0 = cc in omega arith
     go false false true e = let z : ◌≡◌ {A = ℕ} 6 0 = cc in omega arith
@@ -137,6 +137,6 @@ compacts_exactly s roots walk = (
   (λ m. ap (λ (o : CompactOutcome). o.answer) (goes_ahead s roots walk m)),
 )
   where
-    went : (c : Option ℕ) → (c ≡ some 0 → ⊥) → (settle_compact c s roots walk (compact_done s (kept s roots) roots walk)).answer ≡ 0 → c ≡ none
-    went (some n) ne e = absurd (ne (ap some e))
-    went none ne e = refl
+    went : (c : Option ℕ) → (c ≡ Some 0 → ⊥) → (settle_compact c s roots walk (compact_done s (kept s roots) roots walk)).answer ≡ 0 → c ≡ None
+    went (Some n) ne e = absurd (ne (ap Some e))
+    went None ne e = refl

@@ -1,9 +1,9 @@
 -- Readings of kept tables stay, with what they name under new numbers. Assumes nothing.
+use Rattle.std.specs.Prelude.{Option, Some, None}
 use Prim.Native.Nat.{ℕ, ◌+◌, ◌*◌}
 use mathlib.Core.Path.{◌≡◌, refl, sym, ap, ◌∙◌}
 use mathlib.Core.Bool.{Bool, true}
 use mathlib.Core.List.{List, map}
-use mathlib.Core.Option.{Option, some, none}
 use native.Mathlib.Omega.{arith}
 use borrow.Author.Tests.{lt-leb}
 use Rattle.folds.specs.Lists.{is_some}
@@ -36,7 +36,7 @@ use Rattle.promise_compaction.specs.Readings.{ReadingsKept}
 
 module _ (s : Store) (f : Fits s) (keep : ℕ → Bool) (k : Keeps s keep) where
   -- what a kept object leads to is kept
-  pub child_keeps : (u q c : ℕ) → keep u ≡ true → child_at s u q ≡ some c → keep c ≡ true
+  pub child_keeps : (u q c : ℕ) → keep u ≡ true → child_at s u q ≡ Some c → keep c ≡ true
   child_keeps u q c h e =
       let (j, l, a, b, x) = child_row s u q c e in
       sym (ap keep x) ∙ k.closed j l (of_offset u (link_at s j) a) (ap keep (of_parent u (link_at s j) a) ∙ h)
@@ -62,9 +62,9 @@ module _ (s : Store) (f : Fits s) (keep : ℕ → Bool) (k : Keeps s keep) where
       (λ e. children_stand (compacted s keep) (renumber keep u) slot (compacted_fits s f keep k)
       (λ q c x. let (d, y) = child_there s u q (there (child_at s u q) (sym (child_kept s f keep k u h q) ∙ x)) in child_stands s u slot e q d y))
     where
-      there : {c : ℕ} (o : Option ℕ) → mapped (renumber keep) o ≡ some c → is_some o ≡ true
-      there (some d) e = refl
-      there none e = let z : ◌≡◌ {A = ℕ} 0 1 = cc in absurd (omega arith)
+      there : {c : ℕ} (o : Option ℕ) → mapped (renumber keep) o ≡ Some c → is_some o ≡ true
+      there (Some d) e = refl
+      there None e = let z : ◌≡◌ {A = ℕ} 0 1 = cc in absurd (omega arith)
 
   -- ---- lookups
 

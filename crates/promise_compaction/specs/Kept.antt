@@ -1,6 +1,5 @@
 -- What is kept, under which numbers, and what each kept object has then: s is compacted by these roots, and `left` is what is left. Assumes nothing.
-use Rattle.std.specs.Prelude.{ℕ, ◌<◌, ◌≡◌, true, List, map, ◌⊎◌}
-use Rattle.std.proofs.Math.Option.{some, none}
+use Rattle.std.specs.Prelude.{ℕ, ◌<◌, ◌≡◌, true, List, map, ◌⊎◌, Some, None}
 use Rattle.folds.specs.Lists.{among, sift}
 use Rattle.store_rules.specs.Store.{Store, bytes_of, child_at, links_of, orders_of}
 use Rattle.store_rules.specs.Reach.{Reach}
@@ -19,8 +18,8 @@ new_number s roots i = renumber (kept s roots) i
 pub record ObjectKept (s : Store) (roots : List ℕ) (left : Store) (i : ℕ) : Type 0 where
   pub used : new_number s roots i < left.object_count
   pub bytes : bytes_of left (new_number s roots i) ≡ bytes_of s i
-  pub child : (q c : ℕ) → child_at s i q ≡ some c → child_at left (new_number s roots i) q ≡ some (new_number s roots c)
-  pub no_child : (q : ℕ) → child_at s i q ≡ none → child_at left (new_number s roots i) q ≡ none
+  pub child : (q c : ℕ) → child_at s i q ≡ Some c → child_at left (new_number s roots i) q ≡ Some (new_number s roots c)
+  pub no_child : (q : ℕ) → child_at s i q ≡ None → child_at left (new_number s roots i) q ≡ None
   -- it is placed after what it was placed after, as far as that is kept
   pub orders : orders_of left (new_number s roots i) ≡ map (new_number s roots) (sift (kept s roots) (orders_of s i))
 

@@ -1,9 +1,9 @@
 -- When a call enters new tables: exactly if what documents 01 and 02 ask for holds. Assumes nothing.
+use Rattle.std.specs.Prelude.{None}
 use Prim.Native.Nat.{ℕ, ◌<◌, ◌≤◌}
 use mathlib.Core.Path.{◌≡◌, ◌∙◌}
 use mathlib.Core.Bool.{true}
 use mathlib.Core.List.{List, ◌++◌}
-use mathlib.Core.Option.{none}
 use native.Mathlib.Omega.{arith}
 use lib.ListN.{length, get_or}
 use lib.Dec.{leb}
@@ -46,7 +46,7 @@ module _ (how : Settings) (s : Store) (l t : ℕ) (w : Scratch) (list : List ℕ
   unfolding counts_fit
   fit_counts h = all_intro (λ m. leb (many m) 65535) (length ps) (λ m k. le-leb (many m) 65535 (h m k))
 
-  pub no_case_enters : first_case (lookup_cases how s l t w list) ≡ none → MayEnter how s l t w list
+  pub no_case_enters : first_case (lookup_cases how s l t w list) ≡ None → MayEnter how s l t w list
   unfolding lookup_cases list_cases settings_cases enter_cases needed_in_all needed needs_of lookups_need
   no_case_enters h =
       let (checks, b) = first_append (list_cases how s l t ++ cut_cases how s t w) (enter_cases s l t cs list) h in
@@ -72,14 +72,14 @@ module _ (how : Settings) (s : Store) (l t : ℕ) (w : Scratch) (list : List ℕ
         entries = omega arith;
       }
 
-  asked : MayEnter how s l t w list → first_case (list_cases how s l t) ≡ none
+  asked : MayEnter how s l t w list → first_case (list_cases how s l t) ≡ None
   unfolding list_cases first_case
   asked m =
       let r = m.checked.reads in
       first_skip (settings_cases how) _ (known_pass how m.checked.known)
       ∙ rw (r.sounds, lt-leb s.object_count t r.used, lt-leb s.object_count l m.used, m.listed)
 
-  last : MayEnter how s l t w list → first_case (enter_cases s l t cs list) ≡ none
+  last : MayEnter how s l t w list → first_case (enter_cases s l t cs list) ≡ None
   unfolding enter_cases first_case needed_in_all needed needs_of lookups_need
   last m =
       let entries = m.entries in
@@ -89,9 +89,9 @@ module _ (how : Settings) (s : Store) (l t : ℕ) (w : Scratch) (list : List ℕ
         room_enough s list (needed_in_all s l t cs) (record { objects = m.objects; links = m.links; bytes = m.bytes; entries = omega arith }),
       )
 
-  pub enters_no_case : MayEnter how s l t w list → first_case (lookup_cases how s l t w list) ≡ none
+  pub enters_no_case : MayEnter how s l t w list → first_case (lookup_cases how s l t w list) ≡ None
   unfolding lookup_cases
   enters_no_case m =
-      let cut : first_case (list_cases how s l t ++ cut_cases how s t w) ≡ none
+      let cut : first_case (list_cases how s l t ++ cut_cases how s t w) ≡ None
       = first_skip (list_cases how s l t) (cut_cases how s t w) (asked m) ∙ checked_no_case how s t w m.checked in
       first_skip (list_cases how s l t ++ cut_cases how s t w) (enter_cases s l t cs list) cut ∙ last m

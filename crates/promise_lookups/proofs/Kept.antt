@@ -1,10 +1,10 @@
 -- What is kept: other objects but for redirected children, the tables as the split wrote them, the new lookups, and where the list leads. Assumes nothing.
+use Rattle.std.specs.Prelude.{Option, Some, None}
 use Prim.Native.Nat.{ℕ, ◌<◌}
 use mathlib.Core.Path.{◌≡◌, refl, sym, ap, subst, ◌∙◌}
 use mathlib.Core.Bool.{true, false}
 use mathlib.Core.List.{List, ◌∷◌, map}
 use mathlib.Core.Logic.{◌⊎◌, inl, inr}
-use mathlib.Core.Option.{Option, some, none}
 use native.Mathlib.Omega.{arith}
 use lib.ListN.{length, get_or}
 use borrow.Author.Tests.{lt-leb}
@@ -78,7 +78,7 @@ module _ (s : Store) (l t : ℕ) (cs : List ℕ) (e : Entering s l t cs) where
       never : (c : ℕ) → among c ps ≡ true → Way s u c → ⊥
       never c a w = no_way_from s l t e.fine e.ready.fit e.ready.reads u apart c a w
 
-      other : (u : ℕ) → reaches s u t ≡ false → (q c : ℕ) → child_at s u q ≡ some c → c ≡ t → ⊥
+      other : (u : ℕ) → reaches s u t ≡ false → (q c : ℕ) → child_at s u q ≡ Some c → c ≡ t → ⊥
       other u apart q c x z = true_false (sym (way_reaches s e.ready.fit u t (subst (Way s u) z (way_child s u q c x))) ∙ apart)
 
   -- ---- the tables of the split
@@ -121,8 +121,8 @@ module _ (s : Store) (l t : ℕ) (cs : List ℕ) (e : Entering s l t cs) where
 
 -- a link, as the demands say where it leads then
 lead_then_lem : (how : Settings) (s : Store) (l t : ℕ) (o : Option ℕ) → mapped (number_then how s l t) o ≡ lead_then how s l t o
-lead_then_lem how s l t (some c) = refl
-lead_then_lem how s l t none = refl
+lead_then_lem how s l t (Some c) = refl
+lead_then_lem how s l t None = refl
 
 pub orders_redirected : OrdersRedirected
 orders_redirected how s l t w list p i =

@@ -1,10 +1,10 @@
 -- The promise: a type 2 lookup of the list, as the list leads to it before and after, gives the same for any two glyphs. Assumes nothing.
+use Rattle.std.specs.Prelude.{Option, Some, None}
 use Prim.Native.Nat.{ℕ, ◌+◌, ◌*◌, ◌<◌}
 use mathlib.Core.Path.{◌≡◌, refl, sym, ap, ap₂, ◌∙◌}
 use mathlib.Core.Bool.{Bool, true, false, cond}
 use mathlib.Core.List.{List, [], ◌∷◌, ◌++◌, map, map-append}
 use mathlib.Core.Logic.{◌⊎◌, inl, inr, ⊎_elim}
-use mathlib.Core.Option.{Option, some, none}
 use native.Mathlib.Omega.{arith}
 use native.Mathlib.Decide.{ℕ_discrete}
 use lib.ListN.{length, get_or}
@@ -149,22 +149,22 @@ module _ (s : Store) (l t : ℕ) (cs : List ℕ) (e : Entering s l t cs) where
     entered_pairs : (os : List (Option ℕ)) → Each Good (linked_in os) → read_in_order s'' (map R (linked_in (entered t us os))) a b ≡ read_in_order s (linked_in os) a b
     unfolding entered linked_in read_in_order
     entered_pairs [] h = refl
-    entered_pairs (none ∷ os) h = entered_pairs os h
-    entered_pairs (some c ∷ os) h = go (ℕ_discrete c t) (entered_pairs os h.1)
+    entered_pairs (None ∷ os) h = entered_pairs os h
+    entered_pairs (Some c ∷ os) h = go (ℕ_discrete c t) (entered_pairs os h.1)
       where
         rest : List (Option ℕ)
         rest = entered t us os
 
         go : Dec (c ≡ t) → read_in_order s'' (map R (linked_in rest)) a b ≡ read_in_order s (linked_in os) a b
-            → read_in_order s'' (map R (c ∷ linked_in (cond (eqb c t) (map some us ++ rest) rest))) a b ≡ read_in_order s (c ∷ linked_in os) a b
+            → read_in_order s'' (map R (c ∷ linked_in (cond (eqb c t) (map Some us ++ rest) rest))) a b ≡ read_in_order s (c ∷ linked_in os) a b
         go (no ne) i =
-            ap (λ (x : Bool). read_in_order s'' (map R (c ∷ linked_in (cond x (map some us ++ rest) rest))) a b) (ne_eqb c t ne)
+            ap (λ (x : Bool). read_in_order s'' (map R (c ∷ linked_in (cond x (map Some us ++ rest) rest))) a b) (ne_eqb c t ne)
             ∙ ap₂ (λ (x y : PairOutcome). cond (eqb x.found 1) x y) (good_read c a b h.0 ne) i
         go (yes z) i =
-            ap (λ (x : Bool). read_in_order s'' (map R (c ∷ linked_in (cond x (map some us ++ rest) rest))) a b) (eq-eqb c t z)
-            ∙ ap (λ (x : ℕ). read_in_order s'' (map R (x ∷ linked_in (map some us ++ rest))) a b) z
+            ap (λ (x : Bool). read_in_order s'' (map R (c ∷ linked_in (cond x (map Some us ++ rest) rest))) a b) (eq-eqb c t z)
+            ∙ ap (λ (x : ℕ). read_in_order s'' (map R (x ∷ linked_in (map Some us ++ rest))) a b) z
             ∙ ap (λ (xs : List ℕ). read_in_order s'' (map R (t ∷ xs)) a b)
-            (linked_append (map some us) rest ∙ ap (λ (xs : List ℕ). xs ++ linked_in rest) (linked_all us))
+            (linked_append (map Some us) rest ∙ ap (λ (xs : List ℕ). xs ++ linked_in rest) (linked_all us))
             ∙ ap (λ (xs : List ℕ). read_in_order s'' xs a b) (map-append R (t ∷ us) (linked_in rest))
             ∙ read_append s'' a b (map R (t ∷ us)) (map R (linked_in rest))
             ∙ ap₂ (λ (x y : PairOutcome). cond (eqb x.found 1) x y) (tables_read a b ∙ together) i
@@ -183,7 +183,7 @@ module _ (s : Store) (l t : ℕ) (cs : List ℕ) (e : Entering s l t cs) where
         each_linked Good slot count
         (λ i c k x. record {
           used = child_used_lem s p e.ready.fit (lookup_header + 2 * i) c x;
-          apart = no_other c (among-linked (upto slot count) i c (omega (arith, length-upto slot count)) (upto-at slot count i none k ∙ x));
+          apart = no_other c (among-linked (upto slot count) i c (omega (arith, length-upto slot count)) (upto-at slot count i None k ∙ x));
         })
 
     -- one that is not rewritten has its slots, redirected
@@ -225,15 +225,15 @@ module _ (s : Store) (l t : ℕ) (cs : List ℕ) (e : Entering s l t cs) where
     -- what the list leads to then
     abbrev Kept : ℕ → Type 0
     Kept q =
-        (p' : ℕ) × (child_at (lookup_store s l t cs) l q ≡ some p') × (lookup_type (bytes_of (lookup_store s l t cs) p') ≡ pair_type)
+        (p' : ℕ) × (child_at (lookup_store s l t cs) l q ≡ Some p') × (lookup_type (bytes_of (lookup_store s l t cs) p') ≡ pair_type)
         × ((a b : ℕ) → applied (lookup_store s l t cs) p' a b ≡ applied s p a b)
 
-    lookup_kept : (q : ℕ) → child_at s l q ≡ some p → among p (lookups_of s l) ≡ true → lookup_type (bytes_of s p) ≡ pair_type → Together → Kept q
+    lookup_kept : (q : ℕ) → child_at s l q ≡ Some p → among p (lookups_of s l) ≡ true → lookup_type (bytes_of s p) ≡ pair_type → Together → Kept q
     lookup_kept q lead among-list two together = ⊎_elim
-        (λ (m, h, z, n). (s'.object_count + m, led ∙ ap some n, type_new m h z ∙ two, applied_new m h z together))
+        (λ (m, h, z, n). (s'.object_count + m, led ∙ ap Some n, type_new m h z ∙ two, applied_new m h z together))
         (λ (absent, n). (
           p,
-          led ∙ ap some n,
+          led ∙ ap Some n,
           ap lookup_type (other_bytes s l t cs e p listed.used listed.other) ∙ two,
           applied_other
               (by_test (names s t p)
@@ -243,7 +243,7 @@ module _ (s : Store) (l t : ℕ) (cs : List ℕ) (e : Entering s l t cs) where
         ))
         (redirect_either s'.object_count ps p)
       where
-        led : child_at s'' l q ≡ some (R p)
+        led : child_at s'' l q ≡ Some (R p)
         led = other_child s l t cs e l q e.used (list_other s l t e.fine e.ready.fit e.ready.reads) ∙ ap (mapped R) lead
 
 -- "applying a type 2 lookup of the list, as the list now leads to it, to any pair gives what it gave before"

@@ -1,11 +1,11 @@
 -- The promise speaks of something, and its second condition is needed: a call that enters a table, where another subtable has a device link to the lookup.
 -- Assumes nothing.
+use Rattle.std.specs.Prelude.{Option, Some, None}
 use Prim.Native.Nat.{ℕ, ◌*◌}
 use mathlib.Core.Path.{◌≡◌, refl, sym, ap, ◌∙◌}
 use mathlib.Core.Bool.{true}
 use mathlib.Core.List.{List, [], ◌∷◌, ◌++◌}
 use mathlib.Core.Logic.{⊎_elim}
-use mathlib.Core.Option.{Option, some, none}
 use native.Mathlib.Omega.{arith}
 use lib.ListN.{replicate, get_or, get_or-eq_default, length}
 use lib.IntN.{ℤ, pos}
@@ -66,18 +66,18 @@ turned_octets = bytes_append front (replicate 65618 0) (below front refl) (bytes
 
 -- answer, count, where the list leads, and the device of the pair of 10 and 5 by lookup p: in one list, so that the call is computed once
 unfoldable pub seen : ℕ → Outcome → List (Option ℕ) × List ℤ
-seen p o = (some o.answer ∷ some o.count ∷ child_at o.store 2 2 ∷ [], (applied o.store p 10 5).values)
+seen p o = (Some o.answer ∷ Some o.count ∷ child_at o.store 2 2 ∷ [], (applied o.store p 10 5).values)
 
 -- the device was 3, numbered 4; it is the new lookup 11, numbered 12
 turned_seen :
     seen 11 (lookup_call first_edition turned 2 0 scratch (0 ∷ []))
-    ≡ (some 0 ∷ some 1 ∷ some 11 ∷ [], pos 0 ∷ pos 0 ∷ pos 0 ∷ pos 0 ∷ pos 12 ∷ replicate 11 (pos 0))
+    ≡ (Some 0 ∷ Some 1 ∷ Some 11 ∷ [], pos 0 ∷ pos 0 ∷ pos 0 ∷ pos 0 ∷ pos 12 ∷ replicate 11 (pos 0))
 unfolding turned front scratch computes seen
 turned_seen = refl
 
 turned_before :
     ((applied turned 3 10 5).values ≡ pos 0 ∷ pos 0 ∷ pos 0 ∷ pos 0 ∷ pos 4 ∷ replicate 11 (pos 0))
-    × (child_at turned 2 2 ≡ some 3) × (lookup_type (bytes_of turned 3) ≡ pair_type) × (subtables turned 3 ≡ 0 ∷ 4 ∷ [])
+    × (child_at turned 2 2 ≡ Some 3) × (lookup_type (bytes_of turned 3) ≡ pair_type) × (subtables turned 3 ≡ 0 ∷ 4 ∷ [])
 unfolding turned front computes
 turned_before = (refl, refl, refl, refl)
 
@@ -91,11 +91,11 @@ turned_enters =
     record { answers = answer; cuts = omega arith }
 
 -- both subtables are read without refusal
-turned_read : (first_case (pair_cases turned 0) ≡ none) × (first_case (pair_cases turned 4) ≡ none)
+turned_read : (first_case (pair_cases turned 0) ≡ None) × (first_case (pair_cases turned 4) ≡ None)
 unfolding turned front computes
 turned_read = (refl, refl)
 
-read_zero : (s : Store) (u : ℕ) → first_case (pair_cases s u) ≡ none → (a b : ℕ) → (pair_call s u a b).answer ≡ 0
+read_zero : (s : Store) (u : ℕ) → first_case (pair_cases s u) ≡ None → (a b : ℕ) → (pair_call s u a b).answer ≡ 0
 unfolding pair_call settle_pair
 read_zero s u e a b = ap (λ (o : Option ℕ). (settle_pair o (pair_of s u a b)).answer) e
 
@@ -114,14 +114,14 @@ turned_reaches = refl
 -- without the second condition the promise does not hold
 pub not_without_reach :
     ((how : Settings) (s : Store) (l t : ℕ) (w : Scratch) (list : List ℕ) → Octets s → Enters how s l t w list
-    → (q p : ℕ) → child_at s l q ≡ some p → lookup_type (bytes_of s p) ≡ pair_type → AllRead s p
-    → (p' : ℕ) × (child_at (store_entered how s l t w list) l q ≡ some p') × ((a b : ℕ) → applied (store_entered how s l t w list) p' a b ≡ applied s p a b)) → ⊥
+    → (q p : ℕ) → child_at s l q ≡ Some p → lookup_type (bytes_of s p) ≡ pair_type → AllRead s p
+    → (p' : ℕ) × (child_at (store_entered how s l t w list) l q ≡ Some p') × ((a b : ℕ) → applied (store_entered how s l t w list) p' a b ≡ applied s p a b)) → ⊥
 unfolding seen
 not_without_reach h =
     let (values, lead, two, lists) = turned_before in
     let (p', leads, gives) = h first_edition turned 2 0 scratch (0 ∷ []) turned_octets turned_enters 2 3 lead two turned_all in
     let e = ap (λ (x : List (Option ℕ) × List ℤ). x.0) turned_seen in
-    let at : child_at (store_entered first_edition turned 2 0 scratch (0 ∷ [])) 2 2 ≡ some 11 = cc in
+    let at : child_at (store_entered first_edition turned 2 0 scratch (0 ∷ [])) 2 2 ≡ Some 11 = cc in
     let z : p' ≡ 11 = cc in
     let new : (applied (store_entered first_edition turned 2 0 scratch (0 ∷ [])) 11 10 5).values ≡ pos 0 ∷ pos 0 ∷ pos 0 ∷ pos 0 ∷ pos 12 ∷ replicate 11 (pos 0)
     = ap (λ (x : List (Option ℕ) × List ℤ). x.1) turned_seen in

@@ -1,9 +1,9 @@
 -- The store stays sound, and its data bytes, when new tables are entered; and it takes what its room was asked for. Assumes nothing.
+use Rattle.std.specs.Prelude.{Option, None}
 use Prim.Native.Nat.{ℕ, ◌+◌, ◌*◌, ◌<◌, ◌≤◌}
 use mathlib.Core.Path.{◌≡◌, refl, sym, ap, subst, ◌∙◌}
 use mathlib.Core.Bool.{true}
 use mathlib.Core.List.{List, [], map}
-use mathlib.Core.Option.{Option, none}
 use native.Mathlib.Omega.{arith}
 use lib.ListN.{length, get_or}
 use Rattle.folds.specs.Lists.{join, Bytes}
@@ -99,7 +99,7 @@ module _ (s : Store) (l t : ℕ) (cs : List ℕ) (e : Entering s l t cs) where
   unfolding new_lookup_links
   new_before =
       each_flat Before (λ m. subtable_links (n + m) (slots m)) (length ps)
-      (λ m h. slots_each (n + m) lookup_header 2 (λ i. get_or (slots m) i none) Before (length (slots m))
+      (λ m h. slots_each (n + m) lookup_header 2 (λ i. get_or (slots m) i None) Before (length (slots m))
       (λ i c k x. record {
         parent_used = omega (arith, used_then s l t cs e);
         child_used = slot_used s l t cs e m i c k x;

@@ -1,9 +1,9 @@
 -- Each table with its own parts is what writing its range afresh would give, also where new tables were entered. Assumes nothing.
+use Rattle.std.specs.Prelude.{Option, unwrap_or}
 use Prim.Native.Nat.{ℕ, ◌+◌, ◌≤◌}
 use mathlib.Core.Path.{◌≡◌, sym, ap, subst, ◌∙◌}
 use mathlib.Core.Bool.{true}
 use mathlib.Core.List.{List}
-use mathlib.Core.Option.{Option, get_or}
 use Rattle.folds.specs.Lists.{among}
 use Rattle.ot_layouts.specs.Coverage.{cover_glyphs}
 use Rattle.ot_layouts.specs.ClassDef.{class_of}
@@ -38,7 +38,7 @@ module _ (s : Store) (l t : ℕ) (cs : List ℕ) (e : Entering s l t cs) where
     child_then q = table_child s l t cs e u q one.0 one.1
 
     linked_then : (q : ℕ) → linked_at s'' u q ≡ linked_at s' u q
-    linked_then q = ap (λ (o : Option ℕ). get_or o 0) (child_then q)
+    linked_then q = ap (λ (o : Option ℕ). unwrap_or o 0) (child_then q)
 
     bytes_then : (q : ℕ) → linked_bytes s'' u q ≡ linked_bytes s' u q
     bytes_then q = ap (bytes_of s'') (linked_then q) ∙ split_bytes s l t cs e (linked_at s' u q) (linked_used s' u (fit' s l t cs e) one.0 q)

@@ -1,7 +1,6 @@
 -- The demands, of what a call leaves in the caller's buffers: it has the settings how, s, l, t, w and list are what it was lent, and o is what it answers and
 -- what then stands there. Assumes nothing.
-use Rattle.std.specs.Prelude.{ℕ, ◌+◌, ◌<◌, ◌≡◌, true, false, List, map, length, get_or}
-use Rattle.std.proofs.Math.Option.{some}
+use Rattle.std.specs.Prelude.{ℕ, ◌+◌, ◌<◌, ◌≡◌, true, false, List, map, length, get_or, Some}
 use Rattle.folds.specs.Lists.{put}
 use Rattle.folds.specs.Ascending.{ascending}
 use Rattle.ot_layouts.specs.Lookup.{lookup_type, pair_type}
@@ -29,8 +28,8 @@ pub record EnterLeaves (how : Settings) (s : Store) (l t : ℕ) (list : List ℕ
   -- what is written, and that all else stays
   pub written : o.store ≡ lookup_store s l t (cut_places how s t)
   -- "applying a type 2 lookup of the list, as the list now leads to it, to any pair gives what it gave before"
-  pub lookups : (q p : ℕ) → child_at s l q ≡ some p → lookup_type (bytes_of s p) ≡ pair_type → AllRead s p → NoOtherReaches s t p
-      → (p' : ℕ) × (child_at o.store l q ≡ some p') × (lookup_type (bytes_of o.store p') ≡ pair_type)
+  pub lookups : (q p : ℕ) → child_at s l q ≡ Some p → lookup_type (bytes_of s p) ≡ pair_type → AllRead s p → NoOtherReaches s t p
+      → (p' : ℕ) × (child_at o.store l q ≡ Some p') × (lookup_type (bytes_of o.store p') ≡ pair_type)
       × ((a b : ℕ) → applied o.store p' a b ≡ applied s p a b)
   -- each new lookup, "in list order, each once, its count set, offset bytes zero, the rest copied", "the new tables directly after each listing"
   pub new : (m : ℕ) → m < length (rewritten s l t)

@@ -1,7 +1,6 @@
 -- What is promised of a call that enters new tables in lookups, as statements over its outcome in `lookup_rules`: it has the settings how, s is the store that
 -- is lent, l the lookup list's number, t the subtable's, w the scratch and list the result list. Assumes nothing.
-use Rattle.std.specs.Prelude.{ℕ, ◌+◌, ◌<◌, ◌≡◌, true, false, List, [], map, length, get_or}
-use Rattle.std.proofs.Math.Option.{Option, some, none}
+use Rattle.std.specs.Prelude.{ℕ, ◌+◌, ◌<◌, ◌≡◌, true, false, List, [], map, length, get_or, Option, Some, None}
 use Rattle.folds.specs.Lists.{put, among}
 use Rattle.folds.specs.Ascending.{ascending}
 use Rattle.ot_layouts.specs.Lookup.{lookup_type, pair_type}
@@ -63,8 +62,8 @@ number_then how s l t c = redirect (first_lookup how s t) (rewritten s l t) c
 
 -- and where a link leads then, if there is one
 abbrev pub lead_then : Settings → Store → ℕ → ℕ → Option ℕ → Option ℕ
-lead_then how s l t (some c) = some (number_then how s l t c)
-lead_then how s l t none = none
+lead_then how s l t (Some c) = Some (number_then how s l t c)
+lead_then how s l t None = None
 
 -- as many new tables as cuts, and the result list starts with their numbers
 abbrev pub EntersAsMany : Type 0
@@ -147,8 +146,8 @@ NoOtherReaches s t p = (u : ℕ) → among u (subtables s p) ≡ true → (u ≡
 abbrev pub LookupsKept : Type 0
 LookupsKept =
     (how : Settings) (s : Store) (l t : ℕ) (w : Scratch) (list : List ℕ) → Octets s → Enters how s l t w list
-    → (q p : ℕ) → child_at s l q ≡ some p → lookup_type (bytes_of s p) ≡ pair_type → AllRead s p → NoOtherReaches s t p
-    → (p' : ℕ) × (child_at (store_entered how s l t w list) l q ≡ some p') × (lookup_type (bytes_of (store_entered how s l t w list) p') ≡ pair_type)
+    → (q p : ℕ) → child_at s l q ≡ Some p → lookup_type (bytes_of s p) ≡ pair_type → AllRead s p → NoOtherReaches s t p
+    → (p' : ℕ) × (child_at (store_entered how s l t w list) l q ≡ Some p') × (lookup_type (bytes_of (store_entered how s l t w list) p') ≡ pair_type)
     × ((a b : ℕ) → applied (store_entered how s l t w list) p' a b ≡ applied s p a b)
 
 -- ---- 3: "splitting again under the same edition", scratch being enough, adds and changes nothing

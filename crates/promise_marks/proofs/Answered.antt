@@ -1,8 +1,8 @@
 -- When there is a split, a plan or an attachment, and which number is answered: each exactly if the documents say so. Assumes nothing.
+use Rattle.std.specs.Prelude.{Option, Some, None}
 use Prim.Native.Nat.{ℕ, ◌<◌}
 use mathlib.Core.Path.{◌≡◌, refl, ap, subst, ◌∙◌}
 use mathlib.Core.List.{List}
-use mathlib.Core.Option.{Option, some, none}
 use native.Mathlib.Omega.{arith}
 use Rattle.store_rules.specs.Store.{Store}
 use Rattle.call_rules.specs.declared.Settings.{Settings}
@@ -68,13 +68,13 @@ pub marks_exactly : MarksExactly
 unfolding mark_call settle_mark reported
 marks_exactly s t m b = (go (first_case (read_cases s t)) refl, may_mark s t m b)
   where
-    found : (a : Option Anchors) → (reported 0 a).found ≡ 1 → a ≡ none → ⊥
-    found (some a) h e = let z : ◌≡◌ {A = ℕ} 0 1 = cc in omega arith
-    found none h e = omega (arith, h)
+    found : (a : Option Anchors) → (reported 0 a).found ≡ 1 → a ≡ None → ⊥
+    found (Some a) h e = let z : ◌≡◌ {A = ℕ} 0 1 = cc in omega arith
+    found None h e = omega (arith, h)
 
-    go : (c : Option ℕ) → first_case (read_cases s t) ≡ c → (settle_mark c (attach_of s t m b)).found ≡ 1 → Reads s t × (attach_of s t m b ≡ none → ⊥)
-    go (some n) e h = absurd (omega (arith, h))
-    go none e h = (no_case_reads s t e, found (attach_of s t m b) h)
+    go : (c : Option ℕ) → first_case (read_cases s t) ≡ c → (settle_mark c (attach_of s t m b)).found ≡ 1 → Reads s t × (attach_of s t m b ≡ None → ⊥)
+    go (Some n) e h = absurd (omega (arith, h))
+    go None e h = (no_case_reads s t e, found (attach_of s t m b) h)
 
 -- ---- the number
 
@@ -91,9 +91,9 @@ unfolding mark_call settle_mark reported
 mark_gives s t m b = go (first_case (read_cases s t)) (attach_of s t m b) (gives_first (read_cases s t))
   where
     go : (c : Option ℕ) (a : Option Anchors) → Gives (read_cases s t) (answer_of c) → Gives (read_cases s t) (settle_mark c a).answer
-    go (some n) a g = g
-    go none (some a) g = g
-    go none none g = g
+    go (Some n) a g = g
+    go None (Some a) g = g
+    go None None g = g
 
 -- "Given exactly if (first that applies, in this order)"
 pub answers_exactly : MarkAnswersExactly

@@ -1,10 +1,10 @@
 -- The resulting tables together give the attachments that the old table gave, and no two of them the same. Assumes nothing.
+use Rattle.std.specs.Prelude.{Option, Some, None}
 use Prim.Native.Nat.{ℕ, zero, suc, ◌+◌, ◌<◌}
 use mathlib.Core.Path.{◌≡◌, refl, sym, ap, ◌∙◌}
 use mathlib.Core.Bool.{Bool, true, false}
 use mathlib.Core.List.{List, [], ◌∷◌}
 use mathlib.Core.Logic.{◌⊎◌, inl, inr, ⊎_elim}
-use mathlib.Core.Option.{Option, some, none}
 use native.Mathlib.Omega.{arith}
 use native.Mathlib.Nat.{not-suc-le-zero}
 use lib.ListN.{length, get_or}
@@ -37,13 +37,13 @@ module _ (s : Store) (m b : ℕ) where
   abbrev or_later : List ℕ → Option Anchors → Option Anchors
   or_later us o = or_attach o (attach_among s us m b)
 
-  among_none : (us : List ℕ) → ((k : ℕ) → k < length us → gave us k ≡ none) → attach_among s us m b ≡ none
+  among_none : (us : List ℕ) → ((k : ℕ) → k < length us → gave us k ≡ None) → attach_among s us m b ≡ None
   unfolding attach_among or_attach
   among_none [] h = refl
   among_none (u ∷ us) h = ap (or_later us) (h 0 (omega arith)) ∙ among_none us (λ k l. h (suc k) (omega arith))
 
-  among_one : (us : List ℕ) (a : Anchors) → ((k : ℕ) → k < length us → (gave us k ≡ some a) ⊎ (gave us k ≡ none))
-      → (k : ℕ) → k < length us → gave us k ≡ some a → attach_among s us m b ≡ some a
+  among_one : (us : List ℕ) (a : Anchors) → ((k : ℕ) → k < length us → (gave us k ≡ Some a) ⊎ (gave us k ≡ None))
+      → (k : ℕ) → k < length us → gave us k ≡ Some a → attach_among s us m b ≡ Some a
   unfolding attach_among or_attach
   among_one [] a h k l e = absurd (not-suc-le-zero l)
   among_one (u ∷ us) a h k l e =
@@ -51,8 +51,8 @@ module _ (s : Store) (m b : ℕ) where
       (λ q. ap (or_later us) q ∙ further k l e q (λ k l e. among_one us a (λ j n. h (suc j) (omega arith)) k l e))
       (h 0 (omega arith))
     where
-      further : (k : ℕ) → k < length (u ∷ us) → gave (u ∷ us) k ≡ some a → attach_of s u m b ≡ none
-          → ((k : ℕ) → k < length us → gave us k ≡ some a → attach_among s us m b ≡ some a) → attach_among s us m b ≡ some a
+      further : (k : ℕ) → k < length (u ∷ us) → gave (u ∷ us) k ≡ Some a → attach_of s u m b ≡ None
+          → ((k : ℕ) → k < length us → gave us k ≡ Some a → attach_among s us m b ≡ Some a) → attach_among s us m b ≡ Some a
       further zero l e q ih = let z : ◌≡◌ {A = ℕ} 0 1 = cc in absurd (omega arith)
       further (suc k) l e q ih = ih k (omega arith) e
 
@@ -85,17 +85,17 @@ module _ (s : Store) (t : ℕ) (cs : List ℕ) (g : Ready s t cs) where
     each_gives k l = view_attach (each_view s t cs g k l) g.reads (each_reads s t cs g k l) x y
 
     -- where there is no mark
-    nowhere : mark_of (marks_of s t) x ≡ none → (k : ℕ) → k < length cs + 1 → gives k ≡ none
+    nowhere : mark_of (marks_of s t) x ≡ None → (k : ℕ) → k < length cs + 1 → gives k ≡ None
     unfolding and_then
     nowhere e k l = each_gives k l ∙ rw e
 
-    module _ (m : Mark) (is : mark_of (marks_of s t) x ≡ some m) where
+    module _ (m : Mark) (is : mark_of (marks_of s t) x ≡ Some m) where
       hits : (k : ℕ) → k < length cs + 1 → lies_in m k ≡ true → gives k ≡ attach_mark s t y m
       unfolding and_then
       hits k l e =
           each_gives k l ∙ ap (λ (o : Option Mark). and_then o (there k)) is ∙ ap (λ (b : Bool). and_then (given b m) (attach_mark s t y)) e
 
-      misses : (k : ℕ) → k < length cs + 1 → lies_in m k ≡ false → gives k ≡ none
+      misses : (k : ℕ) → k < length cs + 1 → lies_in m k ≡ false → gives k ≡ None
       unfolding and_then
       misses k l e =
           each_gives k l ∙ ap (λ (o : Option Mark). and_then o (there k)) is ∙ ap (λ (b : Bool). and_then (given b m) (attach_mark s t y)) e
@@ -114,10 +114,10 @@ module _ (s : Store) (t : ℕ) (cs : List ℕ) (g : Ready s t cs) where
           below_range (lo_at cs j) (get_or cs j n) m.class (omega (arith, ranges_apart n cs g.cuts k j h (omega arith)))
 
       found : (o : Option Anchors) → attach_mark s t y m ≡ o → attach_among s' (tables s t cs g) x y ≡ o
-      found none e =
+      found None e =
           among_none s' x y (tables s t cs g)
           (λ k l. by_test (lies_in m k) (λ h. hits k (omega (arith, many_tables)) h ∙ e) (λ h. misses k (omega (arith, many_tables)) h))
-      found (some a) e =
+      found (Some a) e =
           let (k, l, r) = in_one in
           among_one s' x y (tables s t cs g) a
           (λ j q. by_test (lies_in m j) (λ h. inl (hits j (omega (arith, many_tables)) h ∙ e)) (λ h. inr (misses j (omega (arith, many_tables)) h)))
@@ -128,15 +128,15 @@ module _ (s : Store) (t : ℕ) (cs : List ℕ) (g : Ready s t cs) where
     all-kept = go (mark_of (marks_of s t) x) refl ∙ sym (attach_by_mark s t g.reads x y)
       where
         go : (o : Option Mark) → mark_of (marks_of s t) x ≡ o → attach_among s' (tables s t cs g) x y ≡ and_then (mark_of (marks_of s t) x) (attach_mark s t y)
-        go none e = among_none s' x y (tables s t cs g) (λ k l. nowhere e k (omega (arith, many_tables))) ∙ rw e
-        go (some m) e = found m e (attach_mark s t y m) refl ∙ rw e
+        go None e = among_none s' x y (tables s t cs g) (λ k l. nowhere e k (omega (arith, many_tables))) ∙ rw e
+        go (Some m) e = found m e (attach_mark s t y m) refl ∙ rw e
 
-    one_only : (k j : ℕ) → k < j → j < length cs + 1 → (gives k ≡ none → ⊥) → gives j ≡ none
+    one_only : (k j : ℕ) → k < j → j < length cs + 1 → (gives k ≡ None → ⊥) → gives j ≡ None
     one_only k j h l ne = go (mark_of (marks_of s t) x) refl
       where
-        go : (o : Option Mark) → mark_of (marks_of s t) x ≡ o → gives j ≡ none
-        go none e = nowhere e j l
-        go (some m) e =
+        go : (o : Option Mark) → mark_of (marks_of s t) x ≡ o → gives j ≡ None
+        go None e = nowhere e j l
+        go (Some m) e =
             by_test (lies_in m k) (λ i. misses m e j l (in_no_other m e k j h l i)) (λ i. absurd (ne (misses m e k (omega arith) i)))
 
 -- "reading the kept table and then the new ones in order" gives the anchor objects that the old table gave, or none

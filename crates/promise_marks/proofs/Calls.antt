@@ -1,9 +1,9 @@
 -- The demands hold of what a call leaves whose outcome is that of `mark_rules`. Assumes nothing.
+use Rattle.std.specs.Prelude.{Option, Some, None}
 use Prim.Native.Nat.{ℕ, suc, ◌+◌, ◌<◌}
 use mathlib.Core.Path.{◌≡◌, refl, sym, ap, subst, ◌∙◌}
 use mathlib.Core.Bool.{cond}
 use mathlib.Core.List.{List, [], ◌∷◌}
-use mathlib.Core.Option.{Option, some, none}
 use native.Mathlib.Omega.{arith}
 use lib.ListN.{length, get_or}
 use lib.Dec.{eqb}
@@ -51,8 +51,8 @@ read_among s m b (u ∷ us) h =
     ∙ chosen (attach_of s u m b) (attach_among s us m b)
   where
     chosen : (x y : Option Anchors) → cond (eqb (reported 0 x).found 1) (reported 0 x) (reported 0 y) ≡ reported 0 (or_attach x y)
-    chosen (some a) y = refl
-    chosen none y = refl
+    chosen (Some a) y = refl
+    chosen None y = refl
 
 -- ---- a split
 
@@ -137,8 +137,8 @@ unfolding mark_call settle_mark reported
 no_attachment s t m b n = go (first_case (read_cases s t)) refl
   where
     go : (c : Option ℕ) → first_case (read_cases s t) ≡ c → ((settle_mark c (attach_of s t m b)).found ≡ 0) × ((settle_mark c (attach_of s t m b)).anchors ≡ 0 ∷ 0 ∷ [])
-    go (some k) e = (refl, refl)
-    go none e = absurd (n (no_case_reads s t e))
+    go (Some k) e = (refl, refl)
+    go None e = absurd (n (no_case_reads s t e))
 
 -- a reading whose outcome is that of `mark_rules` keeps what is promised
 pub mark_keeps : (s : Store) (t m b : ℕ) (o : MarkOutcome) → o ≡ mark_call s t m b → MarkKeeps s t m b o

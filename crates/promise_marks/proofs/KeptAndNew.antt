@@ -1,8 +1,8 @@
 -- The kept table and each new one are the tables of their ranges. Assumes nothing.
+use Rattle.std.specs.Prelude.{Some}
 use Prim.Native.Nat.{ℕ, zero, suc, ◌+◌, ◌-◌, ◌*◌, ◌<◌, ◌≤◌}
 use mathlib.Core.Path.{◌≡◌, sym, ap, ap₂, subst, ◌∙◌}
 use mathlib.Core.List.{List, [], ◌∷◌}
-use mathlib.Core.Option.{some}
 use native.Mathlib.Omega.{arith}
 use lib.ListN.{length, get_or}
 use Rattle.folds.specs.Lists.{put}
@@ -33,7 +33,7 @@ module _ (s : Store) (t : ℕ) (cs : List ℕ) (g : Ready s t cs) where
   s' = split_store s t cs
 
   -- what t leads to is in use, is not t, and is as it was
-  child_kept : (q c : ℕ) → child_at s t q ≡ some c → bytes_of s' c ≡ bytes_of s c
+  child_kept : (q c : ℕ) → child_at s t q ≡ Some c → bytes_of s' c ≡ bytes_of s c
   child_kept q c e = others_bytes s t cs g c (child_used_lem s t g.fit q c e) (child_other s t g.fit g.acyclic q c e)
 
   -- ---- a new table
@@ -82,7 +82,7 @@ module _ (s : Store) (t : ℕ) (cs : List ℕ) (g : Ready s t cs) where
           );
           base_cover = (
             c,
-            new_head s t cs g j l base_cover_at (linked_at s t base_cover_at) (head_base s t u lo hi) ∙ ap some (linked_is s t base_cover_at c e),
+            new_head s t cs g j l base_cover_at (linked_at s t base_cover_at) (head_base s t u lo hi) ∙ ap Some (linked_is s t base_cover_at c e),
             e,
             child_kept base_cover_at c e,
           );
@@ -145,7 +145,7 @@ module _ (s : Store) (t : ℕ) (cs : List ℕ) (g : Ready s t cs) where
         classes = count_kept;
         cover = (v, omega arith, kept_child s t cs g cover_at ∙ rw e2, ap (bytes_of s') (sym z) ∙ part-kept 0 (omega arith));
         marks = (v + 1, omega arith, kept_child s t cs g mark_array_at ∙ rw e8, part-kept 1 (omega arith), kept_mark s t cs g);
-        bases = (v + 2, omega arith, kept_child s t cs g base_array_at ∙ rw e10 (ap some one), part-kept 2 (omega arith), kept_base s t cs g);
+        bases = (v + 2, omega arith, kept_child s t cs g base_array_at ∙ rw e10 (ap Some one), part-kept 2 (omega arith), kept_base s t cs g);
         base_cover = (c4, kept_child s t cs g base_cover_at ∙ rw e4, e4, child_kept base_cover_at c4 e4);
       }
 

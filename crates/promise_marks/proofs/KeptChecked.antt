@@ -1,10 +1,10 @@
 -- Check 7 does not apply to the kept table: its links and those of its arrays stand at slots, and it cannot be reached from itself. Assumes nothing.
+use Rattle.std.specs.Prelude.{Some}
 use Prim.Native.Nat.{ℕ, ◌+◌, ◌-◌, ◌*◌, ◌<◌, ◌≤◌}
 use mathlib.Core.Path.{◌≡◌, refl, sym, ap, subst, ◌∙◌}
 use mathlib.Core.Bool.{Bool, true, false}
 use mathlib.Core.List.{List}
 use mathlib.Core.Logic.{◌⊎◌, inl, inr, ⊎_elim}
-use mathlib.Core.Option.{some}
 use native.Mathlib.Omega.{arith}
 use native.Mathlib.Nat.{mul-le-mul_left, mul-add}
 use lib.ListN.{length}
@@ -104,19 +104,19 @@ module _ (s : Store) (t : ℕ) (cs : List ℕ) (g : Ready s t cs) where
   not_back r = let z : ◌≡◌ {A = ℕ} 0 1 = true_false (sym (reached_all s (of_t s) g.fit r) ∙ g.acyclic) in omega arith
 
   -- what the table leads to
-  leads_to_lem : (q c : ℕ) → child_at s t q ≡ some c → Reach s (of_t s) c
+  leads_to_lem : (q c : ℕ) → child_at s t q ≡ Some c → Reach s (of_t s) c
   leads_to_lem q c e = let (k, l, a, b, x) = child_row s t q c e in Reach.seed k l a x
 
   -- and what one of its arrays does
-  array_leads : (at d : ℕ) → child_at s t at ≡ some d → (q c : ℕ) → child_at s (linked_at s t at) q ≡ some c → Reach s (of_t s) c
+  array_leads : (at d : ℕ) → child_at s t at ≡ Some d → (q c : ℕ) → child_at s (linked_at s t at) q ≡ Some c → Reach s (of_t s) c
   array_leads at d f q c e =
       let (k, l, a, b, x) = child_row s (linked_at s t at) q c e in
       Reach.step (leads_to_lem at d f) k l (subst (λ (i : ℕ). offset_of i (link_at s k) ≡ true) (linked_is s t at d f) a) x
 
-  pub mark_leads : (q c : ℕ) → child_at s (mark_array s t) q ≡ some c → Reach s (of_t s) c
+  pub mark_leads : (q c : ℕ) → child_at s (mark_array s t) q ≡ Some c → Reach s (of_t s) c
   mark_leads = let (d, f) = g.parts.marks in array_leads mark_array_at d f
 
-  pub base_leads : (q c : ℕ) → child_at s (base_array s t) q ≡ some c → Reach s (of_t s) c
+  pub base_leads : (q c : ℕ) → child_at s (base_array s t) q ≡ Some c → Reach s (of_t s) c
   base_leads = let (d, f) = g.parts.bases in array_leads base_array_at d f
 
   -- it is new, or the table reached it
@@ -127,7 +127,7 @@ module _ (s : Store) (t : ℕ) (cs : List ℕ) (g : Ready s t cs) where
   Leads l = Known l.child
 
   abbrev KnownAnchor : Mark → Type 0
-  KnownAnchor m = (c : ℕ) → m.anchor ≡ some c → Known c
+  KnownAnchor m = (c : ℕ) → m.anchor ≡ Some c → Known c
 
   marks_known : (lo hi : ℕ) → Each KnownAnchor (marks_within lo hi (marks_of s t))
   unfolding marks_within marks_of mark_at mark_anchor

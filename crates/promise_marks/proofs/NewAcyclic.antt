@@ -1,10 +1,10 @@
 -- A new table cannot be reached from itself: no link leads to it. Assumes nothing.
+use Rattle.std.specs.Prelude.{Some}
 use Prim.Native.Nat.{ℕ, ◌+◌, ◌-◌, ◌*◌, ◌<◌}
 use mathlib.Core.Path.{◌≡◌, subst, sym}
 use mathlib.Core.Bool.{false}
 use mathlib.Core.List.{List}
 use mathlib.Core.Logic.{⊎_elim}
-use mathlib.Core.Option.{some}
 use native.Mathlib.Omega.{arith}
 use lib.ListN.{length}
 use Rattle.folds.proofs.Tests.{either}
@@ -43,7 +43,7 @@ module _ (s : Store) (t : ℕ) (cs : List ℕ) (g : Ready s t cs) where
   OldChild x = x.child < s.object_count
 
   abbrev OldAnchor : Mark → Type 0
-  OldAnchor m = (c : ℕ) → m.anchor ≡ some c → c < s.object_count
+  OldAnchor m = (c : ℕ) → m.anchor ≡ Some c → c < s.object_count
 
   marks_old : (lo hi : ℕ) → Each OldAnchor (marks_within lo hi (marks_of s t))
   unfolding marks_within marks_of mark_at mark_anchor

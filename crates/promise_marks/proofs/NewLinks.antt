@@ -1,10 +1,10 @@
 -- The links after a split: the old ones, then those of the new objects; and where each of them leads. Assumes nothing.
+use Rattle.std.specs.Prelude.{Some, None}
 use Prim.Native.Nat.{ℕ, ◌+◌, ◌-◌, ◌*◌, ◌<◌, ◌≤◌}
 use mathlib.Core.Path.{◌≡◌, refl, sym, ap, ◌∙◌}
 use mathlib.Core.Bool.{true}
 use mathlib.Core.List.{List, ◌++◌, map}
 use mathlib.Core.Logic.{⊎_elim}
-use mathlib.Core.Option.{some, none}
 use native.Mathlib.Omega.{arith}
 use native.Mathlib.Nat.{mul-le-mul_left, mul-add}
 use lib.ListN.{length}
@@ -91,7 +91,7 @@ module _ (s : Store) (t : ℕ) where
       (each_then (Of (u + 2) (u + 2 + 2)) (Of u (u + per_table)) (λ l (a, b). (omega arith, omega arith)) (array_links s t (u + 2) lo hi)
       (array_of (u + 2) lo hi))
 
-  head_child : (u lo hi q c : ℕ) → lookup (header_links own heads u (linked_at s t)) u q ≡ some c → lookup (table_links s t u lo hi) u q ≡ some c
+  head_child : (u lo hi q c : ℕ) → lookup (header_links own heads u (linked_at s t)) u q ≡ Some c → lookup (table_links s t u lo hi) u q ≡ Some c
   unfolding table_links
   head_child u lo hi q c e = lookup_append (header_links own heads u (linked_at s t)) (array_links s t (u + 2) lo hi) u q ∙ rw e
 
@@ -102,21 +102,21 @@ module _ (s : Store) (t : ℕ) where
       ∙ rw (header_other own u (linked_at s t) heads p q (λ e. omega arith))
 
   module _ (u lo hi : ℕ) where
-    pub head_cover : lookup (table_links s t u lo hi) u cover_at ≡ some (u + 1)
+    pub head_cover : lookup (table_links s t u lo hi) u cover_at ≡ Some (u + 1)
     unfolding header_links own_child lookup
     head_cover = head_child u lo hi cover_at (u + 1) (rw (eq-eqb u u refl))
 
-    pub head_base : lookup (table_links s t u lo hi) u base_cover_at ≡ some (linked_at s t base_cover_at)
+    pub head_base : lookup (table_links s t u lo hi) u base_cover_at ≡ Some (linked_at s t base_cover_at)
     unfolding header_links own_child lookup
     head_base = head_child u lo hi base_cover_at (linked_at s t base_cover_at) (rw (eq-eqb u u refl))
 
-    pub head_marks : lookup (table_links s t u lo hi) u mark_array_at ≡ some (u + 2)
+    pub head_marks : lookup (table_links s t u lo hi) u mark_array_at ≡ Some (u + 2)
     unfolding header_links own_child lookup
-    head_marks = head_child u lo hi mark_array_at (u + 2) (rw (eq-eqb u u refl) (ap some (omega arith)))
+    head_marks = head_child u lo hi mark_array_at (u + 2) (rw (eq-eqb u u refl) (ap Some (omega arith)))
 
-    pub head_bases : lookup (table_links s t u lo hi) u base_array_at ≡ some (u + 3)
+    pub head_bases : lookup (table_links s t u lo hi) u base_array_at ≡ Some (u + 3)
     unfolding header_links own_child lookup
-    head_bases = head_child u lo hi base_array_at (u + 3) (rw (eq-eqb u u refl) (ap some (omega arith)))
+    head_bases = head_child u lo hi base_array_at (u + 3) (rw (eq-eqb u u refl) (ap Some (omega arith)))
 
 -- ---- in the store
 
@@ -228,7 +228,7 @@ module _ (s : Store) (t : ℕ) (cs : List ℕ) (g : Ready s t cs) where
       ∙ lookup_append (flat (piece s t cs) (length cs)) (kept_piece s t cs) p q
       ∙ rw (lookup_piece (piece s t cs) (length cs) j p q l other, not-kept) (or_else_none (lookup (piece s t cs j) p q))
     where
-      other : (i : ℕ) → (i ≡ j → ⊥) → lookup (piece s t cs i) (number j + r) q ≡ none
+      other : (i : ℕ) → (i ≡ j → ⊥) → lookup (piece s t cs i) (number j + r) q ≡ None
       other i ne =
           lookup_elsewhere (piece s t cs i) (number j + r) q
           (each_then (Of (number i) (number i + per_table)) (λ l. l.parent ≡ number j + r → ⊥)
@@ -261,7 +261,7 @@ module _ (s : Store) (t : ℕ) (cs : List ℕ) (g : Ready s t cs) where
     abbrev hi : ℕ
     hi = to (classes_of s t) cs j
 
-    pub new_head : (q c : ℕ) → lookup (piece s t cs j) u q ≡ some c → child_at s' u q ≡ some c
+    pub new_head : (q c : ℕ) → lookup (piece s t cs j) u q ≡ Some c → child_at s' u q ≡ Some c
     new_head q c e =
         let z : u ≡ u + 0 = omega arith in
         ap (λ (p : ℕ). child_at s' p q) z ∙ child_table j 0 q l (omega arith) ∙ ap (λ (p : ℕ). lookup (piece s t cs j) p q) (sym z) ∙ e

@@ -1,9 +1,9 @@
 -- A split that goes ahead: what its checks give of the store, the table and its cuts. Assumes nothing.
+use Rattle.std.specs.Prelude.{Option, None}
 use Prim.Native.Nat.{ℕ, ◌+◌, ◌*◌, ◌<◌, ◌≤◌}
 use mathlib.Core.Path.{◌≡◌, sym, ap, ◌∙◌}
 use mathlib.Core.Bool.{false}
 use mathlib.Core.List.{List}
-use mathlib.Core.Option.{Option, none}
 use native.Mathlib.Omega.{arith}
 use native.Mathlib.Nat.{mul-le-mul_left, mul-add}
 use lib.ListN.{length}
@@ -81,7 +81,7 @@ abbrev pub split_ahead : Settings → Store → ℕ → Scratch → List ℕ →
 split_ahead how s t w list = done (split_store s t (cut_places how s t)) (new_tables s t (cut_places how s t)) list w
 
 -- a call that splits goes ahead: no case applies
-none_applies : (how : Settings) (s : Store) (t : ℕ) (w : Scratch) (list : List ℕ) → Splits how s t w list → first_case (split_cases how s t w list) ≡ none
+none_applies : (how : Settings) (s : Store) (t : ℕ) (w : Scratch) (list : List ℕ) → Splits how s t w list → first_case (split_cases how s t w list) ≡ None
 unfolding mark_split_call
 none_applies how s t w list p = went s w list (split_ahead how s t w list) (first_case (split_cases how s t w list)) p.cuts
 

@@ -1,9 +1,9 @@
 -- What a call leaves that refuses, or finds nothing to split. Assumes nothing.
+use Rattle.std.specs.Prelude.{Option, Some, None}
 use Prim.Native.Nat.{ℕ, ◌<◌, ◌≤◌}
 use mathlib.Core.Path.{◌≡◌, refl, sym, ap, subst, ◌∙◌}
 use mathlib.Core.Bool.{true}
 use mathlib.Core.List.{List, [], ◌∷◌, ◌++◌}
-use mathlib.Core.Option.{Option, some, none}
 use native.Mathlib.Omega.{arith}
 use lib.ListN.{length}
 use borrow.Author.Tests.{lt-leb, le-ltb, ne_eqb}
@@ -56,7 +56,7 @@ no_cut_nothing how s t w list e =
 -- ---- another format
 
 other_format : (s : Store) (t : ℕ) → sound s ≡ true → t < s.object_count → 2 ≤ length (bytes_of s t) → (format_of (bytes_of s t) ≡ 1 → ⊥)
-    → first_case (read_cases s t) ≡ some 0
+    → first_case (read_cases s t) ≡ Some 0
 unfolding read_cases first_case
 other_format s t a b c d = rw (a, lt-leb s.object_count t b, le-ltb (length (bytes_of s t)) 2 c, ne_eqb (format_of (bytes_of s t)) 1 d)
 
@@ -65,8 +65,8 @@ pub other_formats : OtherFormats
 unfolding mark_split_call mark_plan_call mark_call settle_mark split_cases plan_cases cut_cases
 other_formats how s t w list k a b c d =
     let f = other_format s t a b c d in
-    let asked : first_case (settings_cases how ++ read_cases s t) ≡ some 0 = first_skip (settings_cases how) (read_cases s t) (known_pass how k) ∙ f in
-    let cut : first_case (cut_cases how s t w) ≡ some 0 = first_stands (settings_cases how ++ read_cases s t) _ 0 asked in
+    let asked : first_case (settings_cases how ++ read_cases s t) ≡ Some 0 = first_skip (settings_cases how) (read_cases s t) (known_pass how k) ∙ f in
+    let cut : first_case (cut_cases how s t w) ≡ Some 0 = first_stands (settings_cases how ++ read_cases s t) _ 0 asked in
     let (zero-split, no-split) = stopped s w list (split_ahead how s t w list) (first_case (split_cases how s t w list)) (first_stands (cut_cases how s t w) _ 0 cut) in
     let (zero-plan, no-plan) = stopped s w list (plan_ahead how s t w list) (first_case (plan_cases how s t w list)) (first_stands (cut_cases how s t w) _ 0 cut) in
     (zero-split, no-split, zero-plan, no-plan, λ m b. ap (λ (c : Option ℕ). settle_mark c (attach_of s t m b)) f)
@@ -93,9 +93,9 @@ unfolding mark_call settle_mark reported
 mark_refusals s t m b = go (first_case (read_cases s t)) (attach_of s t m b)
   where
     go : (c : Option ℕ) (a : Option Anchors) → ((settle_mark c a).answer ≡ 0 → ⊥) → ((settle_mark c a).found ≡ 0) × ((settle_mark c a).anchors ≡ 0 ∷ 0 ∷ [])
-    go (some n) a ne = (refl, refl)
-    go none none ne = absurd (ne refl)
-    go none (some a) ne = absurd (ne refl)
+    go (Some n) a ne = (refl, refl)
+    go None None ne = absurd (ne refl)
+    go None (Some a) ne = absurd (ne refl)
 
 -- ---- a split
 

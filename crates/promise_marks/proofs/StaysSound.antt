@@ -1,10 +1,10 @@
 -- The store stays sound: its objects follow one another, and its links name objects in use, lie in their parents and ascend. Assumes nothing.
+use Rattle.std.specs.Prelude.{Some}
 use Prim.Native.Nat.{ℕ, suc, ◌+◌, ◌-◌, ◌*◌, ◌<◌, ◌≤◌}
 use mathlib.Core.Path.{◌≡◌, refl, ap, subst, ◌∙◌}
 use mathlib.Core.Bool.{true}
 use mathlib.Core.List.{List}
 use mathlib.Core.Logic.{inl, ⊎_elim}
-use mathlib.Core.Option.{some}
 use native.Mathlib.Omega.{arith}
 use lib.ListN.{length}
 use Rattle.folds.specs.Folds.{flat}
@@ -116,7 +116,7 @@ module _ (s : Store) (t : ℕ) (cs : List ℕ) (g : Ready s t cs) where
 
   -- an anchor is an old object
   abbrev OldAnchor : Mark → Type 0
-  OldAnchor m = (c : ℕ) → m.anchor ≡ some c → c < s.object_count
+  OldAnchor m = (c : ℕ) → m.anchor ≡ Some c → c < s.object_count
 
   anchors_used : (lo hi : ℕ) → Each OldAnchor (marks_within lo hi (marks_of s t))
   unfolding marks_within marks_of mark_at mark_anchor

@@ -1,9 +1,9 @@
 -- A table of a range of the old table's classes, as it stands in another store, and what it reads. Assumes nothing.
+use Rattle.std.specs.Prelude.{Option, Some, None}
 use Prim.Native.Nat.{ℕ, ◌+◌, ◌-◌, ◌*◌, ◌/◌, ◌%◌, ◌<◌, ◌≤◌}
 use mathlib.Core.Path.{◌≡◌, refl, sym, ap, ap₂, subst, ◌∙◌}
 use mathlib.Core.Bool.{Bool, true, false}
 use mathlib.Core.List.{List, map}
-use mathlib.Core.Option.{Option, some, none}
 use native.Mathlib.Omega.{arith}
 use native.Mathlib.Nat.{mul-le-mul_right, mul-add-div_right, mul-add-mod_self_right, div-eq_of_lt, mod-eq_of_lt, add-mul}
 use lib.ListN.{length}
@@ -47,13 +47,13 @@ pub record View (s : Store) (t : ℕ) (s' : Store) (u lo hi : ℕ) : Type 0 wher
   pub exactly : length (bytes_of s' u) ≡ table_size
   pub classes : classes_of s' u ≡ hi - lo
   -- a new coverage and new arrays, with the old children
-  pub cover : (c : ℕ) × (s.object_count ≤ c) × (child_at s' u cover_at ≡ some c) × (bytes_of s' c ≡ new_coverage (marks_within lo hi (marks_of s t)))
-  pub marks : (c : ℕ) × (s.object_count ≤ c) × (child_at s' u mark_array_at ≡ some c) × (bytes_of s' c ≡ new_mark_array lo (marks_within lo hi (marks_of s t)))
+  pub cover : (c : ℕ) × (s.object_count ≤ c) × (child_at s' u cover_at ≡ Some c) × (bytes_of s' c ≡ new_coverage (marks_within lo hi (marks_of s t)))
+  pub marks : (c : ℕ) × (s.object_count ≤ c) × (child_at s' u mark_array_at ≡ Some c) × (bytes_of s' c ≡ new_mark_array lo (marks_within lo hi (marks_of s t)))
       × ((k : ℕ) → k < length (marks_within lo hi (marks_of s t)) → child_at s' c (mark_slot k) ≡ mark_child (marks_within lo hi (marks_of s t)) k)
-  pub bases : (c : ℕ) × (s.object_count ≤ c) × (child_at s' u base_array_at ≡ some c) × (bytes_of s' c ≡ new_base_array (bases_in s t) (hi - lo))
+  pub bases : (c : ℕ) × (s.object_count ≤ c) × (child_at s' u base_array_at ≡ Some c) × (bytes_of s' c ≡ new_base_array (bases_in s t) (hi - lo))
       × ((k : ℕ) → k < bases_in s t * (hi - lo) → child_at s' c (base_slot k) ≡ base_child s t lo (hi - lo) k)
   -- the old base coverage
-  pub base_cover : (c : ℕ) × (child_at s' u base_cover_at ≡ some c) × (child_at s t base_cover_at ≡ some c) × (bytes_of s' c ≡ bytes_of s c)
+  pub base_cover : (c : ℕ) × (child_at s' u base_cover_at ≡ Some c) × (child_at s t base_cover_at ≡ Some c) × (bytes_of s' c ≡ bytes_of s c)
 
 module _ {s : Store} {t : ℕ} {s' : Store} {u lo hi : ℕ} (v : View s t s' u lo hi) (old : Reads s t) where
   -- the marks of the range
@@ -110,31 +110,31 @@ module _ {s : Store} {t : ℕ} {s' : Store} {u lo hi : ℕ} (v : View s t s' u l
   unfolding base_place
   view_place b = ap₂ (λ (x : List ℕ) (n : ℕ). and_then (cover_place x b) λ j. given (ltb j n) j) view_base_cover view_bases
 
-  place_below_lem : (b j : ℕ) → base_place s t b ≡ some j → j < bases_in s t
+  place_below_lem : (b j : ℕ) → base_place s t b ≡ Some j → j < bases_in s t
   unfolding base_place and_then
   place_below_lem b j e = go (cover_place (linked_bytes s t base_cover_at) b) e
     where
-      test : (i : ℕ) (x : Bool) → ltb i (bases_in s t) ≡ x → given x i ≡ some j → j < bases_in s t
+      test : (i : ℕ) (x : Bool) → ltb i (bases_in s t) ≡ x → given x i ≡ Some j → j < bases_in s t
       test i true h f = let z : i ≡ j = cc in subst (λ (n : ℕ). n < bases_in s t) z (ltb-true i (bases_in s t) h)
       test i false h f = let z : ◌≡◌ {A = ℕ} 0 1 = cc in absurd (omega arith)
 
-      go : (o : Option ℕ) → (and_then o λ j. given (ltb j (bases_in s t)) j) ≡ some j → j < bases_in s t
-      go none f = let z : ◌≡◌ {A = ℕ} 0 1 = cc in absurd (omega arith)
-      go (some i) f = test i (ltb i (bases_in s t)) refl f
+      go : (o : Option ℕ) → (and_then o λ j. given (ltb j (bases_in s t)) j) ≡ Some j → j < bases_in s t
+      go None f = let z : ◌≡◌ {A = ℕ} 0 1 = cc in absurd (omega arith)
+      go (Some i) f = test i (ltb i (bases_in s t)) refl f
 
   view_mark : (b : ℕ) (m : Mark) → lo ≤ m.class → m.class < hi → attach_mark s' u b (reduce lo m) ≡ attach_mark s t b m
   unfolding attach_mark and_then
   view_mark b m h k = go m.anchor (base_place s t b) refl
     where
       go : (a o : Option ℕ) → base_place s t b ≡ o
-          → (and_then (base_place s' u b) λ j. and_then a λ a. and_then (base_anchor s' u j (m.class - lo)) λ c. some (anchors a c))
-          ≡ (and_then (base_place s t b) λ j. and_then a λ a. and_then (base_anchor s t j m.class) λ c. some (anchors a c))
-      go a none e = rw (view_place b, e)
-      go none (some j) e = rw (view_place b, e)
-      go (some a) (some j) e =
+          → (and_then (base_place s' u b) λ j. and_then a λ a. and_then (base_anchor s' u j (m.class - lo)) λ c. Some (anchors a c))
+          ≡ (and_then (base_place s t b) λ j. and_then a λ a. and_then (base_anchor s t j m.class) λ c. Some (anchors a c))
+      go a None e = rw (view_place b, e)
+      go None (Some j) e = rw (view_place b, e)
+      go (Some a) (Some j) e =
           let z : lo + (m.class - lo) ≡ m.class = omega arith in
           let same = view_anchor j (m.class - lo) (place_below_lem b j e) (omega arith) ∙ ap (base_anchor s t j) z in
-          rw (view_place b, e) (ap (λ (o : Option ℕ). and_then o λ c. some (anchors a c)) same)
+          rw (view_place b, e) (ap (λ (o : Option ℕ). and_then o λ c. Some (anchors a c)) same)
 
   pub view_attach : Reads s' u → (g b : ℕ) → attach_of s' u g b ≡ and_then (mark_of (marks_of s t) g) λ m. and_then (only lo hi m) (attach_mark s t b)
   unfolding and_then
@@ -143,18 +143,18 @@ module _ {s : Store} {t : ℕ} {s' : Store} {u lo hi : ℕ} (v : View s t s' u l
       ∙ ap (λ (o : Option Mark). and_then o (attach_mark s' u b)) found
       ∙ go (mark_of (marks_of s t) g)
     where
-      found : mark_of (marks_of s' u) g ≡ and_then (and_then (mark_of (marks_of s t) g) (only lo hi)) λ m. some (reduce lo m)
+      found : mark_of (marks_of s' u) g ≡ and_then (and_then (mark_of (marks_of s t) g) (only lo hi)) λ m. Some (reduce lo m)
       found =
           ap (λ (x : List Mark). mark_of x g) view_marks
           ∙ mark_reduced lo ms g
-          ∙ ap (λ (o : Option Mark). and_then o λ m. some (reduce lo m)) (mark_within lo hi (marks_of s t) 0 g (marks_rise s t old))
+          ∙ ap (λ (o : Option Mark). and_then o λ m. Some (reduce lo m)) (mark_within lo hi (marks_of s t) 0 g (marks_rise s t old))
 
       test : (m : Mark) (x : Bool) → in_classes lo hi m.class ≡ x
-          → and_then (and_then (given x m) λ m. some (reduce lo m)) (attach_mark s' u b) ≡ and_then (given x m) (attach_mark s t b)
+          → and_then (and_then (given x m) λ m. Some (reduce lo m)) (attach_mark s' u b) ≡ and_then (given x m) (attach_mark s t b)
       test m true e = let (h, k) = between_is lo hi m.class e in view_mark b m h k
       test m false e = refl
 
-      go : (o : Option Mark) → and_then (and_then (and_then o (only lo hi)) λ m. some (reduce lo m)) (attach_mark s' u b)
+      go : (o : Option Mark) → and_then (and_then (and_then o (only lo hi)) λ m. Some (reduce lo m)) (attach_mark s' u b)
           ≡ and_then o λ m. and_then (only lo hi m) (attach_mark s t b)
-      go none = refl
-      go (some m) = test m (in_classes lo hi m.class) refl
+      go None = refl
+      go (Some m) = test m (in_classes lo hi m.class) refl

@@ -1,7 +1,6 @@
 -- The demands, of what a call leaves in the caller's buffers: it has the settings how, s, t, w and list are what it was lent, and o is what it answers and what
 -- then stands there. Assumes nothing.
-use Rattle.std.specs.Prelude.{ℕ, ◌<◌, ◌≡◌, true, false, cond, List, [], ◌∷◌, length, eqb}
-use Rattle.std.proofs.Math.Option.{none}
+use Rattle.std.specs.Prelude.{ℕ, ◌<◌, ◌≡◌, true, false, cond, List, [], ◌∷◌, length, eqb, None}
 use Rattle.folds.specs.Lists.{put}
 use Rattle.store_rules.specs.Store.{Store, sound, bytes_of, child_at, orders_of, head_of, tail_of}
 use Rattle.call_rules.specs.declared.Settings.{Settings}
@@ -21,7 +20,7 @@ use Rattle.promise_marks.specs.Demands.{AllAfresh}
 
 -- attachment readings of several tables, one after the other: the first with an attachment decides
 unfoldable pub read_in_order : Store → List ℕ → ℕ → ℕ → MarkOutcome
-read_in_order s [] m b = reported 0 none
+read_in_order s [] m b = reported 0 None
 read_in_order s (u ∷ us) m b = cond (eqb (mark_call s u m b).found 1) (mark_call s u m b) (read_in_order s us m b)
 
 -- after a split

@@ -1,7 +1,6 @@
 -- What is promised of every call on a mark-to-base table, as statements over its outcome in `mark_rules`: it has the settings how, s is the store that is lent,
 -- t the table's number, w the scratch and list the result list, or the plan's places. Assumes nothing.
-use Rattle.std.specs.Prelude.{ℕ, ◌+◌, ◌-◌, ◌<◌, ◌≤◌, ◌≡◌, true, false, List, [], ◌∷◌, map, length, get_or}
-use Rattle.std.proofs.Math.Option.{none}
+use Rattle.std.specs.Prelude.{ℕ, ◌+◌, ◌-◌, ◌<◌, ◌≤◌, ◌≡◌, true, false, List, [], ◌∷◌, map, length, get_or, None}
 use Rattle.folds.specs.Lists.{put, join}
 use Rattle.ot_layouts.specs.Numbers.{be16}
 use Rattle.ot_layouts.specs.MarkBasePos.{format_of, cover_at, base_cover_at, class_count_at}
@@ -41,7 +40,7 @@ OtherFormats =
     → known how ≡ true → sound s ≡ true → t < s.object_count → 2 ≤ length (bytes_of s t) → (format_of (bytes_of s t) ≡ 1 → ⊥)
     → ((mark_split_call how s t w list).answer ≡ 0) × Unchanged s w list (mark_split_call how s t w list)
     × ((mark_plan_call how s t w list).answer ≡ 0) × Unchanged s w list (mark_plan_call how s t w list)
-    × ((m b : ℕ) → mark_call s t m b ≡ reported 0 none)
+    × ((m b : ℕ) → mark_call s t m b ≡ reported 0 None)
 
 -- a reading that refuses has no attachment: two zeros
 abbrev pub MarkRefusals : Type 0
@@ -105,8 +104,8 @@ abbrev pub AttachmentsKept : Type 0
 AttachmentsKept =
     (how : Settings) (s : Store) (t : ℕ) (w : Scratch) (list : List ℕ) → Splits how s t w list → (m b : ℕ)
     → (attach_among (store_then how s t w list) (resulting how s t) m b ≡ attach_of s t m b)
-    × ((i j : ℕ) → i < j → j < length (resulting how s t) → (attach_of (store_then how s t w list) (get_or (resulting how s t) i 0) m b ≡ none → ⊥)
-    → attach_of (store_then how s t w list) (get_or (resulting how s t) j 0) m b ≡ none)
+    × ((i j : ℕ) → i < j → j < length (resulting how s t) → (attach_of (store_then how s t w list) (get_or (resulting how s t) i 0) m b ≡ None → ⊥)
+    → attach_of (store_then how s t w list) (get_or (resulting how s t) j 0) m b ≡ None)
 
 -- and the reading takes the old table and each resulting one: it answers 0 with the table's own attachment
 abbrev pub ReadingsKept : Type 0
@@ -122,7 +121,7 @@ ReadingsKept =
 -- object u of s' is the table of the classes lo up to hi of the old table t, "by this section from the old table alone"
 pub record Afresh (s : Store) (t : ℕ) (s' : Store) (u lo hi : ℕ) : Type 0 where
   -- it is a table that can be read: 1 to 5 do not apply
-  pub readable : first_case (read_cases s' u) ≡ none
+  pub readable : first_case (read_cases s' u) ≡ None
   pub classes : classes_of s' u ≡ hi - lo
   -- its coverage, of the marks of its classes; "always as new objects"
   pub covers : glyphs_of s' u ≡ map (λ m. m.glyph) (marks_within lo hi (marks_of s t))

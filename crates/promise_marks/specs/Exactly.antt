@@ -1,6 +1,5 @@
 -- When there is a split, a plan or an attachment: exactly if what the documents ask for holds, condition by condition. Assumes nothing.
-use Rattle.std.specs.Prelude.{ℕ, ◌+◌, ◌<◌, ◌≤◌, ◌≡◌, true, false, List, length}
-use Rattle.std.proofs.Math.Option.{none}
+use Rattle.std.specs.Prelude.{ℕ, ◌+◌, ◌<◌, ◌≤◌, ◌≡◌, true, false, List, length, None}
 use Rattle.folds.specs.Lists.{put, join}
 use Rattle.store_rules.specs.Store.{Store, object_room, link_room, byte_room}
 use Rattle.store_rules.specs.Reach.{on_cycle}
@@ -62,7 +61,7 @@ PlansExactly =
 abbrev pub MarksExactly : Type 0
 MarksExactly =
     (s : Store) (t m b : ℕ)
-    → ((mark_call s t m b).found ≡ 1 → Reads s t × (attach_of s t m b ≡ none → ⊥))
+    → ((mark_call s t m b).found ≡ 1 → Reads s t × (attach_of s t m b ≡ None → ⊥))
     × (Reads s t → mark_call s t m b ≡ reported 0 (attach_of s t m b))
 
 -- "Given exactly if (first that applies, in this order)": of each of the three

@@ -1,9 +1,9 @@
 -- When there is a split, a plan or a pair, and which number is answered: each exactly if document 01 says so. Assumes nothing.
+use Rattle.std.specs.Prelude.{Option, Some, None}
 use Prim.Native.Nat.{ℕ, ◌<◌}
 use mathlib.Core.Path.{◌≡◌, refl, ap, subst, ◌∙◌}
 use mathlib.Core.Bool.{Bool, true, false, cond}
 use mathlib.Core.List.{List}
-use mathlib.Core.Option.{Option, some, none}
 use native.Mathlib.Omega.{arith}
 use lib.ListN.{length}
 use Rattle.folds.proofs.Folds.{length-upto}
@@ -77,8 +77,8 @@ pairs_exactly s t a b = (go (first_case (pair_cases s t)) refl, may_pair s t a b
     found false e = absurd (omega arith)
 
     go : (c : Option ℕ) → first_case (pair_cases s t) ≡ c → (settle_pair c (pair_of s t a b)).found ≡ 1 → ReadsPairs s t × ((pair_of s t a b).found ≡ true)
-    go (some n) e h = absurd (omega (arith, h))
-    go none e h = (no_case_pairs s t e, found (pair_of s t a b).found h)
+    go (Some n) e h = absurd (omega (arith, h))
+    go None e h = (no_case_pairs s t e, found (pair_of s t a b).found h)
 
 -- ---- the number
 
@@ -95,8 +95,8 @@ unfolding pair_call settle_pair
 pair_gives s t a b = go (first_case (pair_cases s t)) (gives_first (pair_cases s t))
   where
     go : (c : Option ℕ) → Gives (pair_cases s t) (answer_of c) → Gives (pair_cases s t) (settle_pair c (pair_of s t a b)).answer
-    go (some n) g = g
-    go none g = g
+    go (Some n) g = g
+    go None g = g
 
 -- "Given exactly if (first that applies, in this order)"
 pub answers_exactly : PairAnswersExactly

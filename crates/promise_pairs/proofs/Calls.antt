@@ -1,9 +1,9 @@
 -- The demands hold of what a call leaves whose outcome is that of `pair_rules`. Assumes nothing.
+use Rattle.std.specs.Prelude.{Option, Some, None}
 use Prim.Native.Nat.{ℕ, suc, ◌+◌, ◌<◌}
 use mathlib.Core.Path.{◌≡◌, refl, sym, ap, subst, ◌∙◌}
 use mathlib.Core.Bool.{Bool, true, false, cond}
 use mathlib.Core.List.{List, [], ◌∷◌}
-use mathlib.Core.Option.{Option, some, none}
 use native.Mathlib.Omega.{arith}
 use lib.ListN.{length, get_or, replicate}
 use lib.IntN.{pos}
@@ -147,8 +147,8 @@ no_pair_lem s t a b n = go (first_case (pair_cases s t)) refl
   where
     go : (c : Option ℕ) → first_case (pair_cases s t) ≡ c
         → ((settle_pair c (pair_of s t a b)).found ≡ 0) × ((settle_pair c (pair_of s t a b)).values ≡ replicate 16 (pos 0))
-    go (some n) e = (refl, refl)
-    go none e = absurd (n (no_case_pairs s t e))
+    go (Some n) e = (refl, refl)
+    go None e = absurd (n (no_case_pairs s t e))
 
 -- a pair reading whose outcome is that of `pair_rules` keeps what is promised
 pub pair_keeps : (s : Store) (t a b : ℕ) (o : PairOutcome) → o ≡ pair_call s t a b → PairKeeps s t a b o

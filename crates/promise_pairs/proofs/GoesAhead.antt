@@ -1,8 +1,8 @@
 -- A call that splits goes ahead: its table is ready, and the store at exit is the written one. Assumes nothing.
+use Rattle.std.specs.Prelude.{Option, None}
 use Prim.Native.Nat.{ℕ}
 use mathlib.Core.Path.{◌≡◌, ap}
 use mathlib.Core.List.{List}
-use mathlib.Core.Option.{Option, none}
 use Rattle.call_rules.specs.declared.Settings.{Settings}
 use Rattle.call_rules.specs.Scratch.{Scratch}
 use Rattle.call_rules.specs.Answers.{first_case}
@@ -27,7 +27,7 @@ abbrev pub split_ahead : Settings → Store → ℕ → Scratch → List ℕ →
 split_ahead how s t w list = done (split_store s t (cut_places how s t)) (new_tables s t (cut_places how s t)) list w
 
 -- a call that splits goes ahead: no case applies
-none_applies : (how : Settings) (s : Store) (t : ℕ) (w : Scratch) (list : List ℕ) → Splits how s t w list → first_case (split_cases how s t w list) ≡ none
+none_applies : (how : Settings) (s : Store) (t : ℕ) (w : Scratch) (list : List ℕ) → Splits how s t w list → first_case (split_cases how s t w list) ≡ None
 unfolding split_call
 none_applies how s t w list p = went s w list (split_ahead how s t w list) (first_case (split_cases how s t w list)) p.cuts
 

@@ -1,10 +1,10 @@
 -- The resulting tables together read what the old table read, and no two of them have the same pair. Assumes nothing.
+use Rattle.std.specs.Prelude.{Option, Some, None}
 use Prim.Native.Nat.{ℕ, zero, suc, ◌+◌, ◌<◌}
 use mathlib.Core.Path.{◌≡◌, refl, sym, ap, subst, ◌∙◌}
 use mathlib.Core.Bool.{Bool, true, false, cond}
 use mathlib.Core.List.{List, [], ◌∷◌}
 use mathlib.Core.Logic.{◌⊎◌, inl, inr, ⊎_elim}
-use mathlib.Core.Option.{Option, some, none}
 use native.Mathlib.Omega.{arith}
 use native.Mathlib.Nat.{not-suc-le-zero}
 use lib.ListN.{length, get_or}
@@ -108,8 +108,8 @@ module _ (s : Store) (t : ℕ) (cs : List ℕ) (g : Ready s t cs) where
     one_only k m h l f = by_test (lies_in k) (λ e. misses m l (not-both item e)) (λ e. true_false (sym f ∙ misses k (omega arith) e))
       where
         not-both : (o : Option ℕ) → lies (lo_at cs k) (get_or cs k n) o ≡ true → lies (lo_at cs m) (get_or cs m n) o ≡ false
-        not-both none e = refl
-        not-both (some i) e =
+        not-both None e = refl
+        not-both (Some i) e =
             let (p, q) = and_both (leb (lo_at cs k) i) (ltb i (get_or cs k n)) e in
             let r = ltb-true i (get_or cs k n) q in
             rw (lt-leb (lo_at cs m) i (omega (arith, ranges_apart n cs g.cuts k m h l)))
@@ -119,8 +119,8 @@ module _ (s : Store) (t : ℕ) (cs : List ℕ) (g : Ready s t cs) where
     in_one = go item
       where
         go : (o : Option ℕ) → lies 0 n o ≡ true → (k : ℕ) × (k < suc (length cs)) × (lies (lo_at cs k) (get_or cs k n) o ≡ true)
-        go none e = true_false (sym e)
-        go (some i) e =
+        go None e = true_false (sym e)
+        go (Some i) e =
             let (p, q) = and_both (leb 0 i) (ltb i n) e in
             let (k, l, c, d) = covering n cs i (ltb-true i n q) in
             (k, l, and_intro (leb (lo_at cs k) i) (ltb i (get_or cs k n)) (le-leb (lo_at cs k) i c) (lt-ltb i (get_or cs k n) d))

@@ -1,8 +1,8 @@
 -- The pair reading takes the old table and each resulting one. Assumes nothing.
+use Rattle.std.specs.Prelude.{Option, None}
 use Prim.Native.Nat.{ℕ, zero, suc, ◌<◌}
 use mathlib.Core.Path.{◌≡◌, ap}
 use mathlib.Core.List.{List}
-use mathlib.Core.Option.{Option, none}
 use native.Mathlib.Omega.{arith}
 use lib.ListN.{length, get_or}
 use Rattle.folds.proofs.Folds.{length-upto}
@@ -22,12 +22,12 @@ use Rattle.promise_pairs.specs.Demands.{Splits, resulting, store_then, ReadingsK
 use Rattle.promise_pairs.proofs.GoesAhead.{splits_may, splits_ready}
 use Rattle.promise_pairs.proofs.WrittenAfresh.{written_afresh}
 
-takes : (s : Store) (t a b : ℕ) → first_case (pair_cases s t) ≡ none → pair_call s t a b ≡ reported 0 (pair_of s t a b)
+takes : (s : Store) (t a b : ℕ) → first_case (pair_cases s t) ≡ None → pair_call s t a b ≡ reported 0 (pair_of s t a b)
 unfolding pair_call settle_pair
 takes s t a b e = ap (λ (o : Option ℕ). settle_pair o (pair_of s t a b)) e
 
 -- each of the resulting tables can be read
-each_read : (how : Settings) (s : Store) (t : ℕ) (w : Scratch) (list : List ℕ) → Octets s → Splits how s t w list → (i : ℕ) → i < length (resulting how s t) → first_case (pair_cases (store_then how s t w list) (get_or (resulting how s t) i 0)) ≡ none
+each_read : (how : Settings) (s : Store) (t : ℕ) (w : Scratch) (list : List ℕ) → Octets s → Splits how s t w list → (i : ℕ) → i < length (resulting how s t) → first_case (pair_cases (store_then how s t w list) (get_or (resulting how s t) i 0)) ≡ None
 unfolding new_tables
 each_read how s t w list octets p zero l = (written_afresh how s t w list octets p).kept.readable
 each_read how s t w list octets p (suc j) l =

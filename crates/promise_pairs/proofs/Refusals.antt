@@ -1,9 +1,9 @@
 -- What a call leaves that refuses, or finds nothing to split. Assumes nothing.
+use Rattle.std.specs.Prelude.{Option, Some, None}
 use Prim.Native.Nat.{ℕ, ◌<◌, ◌≤◌}
 use mathlib.Core.Path.{◌≡◌, refl, sym, ap, subst, ◌∙◌}
 use mathlib.Core.Bool.{true}
 use mathlib.Core.List.{List, ◌++◌}
-use mathlib.Core.Option.{Option, some, none}
 use native.Mathlib.Omega.{arith}
 use lib.ListN.{length, replicate}
 use lib.IntN.{pos}
@@ -59,7 +59,7 @@ no_cut_nothing how s t w list e =
 -- ---- another format
 
 other_format : (s : Store) (t : ℕ) → sound s ≡ true → t < s.object_count → 2 ≤ length (bytes_of s t)
-    → (format_of (bytes_of s t) ≡ 1 → ⊥) → (format_of (bytes_of s t) ≡ 2 → ⊥) → first_case (read_cases s t) ≡ some 0
+    → (format_of (bytes_of s t) ≡ 1 → ⊥) → (format_of (bytes_of s t) ≡ 2 → ⊥) → first_case (read_cases s t) ≡ Some 0
 unfolding read_cases first_case
 other_format s t a b c d e =
     rw (a, lt-leb s.object_count t b, le-ltb (length (bytes_of s t)) 2 c, ne_eqb (format_of (bytes_of s t)) 1 d, ne_eqb (format_of (bytes_of s t)) 2 e)
@@ -69,8 +69,8 @@ pub other_formats : OtherFormats
 unfolding split_call plan_call pair_call settle_pair split_cases plan_cases cut_cases pair_cases
 other_formats how s t w list k a b c d e =
     let f = other_format s t a b c d e in
-    let asked : first_case (settings_cases how ++ read_cases s t) ≡ some 0 = first_skip (settings_cases how) (read_cases s t) (known_pass how k) ∙ f in
-    let cut : first_case (cut_cases how s t w) ≡ some 0 = first_stands (settings_cases how ++ read_cases s t) _ 0 asked in
+    let asked : first_case (settings_cases how ++ read_cases s t) ≡ Some 0 = first_skip (settings_cases how) (read_cases s t) (known_pass how k) ∙ f in
+    let cut : first_case (cut_cases how s t w) ≡ Some 0 = first_stands (settings_cases how ++ read_cases s t) _ 0 asked in
     let (zero-split, no-split) = stopped s w list (split_ahead how s t w list) (first_case (split_cases how s t w list)) (first_stands (cut_cases how s t w) _ 0 cut) in
     let (zero-plan, no-plan) = stopped s w list (plan_ahead how s t w list) (first_case (plan_cases how s t w list)) (first_stands (cut_cases how s t w) _ 0 cut) in
     (zero-split, no-split, zero-plan, no-plan, λ x y. ap (λ (c : Option ℕ). settle_pair c (pair_of s t x y)) (first_stands (read_cases s t) _ 0 f))
@@ -98,8 +98,8 @@ pair_refusals s t a b = go (first_case (pair_cases s t))
   where
     go : (c : Option ℕ) → ((settle_pair c (pair_of s t a b)).answer ≡ 0 → ⊥)
         → ((settle_pair c (pair_of s t a b)).found ≡ 0) × ((settle_pair c (pair_of s t a b)).values ≡ replicate 16 (pos 0))
-    go (some n) ne = (refl, refl)
-    go none ne = absurd (ne refl)
+    go (Some n) ne = (refl, refl)
+    go None ne = absurd (ne refl)
 
 -- ---- a split
 

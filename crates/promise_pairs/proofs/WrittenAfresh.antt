@@ -1,9 +1,9 @@
 -- Each table is written afresh, from the old table alone. Assumes nothing.
+use Rattle.std.specs.Prelude.{Option, Some, unwrap_or}
 use Prim.Native.Nat.{ℕ, ◌+◌, ◌-◌, ◌<◌, ◌≤◌}
 use mathlib.Core.Path.{◌≡◌, sym, ap, ◌∙◌}
 use mathlib.Core.Bool.{true, false}
 use mathlib.Core.List.{List, [], ◌∷◌, map}
-use mathlib.Core.Option.{Option, some, get_or}
 use native.Mathlib.Omega.{arith}
 use native.Mathlib.Nat.{mul-le-mul_left, mul-add}
 use lib.Dec.{eqb}
@@ -73,8 +73,8 @@ module _ {s : Store} {t : ℕ} {s' : Store} {u lo hi : ℕ} (v : View s t s' u l
           (λ e p. view_class v up z e.glyph ∙ p) (reduced lo es) (agrees_self (reduced lo es) 0 (renumbered_up v up))
 
   -- the number of a linked object
-  linked_at_lem : (q c : ℕ) → child_at s' u q ≡ some c → s.object_count ≤ c → s.object_count ≤ linked_at s' u q
-  linked_at_lem q c e h = let f : linked_at s' u q ≡ c = ap (λ (o : Option ℕ). get_or o 0) e in omega arith
+  linked_at_lem : (q c : ℕ) → child_at s' u q ≡ Some c → s.object_count ≤ c → s.object_count ≤ linked_at s' u q
+  linked_at_lem q c e h = let f : linked_at s' u q ≡ c = ap (λ (o : Option ℕ). unwrap_or o 0) e in omega arith
 
   afresh : sets_sorted s' u ≡ true → Afresh s t s' u lo hi
   afresh sorted =

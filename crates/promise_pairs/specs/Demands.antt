@@ -1,7 +1,6 @@
 -- What is promised of every call, as statements over its outcome in `pair_rules`: it has the settings how, s is the store that is lent, t the table's number, w
 -- the scratch and list the result list, or the plan's places. Assumes nothing.
-use Rattle.std.specs.Prelude.{ℕ, ◌+◌, ◌<◌, ◌≤◌, ◌≡◌, true, false, List, [], ◌∷◌, map, length, replicate, get_or, pos}
-use Rattle.std.proofs.Math.Option.{none}
+use Rattle.std.specs.Prelude.{ℕ, ◌+◌, ◌<◌, ◌≤◌, ◌≡◌, true, false, List, [], ◌∷◌, map, length, replicate, get_or, pos, None}
 use Rattle.folds.specs.Lists.{put, among, part}
 use Rattle.ot_layouts.specs.Numbers.{be16}
 use Rattle.ot_layouts.specs.Coverage.{Entry, coverage_bytes}
@@ -112,7 +111,7 @@ ranged s t lo hi = within lo hi (entries_of s t)
 -- object u of s' is the table of items lo up to hi of the old table t, "by this section from the old table alone"
 pub record Afresh (s : Store) (t : ℕ) (s' : Store) (u lo hi : ℕ) : Type 0 where
   -- it is a table whose pairs can be read: 1 to 5 and 11 do not apply
-  pub readable : first_case (pair_cases s' u) ≡ none
+  pub readable : first_case (pair_cases s' u) ≡ None
   -- it "covers the glyphs whose class lies in its range", in format 1 those whose place does
   pub covers : glyphs_of s' u ≡ map (λ e. e.glyph) (ranged s t lo hi)
   pub cover_bytes : linked_bytes s' u 2 ≡ coverage_bytes (map (λ e. e.glyph) (ranged s t lo hi))

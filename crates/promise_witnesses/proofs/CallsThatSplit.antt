@@ -1,11 +1,11 @@
 -- The demands speak of something under either edition: a store of bytes with a table that a call splits. And bytes are needed: without them a new table may be
 -- unreadable. Assumes nothing.
+use Rattle.std.specs.Prelude.{Option, Some, None}
 use Prim.Native.Nat.{ℕ, ◌*◌}
 use mathlib.Core.Path.{◌≡◌, refl}
 use mathlib.Core.Bool.{true}
 use mathlib.Core.List.{List, [], ◌∷◌, ◌++◌}
 use mathlib.Core.Logic.{⊎_elim}
-use mathlib.Core.Option.{Option, some, none}
 use native.Mathlib.Omega.{arith}
 use lib.ListN.{replicate, get_or, get_or-eq_default, length}
 use lib.Dec.{ltb}
@@ -110,10 +110,10 @@ wild_scratch = scratch_of (replicate 8 0) (replicate 8192 0) (0 ∷ []) (0 ∷ [
 
 -- answer, count, and what a reading of the kept table then refuses by: in one list, so that the call is computed once
 unfoldable pub seen : Outcome → List (Option ℕ)
-seen o = some o.answer ∷ some o.count ∷ first_case (pair_cases o.store 3) ∷ []
+seen o = Some o.answer ∷ Some o.count ∷ first_case (pair_cases o.store 3) ∷ []
 
 -- its class definition 1 is unreadable
-wild_seen : seen (split_call first_edition wild 3 wild_scratch (0 ∷ [])) ≡ some 0 ∷ some 1 ∷ some 4 ∷ []
+wild_seen : seen (split_call first_edition wild 3 wild_scratch (0 ∷ [])) ≡ Some 0 ∷ Some 1 ∷ Some 4 ∷ []
 unfolding wild wild_front wild_scratch computes seen
 wild_seen = refl
 
@@ -125,5 +125,5 @@ not_without_bytes h =
     let answer : (split_call first_edition wild 3 wild_scratch (0 ∷ [])).answer ≡ 0 = cc wild_seen in
     let count : (split_call first_edition wild 3 wild_scratch (0 ∷ [])).count ≡ 1 = cc wild_seen in
     let splits : Splits first_edition wild 3 wild_scratch (0 ∷ []) = record { answers = answer; cuts = omega arith } in
-    let r : first_case (pair_cases (store_then first_edition wild 3 wild_scratch (0 ∷ [])) 3) ≡ none = (h first_edition wild 3 wild_scratch (0 ∷ []) splits).kept.readable in
+    let r : first_case (pair_cases (store_then first_edition wild 3 wild_scratch (0 ∷ [])) 3) ≡ None = (h first_edition wild 3 wild_scratch (0 ∷ []) splits).kept.readable in
     let y : ◌≡◌ {A = ℕ} 0 1 = cc wild_seen in omega arith

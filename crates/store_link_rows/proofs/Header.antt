@@ -1,6 +1,9 @@
 -- The rows of a header, one by one, and where a link of a table leads. Assumes nothing.
-use Prim.Native.Nat.{ℕ, ◌+◌, ◌*◌, ◌≤◌, ◌<◌}
-use mathlib.Core.Path.{◌≡◌, refl, sym, ap, ap₂, ◌∙◌}
+use Rattle.std.specs.Prelude.{Option, Some, None}
+use Rattle.std.specs.List.{AllWithin, HoldsAt}
+use Rattle.std.specs.Option.{MatchOption}
+use Prim.Native.Nat.{ℕ, zero, suc, ◌+◌, ◌*◌, ◌≤◌, ◌<◌}
+use mathlib.Core.Path.{◌≡◌, refl, sym, subst, ap, ap₂, ◌∙◌}
 use mathlib.Core.List.{List, [], ◌∷◌, ◌++◌, map-append}
 use native.Mathlib.Numerals.{add-one}
 use native.Mathlib.Omega.{arith}
@@ -18,18 +21,18 @@ use Rattle.store_link_rows.proofs.Links.{numbers_append}
 
 -- ---- where a link leads: none of the first i positions is its own
 
-pub record Sought (own : List ℕ) (v q c i : ℕ) : Type 0 where
-  pub some : i ≤ length own
-  pub is : own_child own v q c ≡ own_child (drop i own) (v + i) q c
+record Sought (own : List ℕ) (v q c i : ℕ) : Type 0 where
+  some : i ≤ length own
+  is : own_child own v q c ≡ own_child (drop i own) (v + i) q c
 
 module _ (own : List ℕ) (v q c : ℕ) where
-  pub sought_start : Sought own v q c 0
+  sought_start : Sought own v q c 0
   sought_start = record { some = omega arith; is = ap (λ (n : ℕ). own_child own n q c) (omega arith) }
 
   next : (i : ℕ) → Sought own v q c i → i < length own → own_child own v q c ≡ own_child (get_or own i 0 ∷ drop (i + 1) own) (v + i) q c
   next i s l = s.is ∙ ap (λ (x : List ℕ). own_child x (v + i) q c) (rw (add-one i) (drop-cons own i 0 l))
 
-  pub sought_turn : (i : ℕ) → Sought own v q c i → i < length own → (q ≡ get_or own i 0 → ⊥) → Sought own v q c (i + 1)
+  sought_turn : (i : ℕ) → Sought own v q c i → i < length own → (q ≡ get_or own i 0 → ⊥) → Sought own v q c (i + 1)
   unfolding own_child
   sought_turn i s l ne =
       record {
@@ -37,15 +40,31 @@ module _ (own : List ℕ) (v q c : ℕ) where
         is = next i s l ∙ rw (ne_eqb q (get_or own i 0) ne) (ap (λ (n : ℕ). own_child (drop (i + 1) own) n q c) (omega arith));
       }
 
-  pub sought_found : (i : ℕ) → Sought own v q c i → i < length own → q ≡ get_or own i 0 → v + i ≡ own_child own v q c
+  sought_found : (i : ℕ) → Sought own v q c i → i < length own → q ≡ get_or own i 0 → v + i ≡ own_child own v q c
   unfolding own_child
   sought_found i s l e = sym (next i s l ∙ rw (eq-eqb q (get_or own i 0) e))
 
-  pub sought_none : (i : ℕ) → Sought own v q c i → length own ≤ i → c ≡ own_child own v q c
+  sought_none : (i : ℕ) → Sought own v q c i → length own ≤ i → c ≡ own_child own v q c
   unfolding own_child
   sought_none i s l =
       let z : i ≡ length own = omega (arith, s.some) in
       sym (s.is ∙ ap (λ (x : List ℕ). own_child x (v + i) q c) (ap (λ (n : ℕ). drop n own) z ∙ drop-length own))
+
+  -- by the first of its own positions that is the link's
+  sought_upto : (i : ℕ) → i ≤ length own → AllWithin (λ x. q ≡ x → ⊥) own 0 i → Sought own v q c i
+  sought_upto zero l h = sought_start
+  sought_upto (suc i) l h =
+      subst (Sought own v q c) (add-one i)
+      (sought_turn i (sought_upto i (omega arith) (λ k d a b. h k d a (omega arith))) (omega arith) (h i 0 (omega arith) (omega arith)))
+
+  abbrev pub FirstOwn : Option ℕ → Type 0
+  FirstOwn r = MatchOption r (AllWithin (λ x. q ≡ x → ⊥) own 0 (length own)) (λ i. (i < length own) × HoldsAt (λ x. q ≡ x) own i × AllWithin (λ x. q ≡ x → ⊥) own 0 i)
+
+  pub own_first : {i : ℕ} → FirstOwn (Some i) → v + i ≡ own_child own v q c
+  own_first {i} (l, e, h) = sought_found i (sought_upto i (omega arith) h) l (e 0)
+
+  pub own_none : FirstOwn None → c ≡ own_child own v q c
+  own_none h = sought_none (length own) (sought_upto (length own) (omega arith) h) (omega arith)
 
 -- ---- the rows of the first i positions are written
 

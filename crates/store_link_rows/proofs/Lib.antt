@@ -1,6 +1,6 @@
 pub mod Spans
 pub mod RowLaws
-pub mod Reversing
+pub mod Rotating
 pub mod Links
 pub mod OwnLinks
 pub mod Header

@@ -1,12 +1,12 @@
 -- What a row is after a write. Assumes nothing.
-use mathlib.Core.Path.{◌≡◌, refl, sym, ap, ap₂, ◌∙◌}
+use mathlib.Core.Path.{◌≡◌, refl, sym, ap, ◌∙◌}
 use mathlib.Core.List.{List, [], ◌∷◌}
 use Prim.Native.Nat.{ℕ, zero, suc, ◌+◌, ◌-◌, ◌*◌, ◌≤◌, ◌<◌}
 use native.Mathlib.Omega.{arith}
 use lib.ListN.{length, get_or, set}
 use lib.Seq.{set-get_or}
 use Rattle.folds.specs.Lists.{put}
-use Rattle.folds.proofs.Put.{put-nil, put-put, put-below, put-inside, put-above, put-set, put_four, both_puts}
+use Rattle.folds.proofs.Put.{put-nil, put-put, put-below, put-inside, put-above, put-set, put_four}
 use Rattle.store_rules.specs.Store.{Link, per_link, row_parent, row_position, row_width, row_child, row_kind, placed_at}
 use Rattle.store_rules.specs.Appended.{numbers_of}
 use Rattle.store_link_rows.specs.Rows.{seg, segment, link_in, row, rows, placed_row, changed_row}
@@ -73,14 +73,6 @@ pub row_moved : (d : List ℕ) (p q i k : ℕ) {l : Link} {o : List ℕ} → l �
     → o ≡ put d (per_link * k) (placed_row d p q i)
 unfolding placed_row changed_row
 row_moved d p q i k e h = row_changed (placed_at p q) d i k e h
-
--- two rows that were read, each written where the other was
-pub rows_swapped : (d : List ℕ) (i j : ℕ) {l m : Link} {o o' : List ℕ} → l ≡ link_in d i → m ≡ link_in d j
-    → o ≡ put d (per_link * i) (numbers_of m) → o' ≡ put o (per_link * j) (numbers_of l) → o' ≡ put (put d (per_link * i) (row d j)) (per_link * j) (row d i)
-unfolding row
-rows_swapped d i j e f h h' =
-    both_puts d (per_link * i) _ (per_link * j) _ h h'
-    ∙ ap₂ (λ (l m : Link). put (put d (per_link * i) (numbers_of m)) (per_link * j) (numbers_of l)) e f
 
 -- the row at its own place
 pub put_same : (d : List ℕ) (k : ℕ) → per_link * (k + 1) ≤ length d → put d (per_link * k) (row d k) ≡ d

@@ -34,10 +34,6 @@ row ls k = numbers_of (link_in ls k)
 abbrev pub rows : List ℕ → ℕ → ℕ → List ℕ
 rows ls lo hi = segment (row ls) lo hi
 
--- the same, from the last to the first
-abbrev pub reversed : List ℕ → ℕ → ℕ → List ℕ
-reversed ls lo hi = segment (λ k. row ls (lo + hi - 1 - k)) lo hi
-
 -- the positions of the rows from lo up to hi do not descend
 abbrev pub PositionsRise : List ℕ → ℕ → ℕ → Type 0
 PositionsRise ls lo hi = (i j : ℕ) → lo ≤ i → i ≤ j → j < hi → position_in ls i ≤ position_in ls j

@@ -1,4 +1,4 @@
-// Link rows read, written, moved, exchanged, reversed and rotated in place; those of a header, and those that stay where a table is split.
+// Link rows read, written, moved and rotated in place; those of a header, and those that stay where a table is split.
 #![tactic(auto)]
 
 ghost use Rattle.std.specs.Prelude.{◌≡◌, ◌++◌, ◌+◌, ◌*◌, ◌≤◌, ◌<◌, length};
@@ -7,7 +7,7 @@ ghost use Rattle.store_rules.specs.Store.{per_link, joining};
 ghost use Rattle.store_rules.specs.Appended.{link, numbers_of, row_numbers};
 ghost use Rattle.store_rules.specs.Header.{own_child, header_links};
 ghost use Rattle.folds.specs.Moments.{came, left};
-ghost use Rattle.store_link_rows.specs.Rows.{segment, link_of, link_in, row, rows, reversed, placed_row, changed_row, kept_row};
+ghost use Rattle.store_link_rows.specs.Rows.{segment, link_of, link_in, rows, placed_row, changed_row, kept_row};
 
 use store_reader::{CHILD, KIND, PARENT, PER_LINK, POSITION, WIDTH};
 
@@ -105,45 +105,12 @@ pub fn renumber_row(links: &mut [u32], i: usize, k: usize, parent: u32, child: u
     );
 }
 
-// Exchanges rows i and j.
-fn swap_rows(links: &mut [u32], i: usize, j: usize)
-    requires { (i < j) × (per_link * (j + 1) ≤ length links.old) }
-    ensures { left links ≡ put (put (came links) (per_link * i) (row (came links) j)) (per_link * j) (row (came links) i) }
-{
-    let one = row_at(links, i);
-    let other = row_at(links, j);
-    put_row(links, i, other);
-    put_row(links, j, one);
-}
-
-// Reverses the rows lo up to hi.
-pub fn reverse_rows(links: &mut [u32], lo: usize, hi: usize)
-    requires { (lo ≤ hi) × (per_link * hi ≤ length links.old) }
-    ensures { left links ≡ put (came links) (per_link * lo) (reversed (came links) lo hi) }
-{
-    let mut i = lo;
-    let mut j = hi;
-    while i + 1 < j {
-        j -= 1;
-        swap_rows(links, i, j);
-        i += 1;
-    }
-}
-
 // Moves the rows a up to b behind the rows b up to m.
 pub fn rotate_rows(links: &mut [u32], a: usize, b: usize, m: usize)
     requires { (a ≤ b) × (b ≤ m) × (per_link * m ≤ length links.old) }
     ensures { left links ≡ put (came links) (per_link * a) (rows (came links) b m ++ rows (came links) a b) }
 {
-    if a == b {
-        return;
-    }
-    if b == m {
-        return;
-    }
-    reverse_rows(links, a, b);
-    reverse_rows(links, b, m);
-    reverse_rows(links, a, m);
+    links[PER_LINK * a..PER_LINK * m].rotate_left(PER_LINK * (b - a));
 }
 
 // Where a table's link at `position` leads: its own parts, those at the positions `own`, are the objects from `first` on; any other leads to `child`.
@@ -151,14 +118,10 @@ fn own_child(own: &[u32], position: u32, child: u32, first: u32) -> u32
     requires { first + length own.now ≤ 4294967296 }
     ensures { result ≡ own_child own.now first position child }
 {
-    let mut i = 0;
-    while i < own.len() {
-        if position == own[i] {
-            return first + (i as u32);
-        }
-        i += 1;
+    match own.iter().position(|at| *at == position) {
+        Some(i) => first + (i as u32),
+        None => child,
     }
-    child
 }
 
 // Writes the rows of the header of the new table, from row k on: links at the positions `heads`, of which those at `own` lead to the objects right behind the
@@ -168,12 +131,10 @@ pub fn put_header(links: &mut [u32], k: usize, own: &[u32], heads: &[u32], table
     requires own_nonzero { (0 < length own.now) × (table + length own.now < 4294967296) }
     ensures { left links ≡ put (came links) (per_link * k) (row_numbers (header_links own.now heads.now table (λ q. shared))) }
 {
-    let mut i = 0;
-    while i < heads.len() {
+    for i in 0..heads.len() {
         let position = heads[i];
         let child = own_child(own, position, shared, table + 1);
         put_link(links, k + i, table, position, child);
-        i += 1;
     }
 }
 
@@ -197,9 +158,7 @@ pub fn keep_rows(links: &mut [u32], count: usize, own: &[u32], table: u32, first
     requires { (per_link * count ≤ length links.old) × (first + length own.now ≤ 4294967296) }
     ensures { left links ≡ put (came links) 0 (segment (kept_row (came links) own.now table first) 0 count) }
 {
-    let mut k = 0;
-    while k < count {
+    for k in 0..count {
         keep_row(links, k, own, table, first);
-        k += 1;
     }
 }

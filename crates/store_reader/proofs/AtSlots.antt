@@ -8,6 +8,7 @@ use lib.Dec.{leb, ltb}
 use borrow.Author.Tests.{le-leb, lt-leb, lt-ltb, le-ltb}
 use Rattle.folds.specs.Folds.{all}
 use Rattle.folds.proofs.Tests.{and_second}
+use Rattle.folds.proofs.Folds.{all_intro, all_fails}
 use Rattle.folds.proofs.Failing.{all_among, all_same}
 use Rattle.store_rules.specs.Store.{Store, link_at, offset_of, position_of, all_at}
 use Rattle.store_rules.proofs.Sound.{Fits}
@@ -34,3 +35,15 @@ module _ (s : Store) (p : ℕ) (slot : ℕ → Bool) {r : LinkRows} (rows : Pare
       (λ i m. sym (ap (λ (x : Bool). cond x (slot (position_of s (r.first + i))) true) (own (r.first + i) (omega (arith, rows.after.within)) (omega arith) (omega arith))))
       ∙ all_among test r.first r.after s.link_count rows.rise rows.after.within
       (λ k m out. ap (λ (x : Bool). cond x (slot (position_of s k)) true) (other k m out))
+
+  -- row by row
+  pub offsets_pass : ((k : ℕ) → r.first ≤ k → k < r.after → slot (position_of s k) ≡ true) → true ≡ all_at s p slot
+  offsets_pass h =
+      sym (all_intro (λ i. slot (position_of s (r.first + i))) (r.after - r.first) (λ i m. h (r.first + i) (omega arith) (omega arith)))
+      ∙ own_rows_at
+
+  pub offset_fails : (k : ℕ) → r.first ≤ k → k < r.after → slot (position_of s k) ≡ false → false ≡ all_at s p slot
+  offset_fails k a h e =
+      let there : r.first + (k - r.first) ≡ k = omega arith in
+      sym (all_fails (λ i. slot (position_of s (r.first + i))) (k - r.first) (r.after - r.first) (omega arith) (rw there e))
+      ∙ own_rows_at

@@ -1,5 +1,5 @@
 -- The tests that the code makes of counts and rows, one by one, are those of the definitions. Assumes nothing.
-use Prim.Native.Nat.{ℕ, ◌+◌, ◌-◌, ◌<◌, ◌≤◌, min}
+use Prim.Native.Nat.{ℕ, ◌+◌, ◌-◌, ◌<◌, ◌≤◌}
 use mathlib.Core.Bool.{Bool, true, false, not, ◌&&◌}
 use mathlib.Core.Logic.{⊎_elim}
 use mathlib.Core.Path.{◌≡◌, sym, ap, ◌∙◌}
@@ -15,12 +15,6 @@ use Rattle.store_rules.specs.Store.{Store, byte_room, object_room, link_room, so
 -- two tests agree where each holds if the other does
 leb-same : (a b c d : ℕ) → (a ≤ b → c ≤ d) → (c ≤ d → a ≤ b) → leb a b ≡ leb c d
 leb-same a b c d f g = ⊎_elim (λ h. lt-leb a b h ∙ sym (lt-leb c d (⊎_elim (λ k. k) (λ k. absurd (omega (arith, g k))) (either d c)))) (λ h. le-leb a b h ∙ sym (le-leb c d (f h))) (either b a)
-
-pub count_over : (n length most : ℕ) → length < n → false ≡ leb n (min length most)
-count_over n length most h = sym (lt-leb n (min length most) (omega arith))
-
-pub count_under : (n length most : ℕ) → n ≤ length → leb n most ≡ leb n (min length most)
-count_under n length most h = leb-same n most n (min length most) (λ a. omega arith) (λ a. omega arith)
 
 pub count_in : {t : Bool} (n room : ℕ) → t ≡ leb n room → not t ≡ false → n ≤ room
 count_in {t} n room e h = leb-true n room (sym e ∙ not-false t h)
@@ -55,19 +49,6 @@ module _ {p : ℕ → Bool} {n : ℕ} where
   fail {i} {t} v l e h = sym (all_fails p i n l (sym e ∙ not-true t h))
 
 -- ---- an object row
-
-module _ (s : Store) (i : ℕ) where
-  pub object_early : head_of s i < before (tail_of s) i → false ≡ object_fits s i
-  unfolding object_fits
-  object_early h = rw (lt-leb (before (tail_of s) i) (head_of s i) h)
-
-  pub object_turned : tail_of s i < head_of s i → false ≡ object_fits s i
-  unfolding object_fits
-  object_turned h = sym (and_first (leb (before (tail_of s) i) (head_of s i) && leb (head_of s i) (tail_of s i)) _ (and_second (leb (before (tail_of s) i) (head_of s i)) _ (lt-leb (head_of s i) (tail_of s i) h)))
-
-  pub object_ends : before (tail_of s) i ≤ head_of s i → head_of s i ≤ tail_of s i → leb (tail_of s i) s.byte_count ≡ object_fits s i
-  unfolding object_fits
-  object_ends a b = rw (le-leb (before (tail_of s) i) (head_of s i) a, le-leb (head_of s i) (tail_of s i) b)
 
 -- where all fit, none has more bytes than are in use
 pub objects_short : (s : Store) → all (object_fits s) s.object_count ≡ true → (i : ℕ) → i < s.object_count → size_of s i ≤ s.byte_count

@@ -1,4 +1,5 @@
 -- Rows that fit, by their keys: a row's key tells whether it is of its kind's shape, and keys ascend as rows do. Assumes nothing.
+use Rattle.std.specs.Prelude.{Some, None}
 use Prim.Native.Nat.{ℕ, zero, suc, ◌+◌, ◌<◌, ◌≤◌}
 use mathlib.Core.Bool.{Bool, true, false, not, ◌&&◌}
 use mathlib.Core.Logic.{inl, inr, ⊎_elim}
@@ -25,17 +26,17 @@ module _ (s : Store) (k : ℕ) where
   abbrev names : Bool
   names = ltb (parent_of s k) s.object_count && ltb (child_of s k) s.object_count
 
-  no_key : shapes ≡ false → 0 ≡ shaped_key s k
+  no_key : shapes ≡ false → None ≡ shaped_key s k
   unfolding shaped_key
   no_key h = rw h
 
-  its_key : shapes ≡ true → {p q : ℕ} → p ≡ parent_of s k → q ≡ row_place s.links k → key_of p q + 1 ≡ shaped_key s k
+  its_key : shapes ≡ true → {p q : ℕ} → p ≡ parent_of s k → q ≡ row_place s.links k → Some (key_of p q) ≡ shaped_key s k
   unfolding shaped_key
   its_key h e f = rw (h, e, f)
 
   -- an offset
   module _ (z : kind_of s k ≡ 0) where
-    pub offset_narrow : (width_of s k ≡ 2 → ⊥) → 0 ≡ shaped_key s k
+    pub offset_narrow : (width_of s k ≡ 2 → ⊥) → None ≡ shaped_key s k
     unfolding shaped
     offset_narrow w = no_key (rw (eq-eqb (kind_of s k) 0 z, ne_eqb (width_of s k) 2 w))
 
@@ -44,37 +45,37 @@ module _ (s : Store) (k : ℕ) where
       unfolding shaped
       inside = e ∙ rw (eq-eqb (kind_of s k) 0 z, eq-eqb (width_of s k) 2 w)
 
-      pub offset_outside : not t ≡ true → 0 ≡ shaped_key s k
+      pub offset_outside : not t ≡ true → None ≡ shaped_key s k
       offset_outside h = no_key (sym inside ∙ not-true t h)
 
-      pub offset_inside_key : not t ≡ false → {p : ℕ} → p ≡ parent_of s k → key_of p (position_of s k) + 1 ≡ shaped_key s k
+      pub offset_inside_key : not t ≡ false → {p : ℕ} → p ≡ parent_of s k → Some (key_of p (position_of s k)) ≡ shaped_key s k
       offset_inside_key h p = its_key (sym inside ∙ not-false t h) p (place_is_position s.links k z)
 
   -- any other
   module _ (n : kind_of s k ≡ 0 → ⊥) where
-    pub order_kind : (kind_of s k ≡ 1 → ⊥) → 0 ≡ shaped_key s k
+    pub order_kind : (kind_of s k ≡ 1 → ⊥) → None ≡ shaped_key s k
     unfolding shaped
     order_kind o = no_key (rw (ne_eqb (kind_of s k) 0 n, ne_eqb (kind_of s k) 1 o))
 
     module _ (o : kind_of s k ≡ 1) where
-      pub order_position : (position_of s k ≡ 0 → ⊥) → 0 ≡ shaped_key s k
+      pub order_position : (position_of s k ≡ 0 → ⊥) → None ≡ shaped_key s k
       unfolding shaped
       order_position q = no_key (rw (o, ne_eqb (position_of s k) 0 q))
 
-      pub order_width : position_of s k ≡ 0 → (width_of s k ≡ 0 → ⊥) → 0 ≡ shaped_key s k
+      pub order_width : position_of s k ≡ 0 → (width_of s k ≡ 0 → ⊥) → None ≡ shaped_key s k
       unfolding shaped
       order_width q w = no_key (rw (o, q, ne_eqb (width_of s k) 0 w))
 
-      pub order_key_lem : position_of s k ≡ 0 → width_of s k ≡ 0 → {p : ℕ} → p ≡ parent_of s k → key_of p (orders + child_of s k) + 1 ≡ shaped_key s k
+      pub order_key_lem : position_of s k ≡ 0 → width_of s k ≡ 0 → {p : ℕ} → p ≡ parent_of s k → Some (key_of p (orders + child_of s k)) ≡ shaped_key s k
       unfolding shaped
       order_key_lem q w p = its_key (rw (o, q, w)) p (place_is_child s.links k n)
 
   -- parent and child in use
-  pub parent_out : s.object_count ≤ parent_of s k → 0 ≡ fitting_key s k
+  pub parent_out : s.object_count ≤ parent_of s k → None ≡ fitting_key s k
   unfolding fitting_key
   parent_out h = rw (le-ltb (parent_of s k) s.object_count h)
 
-  pub child_out : s.object_count ≤ child_of s k → 0 ≡ fitting_key s k
+  pub child_out : s.object_count ≤ child_of s k → None ≡ fitting_key s k
   unfolding fitting_key
   child_out h = rw (and_second (ltb (parent_of s k) s.object_count) (ltb (child_of s k) s.object_count) (le-ltb (child_of s k) s.object_count h))
 
@@ -139,55 +140,67 @@ module _ (s : Store) (few : s.object_count ≤ 65536) (short : (i : ℕ) → i <
             let q = b.placed in
             ⊎_elim (λ c. inl c) (λ c. inr (omega arith, omega (arith, row_place_lem s j, row_place_lem s (suc j)))) (either (parent_of s j) (parent_of s (suc j)))
 
-  -- the row is in order exactly if its key is above the last one's
-  module _ {k last : ℕ} (c : Climbing s k last) (used : k < s.link_count) {key : ℕ} (e : key ≡ fitting_key s k) where
-    key_fits : last < key → (fits k ≡ true) × (key ≡ row_key s.links k + 1)
-    unfolding fitting_key
-    key_fits h = by_test (fits k) (λ t. (t, e ∙ rw t)) (λ t. let none : key ≡ 0 = e ∙ rw t in absurd (omega arith))
-
-    last_before : (i : ℕ) → k ≡ suc i → last ≡ row_key s.links i + 1
-    unfolding before
-    last_before i z = c.last_is ∙ ap (before (λ j. row_key s.links j + 1)) z
-
-    last_fits : (i : ℕ) → k ≡ suc i → Fit i
-    last_fits i z = is_fit i (fitted i (all_at_lem (link_fits s) k c.passed i (omega arith)))
-
-    in_order_lem : (i : ℕ) → k ≡ i → fits k ≡ true → last < row_key s.links k + 1 → ascends s i ≡ true
-    unfolding ascends
-    in_order_lem zero z t h = refl
-    in_order_lem (suc i) z t h =
-        let m = last_before i z in
-        rises_key i (last_fits i z) (is_fit (suc i) (rw z at t)) (omega (arith, ap (row_key s.links) z))
-
-    out_of_order : (i : ℕ) → k ≡ i → fits k ≡ true → row_key s.links k + 1 ≤ last → ascends s i ≡ false
-    unfolding ascends before
-    out_of_order zero z t h = let none : last ≡ 0 = c.last_is ∙ ap (before (λ j. row_key s.links j + 1)) z in absurd (omega arith)
-    out_of_order (suc i) z t h =
-        let m = last_before i z in
-        by_test (ascends s (suc i))
-        (λ up. let less = key_rises i (last_fits i z) (is_fit (suc i) (rw z at t)) up in absurd (omega (arith, ap (row_key s.links) z)))
-        (λ up. up)
-
-    pub climbing_turn : last < key → Climbing s (k + 1) key
-    unfolding link_fits
-    climbing_turn h =
-        let (t, is) = key_fits h in
-        let up = in_order_lem k refl t (omega arith) in
-        record {
-          within = omega arith;
-          passed = all_more (link_fits s) k c.passed (and_intro (fits k) (ascends s k) t up);
-          last_is = is ∙ sym (before_more (λ j. row_key s.links j + 1) k);
-        }
-
-    pub climbing_fails : key ≤ last → false ≡ all (link_fits s) s.link_count
+  -- a row with no key does not fit
+  module _ {k last : ℕ} (c : Climbing s k last) (used : k < s.link_count) where
+    pub climbing_none : None ≡ fitting_key s k → false ≡ all (link_fits s) s.link_count
     unfolding link_fits fitting_key
-    climbing_fails h = sym (all_fails (link_fits s) k s.link_count used unfit)
+    climbing_none e = sym (all_fails (link_fits s) k s.link_count used (and_first (fits k) (ascends s k) unfit))
       where
-        unfit : link_fits s k ≡ false
-        unfit =
-            by_test (fits k)
-            (λ t. and_second (fits k) (ascends s k) (out_of_order k refl t (let is : key ≡ row_key s.links k + 1 = e ∙ rw t in omega arith)))
-            (λ t. and_first (fits k) (ascends s k) t)
+        unfit : fits k ≡ false
+        unfit = by_test (fits k) (λ t. let some : None ≡ Some (row_key s.links k) = e ∙ rw t in absurd (cc)) (λ t. t)
+
+    -- one with a key does exactly if that is above the last one's
+    module _ {key : ℕ} (e : Some key ≡ fitting_key s k) where
+      key_fits : (fits k ≡ true) × (key ≡ row_key s.links k)
+      unfolding fitting_key
+      key_fits =
+          by_test (fits k) (λ t. let is : Some key ≡ Some (row_key s.links k) = e ∙ rw t in (t, cc))
+          (λ t. let none : Some key ≡ None = e ∙ rw t in absurd (cc))
+
+      pub key_most : key + 1 < 18446744073709551616
+      key_most = let (t, is) = key_fits in let p = parent_most in let q = (is_fit k t).placed in omega arith
+        where
+          parent_most : parent_of s k < s.object_count
+          parent_most = ltb-true (parent_of s k) s.object_count (and_both _ _ (and_both (names s k) (shapes s k) key_fits.0).0).0
+
+      last_before : (i : ℕ) → k ≡ suc i → last ≡ row_key s.links i + 1
+      unfolding before
+      last_before i z = c.last_is ∙ ap (before (λ j. row_key s.links j + 1)) z
+
+      last_fits : (i : ℕ) → k ≡ suc i → Fit i
+      last_fits i z = is_fit i (fitted i (all_at_lem (link_fits s) k c.passed i (omega arith)))
+
+      in_order_lem : (i : ℕ) → k ≡ i → last ≤ key → ascends s i ≡ true
+      unfolding ascends
+      in_order_lem zero z h = refl
+      in_order_lem (suc i) z h =
+          let (t, is) = key_fits in
+          let m = last_before i z in
+          rises_key i (last_fits i z) (is_fit (suc i) (rw z at t)) (omega (arith, ap (row_key s.links) z))
+
+      out_of_order : (i : ℕ) → k ≡ i → key < last → ascends s i ≡ false
+      unfolding ascends before
+      out_of_order zero z h = let none : last ≡ 0 = c.last_is ∙ ap (before (λ j. row_key s.links j + 1)) z in absurd (omega arith)
+      out_of_order (suc i) z h =
+          let (t, is) = key_fits in
+          let m = last_before i z in
+          by_test (ascends s (suc i))
+          (λ up. let less = key_rises i (last_fits i z) (is_fit (suc i) (rw z at t)) up in absurd (omega (arith, ap (row_key s.links) z)))
+          (λ up. up)
+
+      pub climbing_turn : last ≤ key → Climbing s (k + 1) (key + 1)
+      unfolding link_fits
+      climbing_turn h =
+          let (t, is) = key_fits in
+          record {
+            within = omega arith;
+            passed = all_more (link_fits s) k c.passed (and_intro (fits k) (ascends s k) t (in_order_lem k refl h));
+            last_is = ap (λ (n : ℕ). n + 1) is ∙ sym (before_more (λ j. row_key s.links j + 1) k);
+          }
+
+      pub climbing_fails : key < last → false ≡ all (link_fits s) s.link_count
+      unfolding link_fits
+      climbing_fails h = sym (all_fails (link_fits s) k s.link_count used (and_second (fits k) (ascends s k) (out_of_order k refl h)))
 
 pub climbing_stop : {s : Store} {k last : ℕ} → Climbing s k last → s.link_count ≤ k → true ≡ all (link_fits s) s.link_count
 climbing_stop {s} {k} {last} c h = let e : k ≡ s.link_count = omega (arith, c.within) in sym c.passed ∙ ap (all (link_fits s)) e

@@ -1,5 +1,5 @@
 -- The order of link rows as an order of numbers, and where a parent's rows begin. Assumes nothing.
-use Rattle.std.specs.Prelude.{ℕ, ◌+◌, ◌-◌, ◌*◌, ◌<◌, ◌≤◌, ◌≡◌, Bool, cond, ◌&&◌, List, length, get_or, ltb, eqb}
+use Rattle.std.specs.Prelude.{ℕ, ◌+◌, ◌-◌, ◌*◌, ◌<◌, ◌≤◌, ◌≡◌, Bool, cond, ◌&&◌, List, Option, Some, None, length, get_or, ltb, eqb}
 use Rattle.folds.specs.Folds.{before}
 use Rattle.store_rules.specs.Store.{Store, per_link, row_parent, row_position, row_child, row_kind, parent_of, child_of, size_of, link_at, shaped}
 use Rattle.store_reader.specs.declared.LinkRows.{LinkRows}
@@ -48,16 +48,16 @@ pub record ObjectsSmall (o counts : List ℕ) : Type 0 where
   pub few : get_or counts 1 0 ≤ 65536
   pub short : (i : ℕ) → i < get_or counts 1 0 → get_or o (2 * i + 1) 0 - get_or o (2 * i) 0 ≤ 16777216
 
--- one more than the key of row k of a store where a test holds, and else 0
-abbrev pub key_where : Bool → Store → ℕ → ℕ
-key_where t s k = cond t (row_key s.links k + 1) 0
+-- the key of row k of a store where a test holds
+abbrev pub key_where : Bool → Store → ℕ → Option ℕ
+key_where t s k = cond t (Some (row_key s.links k)) None
 
 -- where it is of its kind's shape
-unfoldable pub shaped_key : Store → ℕ → ℕ
+unfoldable pub shaped_key : Store → ℕ → Option ℕ
 shaped_key s k = key_where (shaped (size_of s (parent_of s k)) (link_at s k)) s k
 
 -- where parent and child are in use too
-unfoldable pub fitting_key : Store → ℕ → ℕ
+unfoldable pub fitting_key : Store → ℕ → Option ℕ
 fitting_key s k = key_where (ltb (parent_of s k) s.object_count && ltb (child_of s k) s.object_count && shaped (size_of s (parent_of s k)) (link_at s k)) s k
 
 -- ---- where rows are found
@@ -86,3 +86,7 @@ pub record Bracket (l : List ℕ) (m key lo hi : ℕ) : Type 0 where
   pub hi_le : hi ≤ m
   pub below : (k : ℕ) → k < lo → row_key l k < key
   pub above : (k : ℕ) → hi ≤ k → k < m → key ≤ row_key l k
+
+-- a test of positions, which have 32 bits, answers as slot does: `answers q r` says that it may answer r at q
+abbrev pub Tells : (ℕ → Bool → Type 0) → (ℕ → Bool) → Type 0
+Tells answers slot = (q : ℕ) (r : Bool) → q < 4294967296 → answers q r → r ≡ slot q

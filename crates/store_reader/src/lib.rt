@@ -1,12 +1,11 @@
 // The object store that the caller lends: whether it is sound, an object's bytes, a parent's link rows, and the child at a position.
 #![tactic(auto)]
 
-ghost use Rattle.std.specs.Prelude.{ℕ, ◌+◌, ◌-◌, ◌*◌, ◌≤◌, ◌<◌, min, ◌≡◌, List, length, get_or, leb};
+ghost use Rattle.std.specs.Prelude.{ℕ, ◌+◌, ◌-◌, ◌*◌, ◌≤◌, ◌<◌, min, ◌≡◌, Bool, true, List, length, get_or, leb};
 ghost use Rattle.folds.specs.Folds.{all};
-ghost use Rattle.store_rules.specs.Store.{lent, per_link, row_kind, bytes_of, object_fits, link_fits, sound, handed_out, child_at};
+ghost use Rattle.store_rules.specs.Store.{lent, per_link, row_kind, bytes_of, object_fits, link_fits, sound, handed_out, child_at, all_at};
 ghost use Rattle.store_rules.specs.Moments.{store_came_with};
-ghost use Rattle.store_reader.specs.Rows.{Inside, least_head, key_of, kind_in, row_place, row_key, OfParent, ObjectsSmall, shaped_key, fitting_key, InOrder, Bracket, FirstRow, ParentRows};
-ghost use Rattle.store_reader.specs.Children.{child_found};
+ghost use Rattle.store_reader.specs.Rows.{Inside, least_head, key_of, kind_in, row_place, row_key, OfParent, ObjectsSmall, shaped_key, fitting_key, InOrder, Bracket, FirstRow, ParentRows, Tells};
 
 pub mod held_rows;
 
@@ -26,20 +25,14 @@ pub const KIND: usize = 4;
 // Where the places of order-only rows start: behind all positions, since no object has more bytes.
 pub const ORDERS: u32 = 16777216;
 
-// What a look for the child at a position finds.
-#[derive(Clone, Copy)]
-pub enum Child {
-    Of(u32),
-    Nowhere,
-}
-
-// Link rows one behind the other: those from `first` on, before `after`.
+// Link rows one behind the other: those from `first` on, before `after`. Unlike a `Range`, it can be handed on and used again.
 #[derive(Clone, Copy)]
 pub struct LinkRows {
     pub first: usize,
     pub after: usize,
 }
 
+#[tactic(auto, unfolding(store_rules::specs::Store::object_fits))]
 // Whether object row `i` fits: head ≤ tail ≤ data in use, and its head is at or after `least`, the tail before it.
 fn object_fits(objects: &[u32], counts: [u32; 3], i: usize, least: u32) -> bool
     requires { (2 * i + 1 < length objects.now) × (least ≡ least_head objects.now i) }
@@ -47,13 +40,7 @@ fn object_fits(objects: &[u32], counts: [u32; 3], i: usize, least: u32) -> bool
 {
     let head = objects[2 * i];
     let tail = objects[2 * i + 1];
-    if head < least {
-        return false;
-    }
-    if tail < head {
-        return false;
-    }
-    tail <= counts[0]
+    least <= head && head <= tail && tail <= counts[0]
 }
 
 // Whether each object row in use fits.
@@ -61,15 +48,12 @@ fn objects_fit(objects: &[u32], counts: [u32; 3]) -> bool
     requires { 2 * get_or counts 1 0 ≤ length objects.now }
     ensures { (b l : List ℕ) → result ≡ all (object_fits (lent b objects.now l counts)) (get_or counts 1 0) }
 {
-    let count = counts[1] as usize;
-    let mut i: usize = 0;
     let mut least: u32 = 0;
-    while i < count {
+    for i in 0..counts[1] as usize {
         if !object_fits(objects, counts, i, least) {
             return false;
         }
         least = objects[2 * i + 1];
-        i += 1;
     }
     true
 }
@@ -108,49 +92,49 @@ fn position_fits(objects: &[u32], i: usize, position: u32) -> bool
     (objects[2 * i] as u64) + (position as u64) + 2 <= (objects[2 * i + 1] as u64)
 }
 
-// One more than the key of link row `k`, an offset of `parent`; 0 where it is not of its shape, with width 2 and position + 2 within the parent.
-fn offset_key(objects: &[u32], links: &[u32], k: usize, parent: u32) -> u64
+// The key of link row `k`, an offset of `parent`, where it is of its shape, with width 2 and position + 2 within the parent.
+fn offset_key(objects: &[u32], links: &[u32], k: usize, parent: u32) -> Option<u64>
     requires { (2 * parent + 1 < length objects.now) × OfParent links.now k parent × (kind_in links.now k ≡ 0) }
     ensures { (b c : List ℕ) → result ≡ shaped_key (lent b objects.now links.now c) k }
 {
     if links[PER_LINK * k + WIDTH] != 2 {
-        return 0;
+        return None;
     }
     let position = links[PER_LINK * k + POSITION];
     if !position_fits(objects, parent as usize, position) {
-        return 0;
+        return None;
     }
-    key_of(parent, position) + 1
+    Some(key_of(parent, position))
 }
 
 // The same of one that is no offset: it has to have kind 1, position 0 and width 0.
-fn order_key(links: &[u32], k: usize, parent: u32) -> u64
+fn order_key(links: &[u32], k: usize, parent: u32) -> Option<u64>
     requires { OfParent links.now k parent × (kind_in links.now k ≡ 0 → ⊥) × (row_place links.now k < 4294967296) }
     ensures { (b o c : List ℕ) → result ≡ shaped_key (lent b o links.now c) k }
 {
     if links[PER_LINK * k + KIND] != 1 {
-        return 0;
+        return None;
     }
     if links[PER_LINK * k + POSITION] != 0 {
-        return 0;
+        return None;
     }
     if links[PER_LINK * k + WIDTH] != 0 {
-        return 0;
+        return None;
     }
-    key_of(parent, ORDERS + links[PER_LINK * k + CHILD]) + 1
+    Some(key_of(parent, ORDERS + links[PER_LINK * k + CHILD]))
 }
 
-// One more than the key of link row `k`, where its parent and child are in use and it is of its kind's shape, and else 0.
-fn fitting_key(objects: &[u32], links: &[u32], counts: [u32; 3], k: usize) -> u64
+// The key of link row `k`, where its parent and child are in use and it is of its kind's shape.
+fn fitting_key(objects: &[u32], links: &[u32], counts: [u32; 3], k: usize) -> Option<u64>
     requires { ObjectsSmall objects.now counts × (per_link * k + row_kind < length links.now) }
     ensures { (b : List ℕ) → result ≡ fitting_key (lent b objects.now links.now counts) k }
 {
     let parent = links[PER_LINK * k + PARENT];
     if counts[1] <= parent {
-        return 0;
+        return None;
     }
     if counts[1] <= links[PER_LINK * k + CHILD] {
-        return 0;
+        return None;
     }
     if links[PER_LINK * k + KIND] == 0 {
         return offset_key(objects, links, k, parent);
@@ -163,16 +147,15 @@ fn links_fit(objects: &[u32], links: &[u32], counts: [u32; 3]) -> bool
     requires { ObjectsSmall objects.now counts × (per_link * get_or counts 2 0 ≤ length links.now) }
     ensures { (b : List ℕ) → result ≡ all (link_fits (lent b objects.now links.now counts)) (get_or counts 2 0) }
 {
-    let count = counts[2] as usize;
-    let mut k: usize = 0;
-    let mut before: u64 = 0;
-    while k < count {
-        let key = fitting_key(objects, links, counts, k);
-        if key <= before {
+    let mut least: u64 = 0;
+    for k in 0..counts[2] as usize {
+        let Some(key) = fitting_key(objects, links, counts, k) else {
+            return false;
+        };
+        if key < least {
             return false;
         }
-        before = key;
-        k += 1;
+        least = key + 1;
     }
     true
 }
@@ -181,10 +164,7 @@ fn links_fit(objects: &[u32], links: &[u32], counts: [u32; 3]) -> bool
 fn count_fits(count: u32, length: usize, most: usize) -> bool
     ensures { result ≡ leb count (min length most) }
 {
-    if length < (count as usize) {
-        return false;
-    }
-    (count as usize) <= most
+    (count as usize) <= length.min(most)
 }
 
 // Whether the lent store is sound.
@@ -342,14 +322,12 @@ pub fn next_row(links: &[u32], count: usize, start: usize, parent: u32, position
     ensures { FirstRow links.now count (key_of parent position) result }
 {
     let key = key_of(parent, position);
-    let mut row = start;
-    while row < count {
+    for row in start..count {
         if key <= key_at(links, row) {
             return row;
         }
-        row += 1;
     }
-    row
+    count
 }
 
 // The offsets of `parent` among the `count` link rows.
@@ -364,30 +342,60 @@ pub fn rows_of(links: &[u32], count: usize, parent: u32) -> LinkRows
 }
 
 // The child that the offset at `position` of `parent` leads to, where `row` is the first row at or past it.
-pub fn child_in(links: &[u32], counts: [u32; 3], row: usize, parent: u32, position: u32) -> Child
+pub fn child_in(
+    links: &[u32],
+    counts: [u32; 3],
+    row: usize,
+    parent: u32,
+    position: u32,
+) -> Option<u32>
     requires { InOrder links.now (get_or counts 2 0) × FirstRow links.now (get_or counts 2 0) (key_of parent position) row }
-    ensures { (b o : List ℕ) → child_found result ≡ child_at (lent b o links.now counts) parent position }
+    ensures { (b o : List ℕ) → result ≡ child_at (lent b o links.now counts) parent position }
 {
     if (counts[2] as usize) <= row {
-        return Child::Nowhere;
+        return None;
     }
     if links[PER_LINK * row + PARENT] != parent {
-        return Child::Nowhere;
+        return None;
     }
     if links[PER_LINK * row + KIND] != 0 {
-        return Child::Nowhere;
+        return None;
     }
     if links[PER_LINK * row + POSITION] != position {
-        return Child::Nowhere;
+        return None;
     }
-    Child::Of(links[PER_LINK * row + CHILD])
+    Some(links[PER_LINK * row + CHILD])
 }
 
 // The child that the offset at `position` of `parent` leads to.
-pub fn child_at(links: &[u32], counts: [u32; 3], parent: u32, position: u32) -> Child
+pub fn child_at(links: &[u32], counts: [u32; 3], parent: u32, position: u32) -> Option<u32>
     requires { InOrder links.now (get_or counts 2 0) }
-    ensures { (b o : List ℕ) → child_found result ≡ child_at (lent b o links.now counts) parent position }
+    ensures { (b o : List ℕ) → result ≡ child_at (lent b o links.now counts) parent position }
 {
     let row = first_row(links, counts[2] as usize, parent, position);
     child_in(links, counts, row, parent, position)
+}
+
+// Whether each offset of `parent` stands where `is_slot` says that one may. Order-only links have no position, and are not asked.
+pub fn all_offsets<F: Fn(u32) -> bool>(
+    links: &[u32],
+    counts: [u32; 3],
+    parent: u32,
+    is_slot: F,
+) -> bool
+    requires order { InOrder links.now (get_or counts 2 0) }
+    requires parent_bound { parent < 65536 }
+    requires callable { F.IsAlwaysCallable is_slot }
+    ensures { (b o : List ℕ) (slot : ℕ → Bool)
+        → sound (lent b o links.now counts) ≡ true
+        → Tells (F.post is_slot) slot
+        → result ≡ all_at (lent b o links.now counts) parent slot }
+{
+    let rows = rows_of(links, counts[2] as usize, parent);
+    for row in rows.first..rows.after {
+        if !is_slot(links[PER_LINK * row + POSITION]) {
+            return false;
+        }
+    }
+    true
 }

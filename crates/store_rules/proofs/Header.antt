@@ -1,10 +1,10 @@
 -- The header links of a new table, and the links that stay, over any positions of a table's own parts. Assumes nothing.
+use Rattle.std.specs.Prelude.{None}
 use Prim.Native.Nat.{ℕ, ◌+◌, ◌≤◌, ◌<◌}
 use mathlib.Core.Path.{◌≡◌, refl, sym, ap, ap₂, ◌∙◌}
 use mathlib.Core.Bool.{true, false}
 use mathlib.Core.List.{List, [], ◌∷◌, ◌++◌, map}
 use mathlib.Core.Logic.{◌⊎◌, inl, inr, ⊎_elim}
-use mathlib.Core.Option.{none}
 use native.Mathlib.Omega.{arith}
 use lib.ListN.{length}
 use lib.Dec.{eqb}
@@ -64,13 +64,13 @@ module _ (own : List ℕ) (u : ℕ) (old : ℕ → ℕ) where
   header_each P heads h = each_map (λ q. among q heads ≡ true) P header_link h heads (among_each (λ q. among q heads ≡ true) heads (λ q a. a))
 
   -- another object has none of them
-  pub header_other : (heads : List ℕ) (p q : ℕ) → (u ≡ p → ⊥) → lookup (header_links own heads u old) p q ≡ none
+  pub header_other : (heads : List ℕ) (p q : ℕ) → (u ≡ p → ⊥) → lookup (header_links own heads u old) p q ≡ None
   header_other heads p q ne =
       lookup_none (header_links own heads u old) p q
       (header_each (λ l. hit l p q ≡ false) heads (λ r a. hit_other (header_link r) p q ne))
 
   -- and at other positions there is none
-  pub header_none : (heads : List ℕ) (p q : ℕ) → among q heads ≡ false → lookup (header_links own heads u old) p q ≡ none
+  pub header_none : (heads : List ℕ) (p q : ℕ) → among q heads ≡ false → lookup (header_links own heads u old) p q ≡ None
   header_none heads p q h =
       lookup_none (header_links own heads u old) p q
       (header_each (λ l. hit l p q ≡ false) heads (λ r a. hit_apart (header_link r) p q (λ e. true_false (sym (rw e at a) ∙ h))))

@@ -1,9 +1,9 @@
 -- The store held against small stores, as one check; each line pins what its comment says. Assumes nothing.
+use Rattle.std.specs.Prelude.{Some, None}
 use Prim.Native.Nat.{ℕ, ◌+◌, ◌*◌, ◌/◌}
 use mathlib.Core.Path.{◌≡◌, refl}
 use mathlib.Core.Bool.{Bool, true, not, cond, ◌&&◌}
 use mathlib.Core.List.{List, [], ◌∷◌, ◌++◌}
-use mathlib.Core.Option.{some, none}
 use lib.ListN.{length, replicate}
 use lib.Dec.{eqb}
 use Rattle.folds.specs.Folds as Folds
@@ -192,7 +192,7 @@ added =
 unfoldable pub slotted : List Bool
 slotted =
     eqb (links_from twice 0) 2 ∷ eqb (links_from twice 1) 1 ∷ eqb (links_from twice 3) 0
-    ∷ same (row_numbers (slot_links 5 4 3 (λ k. cond (eqb k 1) none (some (7 + k))) 3)) (link_row 5 4 7 ++ link_row 5 10 9) ∷ is_empty (row_numbers (slot_links 5 4 3 some 0))
+    ∷ same (row_numbers (slot_links 5 4 3 (λ k. cond (eqb k 1) None (Some (7 + k))) 3)) (link_row 5 4 7 ++ link_row 5 10 9) ∷ is_empty (row_numbers (slot_links 5 4 3 Some 0))
     ∷ []
 
 -- `own_child`, `header_links`, `kept`: own parts at 2 and 8 are new objects in their order, others lead where they led, and so do other parents' links

@@ -1,8 +1,8 @@
 -- Rows of one store and rows of another lead the same ways, where the children at their places are the same, and those of what they reach. Assumes nothing.
+use Rattle.std.specs.Prelude.{Some}
 use Prim.Native.Nat.{ℕ, ◌<◌}
 use mathlib.Core.Path.{◌≡◌, sym, ap, subst, ◌∙◌}
 use mathlib.Core.Bool.{Bool, true}
-use mathlib.Core.Option.{some}
 use borrow.Author.Tests.{eq-eqb, eqb-true}
 use Rattle.store_rules.specs.Store.{Store, link_at, is_offset, child_at, kind_of, parent_of, position_of, child_of}
 use Rattle.store_rules.specs.Reach.{Reach}
@@ -26,12 +26,12 @@ rows_at s places k = places (kind_of s k) (parent_of s k) (position_of s k)
 
 -- at one of the places of s an offset leads to c
 abbrev pub LeadsTo : Store → Places → ℕ → Type 0
-LeadsTo s places c = (p : ℕ) × (q : ℕ) × (places 0 p q ≡ true) × (child_at s p q ≡ some c)
+LeadsTo s places c = (p : ℕ) × (q : ℕ) × (places 0 p q ≡ true) × (child_at s p q ≡ Some c)
 
 module _ (s : Store) (f : Fits s) where
   -- the row is found at its place
-  row_found : (k c : ℕ) → k < s.link_count → is_offset (link_at s k) ≡ true → child_of s k ≡ c → child_at s (parent_of s k) (position_of s k) ≡ some c
-  row_found k c l o e = row_child_lem s f k l o ∙ ap some e
+  row_found : (k c : ℕ) → k < s.link_count → is_offset (link_at s k) ≡ true → child_of s k ≡ c → child_at s (parent_of s k) (position_of s k) ≡ Some c
+  row_found k c l o e = row_child_lem s f k l o ∙ ap Some e
 
   seed_leads : (places : Places) → OfOffsets places → (c : ℕ) → Seed s (rows_at s places) c → LeadsTo s places c
   seed_leads places only c (k, l, a, e) =
@@ -43,10 +43,10 @@ module _ (s : Store) (f : Fits s) where
       let kind = eqb-true (kind_of s k) 0 (of_offset p (link_at s k) x) in
       (k, l, (λ d. places (kind d) (of_parent p (link_at s k) x d) (y d)) ∙ a, z)
 
-  leads_child : (p c : ℕ) → Leads s p c → (q : ℕ) × (child_at s p q ≡ some c)
-  leads_child p c (k, l, a, e) = (position_of s k, offset_child s f k p l a ∙ ap some e)
+  leads_child : (p c : ℕ) → Leads s p c → (q : ℕ) × (child_at s p q ≡ Some c)
+  leads_child p c (k, l, a, e) = (position_of s k, offset_child s f k p l a ∙ ap Some e)
 
-  child_leads : (p c : ℕ) → (q : ℕ) × (child_at s p q ≡ some c) → Leads s p c
+  child_leads : (p c : ℕ) → (q : ℕ) × (child_at s p q ≡ Some c) → Leads s p c
   child_leads p c (q, e) = let (k, l, x, y, z) = child_row s p q c e in (k, l, x, z)
 
 pub same_children : {x y : Store} → Fits x → Fits y → (from then : Places) → OfOffsets from → OfOffsets then

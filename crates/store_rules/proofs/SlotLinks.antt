@@ -1,10 +1,10 @@
 -- The links of an object at slots that stand in a row: where each leads, what holds of each, how many they are, and that they ascend. Assumes nothing.
+use Rattle.std.specs.Prelude.{Option, Some, None}
 use Prim.Native.Nat.{ℕ, zero, suc, ◌+◌, ◌*◌, ◌<◌, ◌≤◌}
 use mathlib.Core.Path.{◌≡◌, refl, sym, ap, subst, ◌∙◌}
 use mathlib.Core.Bool.{Bool, true, false, cond, ◌&&◌}
 use mathlib.Core.List.{List, ◌++◌}
 use mathlib.Core.Logic.{⊎_elim, inl, inr}
-use mathlib.Core.Option.{Option, some, none}
 use native.Mathlib.Omega.{arith}
 use native.Mathlib.Nat.{mul-le-mul_left, mul-add}
 use lib.ListN.{length}
@@ -32,18 +32,18 @@ there o = cond (is_some o) 1 0
 
 link_here : (p q : ℕ) (o : Option ℕ) → lookup (slot_link p q o) p q ≡ o
 unfolding slot_link lookup
-link_here p q (some c) = rw (eq-eqb p p refl, eq-eqb q q refl)
-link_here p q none = refl
+link_here p q (Some c) = rw (eq-eqb p p refl, eq-eqb q q refl)
+link_here p q None = refl
 
-link_other : (p q u r : ℕ) (o : Option ℕ) → (eqb p u && eqb q r) ≡ false → lookup (slot_link p q o) u r ≡ none
+link_other : (p q u r : ℕ) (o : Option ℕ) → (eqb p u && eqb q r) ≡ false → lookup (slot_link p q o) u r ≡ None
 unfolding slot_link lookup
-link_other p q u r (some c) e = ap (λ (b : Bool). cond b (some c) none) e
-link_other p q u r none e = refl
+link_other p q u r (Some c) e = ap (λ (b : Bool). cond b (Some c) None) e
+link_other p q u r None e = refl
 
 one_there : (p q : ℕ) (o : Option ℕ) → length (slot_link p q o) ≡ there o
 unfolding slot_link
-one_there p q (some c) = refl
-one_there p q none = refl
+one_there p q (Some c) = refl
+one_there p q None = refl
 
 -- ---- all slots
 
@@ -64,24 +64,24 @@ module _ (p a d : ℕ) (child : ℕ → Option ℕ) where
   unfolding slot_links
   slot_at h n k l = lookup_piece slot n k p (a + d * k) l elsewhere ∙ link_here p (a + d * k) (child k)
     where
-      elsewhere : (i : ℕ) → (i ≡ k → ⊥) → lookup (slot i) p (a + d * k) ≡ none
+      elsewhere : (i : ℕ) → (i ≡ k → ⊥) → lookup (slot i) p (a + d * k) ≡ None
       elsewhere i ne =
           link_other p (a + d * i) p (a + d * k) (child i)
           (and_second (eqb p p) (eqb (a + d * i) (a + d * k)) (ne_eqb (a + d * i) (a + d * k) (slots_apart a d i k h ne)))
 
-  pub slot_none : (n u q : ℕ) → (p ≡ u → ⊥) → lookup (slot_links p a d child n) u q ≡ none
+  pub slot_none : (n u q : ℕ) → (p ≡ u → ⊥) → lookup (slot_links p a d child n) u q ≡ None
   unfolding slot_links
   slot_none n u q ne =
       lookup_none_flat slot n u q
       (λ j l. link_other p (a + d * j) u q (child j) (and_first (eqb p u) (eqb (a + d * j) q) (ne_eqb p u ne)))
 
-  pub slots_each : (P : Link → Type 0) (n : ℕ) → ((k c : ℕ) → k < n → child k ≡ some c → P (link p (a + d * k) c)) → Each P (slot_links p a d child n)
+  pub slots_each : (P : Link → Type 0) (n : ℕ) → ((k c : ℕ) → k < n → child k ≡ Some c → P (link p (a + d * k) c)) → Each P (slot_links p a d child n)
   unfolding slot_links slot_link
   slots_each P n h = each_flat P slot n (λ j l. one j l (child j) refl)
     where
       one : (j : ℕ) → j < n → (o : Option ℕ) → child j ≡ o → Each P (slot_link p (a + d * j) o)
-      one j l (some c) e = (h j c l e, tt)
-      one j l none e = tt
+      one j l (Some c) e = (h j c l e, tt)
+      one j l None e = tt
 
   pub slots_many : (n : ℕ) → length (slot_links p a d child n) ≡ sum (λ k. there (child k)) n
   unfolding slot_links
@@ -99,8 +99,8 @@ places_climb p place child (suc n) q up h =
   where
     one : (o : Option ℕ) → ((r : ℕ) → r ≤ place 1 → Climb p r (suc p) (flat (λ k. slot_link p (place (suc k)) (child (suc k))) n))
         → Climb p q (suc p) (slot_link p (place 0) o ++ flat (λ k. slot_link p (place (suc k)) (child (suc k))) n)
-    one (some c) rest = (inr (refl, h), rest (place 0 + 1) (omega (arith, up 0)))
-    one none rest = rest q (omega (arith, up 0))
+    one (Some c) rest = (inr (refl, h), rest (place 0 + 1) (omega (arith, up 0)))
+    one None rest = rest q (omega (arith, up 0))
 
 pub slots_climb : (p a d : ℕ) (child : ℕ → Option ℕ) (n : ℕ) → 0 < d → Climb p 0 (suc p) (slot_links p a d child n)
 unfolding slot_links

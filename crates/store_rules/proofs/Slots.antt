@@ -1,8 +1,8 @@
 -- The offsets of an object that all stand at slots, by rows and by children. Assumes nothing.
+use Rattle.std.specs.Prelude.{Some}
 use Prim.Native.Nat.{ℕ, ◌<◌}
 use mathlib.Core.Path.{◌≡◌, subst}
 use mathlib.Core.Bool.{Bool, true, cond}
-use mathlib.Core.Option.{some}
 use Rattle.folds.proofs.Tests.{by_test}
 use Rattle.folds.proofs.Folds.{all_intro, all_at_lem}
 use Rattle.store_rules.specs.Store.{Store, link_at, position_of, child_of, offset_of, child_at, all_at}
@@ -24,8 +24,8 @@ module _ (s : Store) (p : ℕ) (slot : ℕ → Bool) where
   one_stands h k l e = rw e at (all_at_lem stands s.link_count h k l)
 
   -- a link that is found stands at one
-  pub child_stands : all_at s p slot ≡ true → (q c : ℕ) → child_at s p q ≡ some c → slot q ≡ true
+  pub child_stands : all_at s p slot ≡ true → (q c : ℕ) → child_at s p q ≡ Some c → slot q ≡ true
   child_stands h q c e = let (k, l, a, b, x) = child_row s p q c e in subst (λ (q : ℕ). slot q ≡ true) b (one_stands h k l a)
 
-  pub children_stand : Fits s → ((q c : ℕ) → child_at s p q ≡ some c → slot q ≡ true) → all_at s p slot ≡ true
+  pub children_stand : Fits s → ((q c : ℕ) → child_at s p q ≡ Some c → slot q ≡ true) → all_at s p slot ≡ true
   children_stand f h = all_stand (λ k l o. h (position_of s k) (child_of s k) (offset_child s f k p l o))

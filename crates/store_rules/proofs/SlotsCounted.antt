@@ -1,10 +1,10 @@
 -- The links of an object that all stand at slots are as many as the slots at which one is found. Assumes nothing.
+use Rattle.std.specs.Prelude.{Some, None}
 use Prim.Native.Nat.{ℕ, ◌+◌, ◌<◌}
 use mathlib.Core.Path.{◌≡◌, refl, sym, ap, ◌∙◌}
 use mathlib.Core.Bool.{Bool, true, false, cond}
 use mathlib.Core.List.{List, [], ◌∷◌}
 use mathlib.Core.Logic.{inr, ⊎_elim}
-use mathlib.Core.Option.{some, none}
 use native.Mathlib.Omega.{arith}
 use lib.ListN.{length}
 use lib.Dec.{eqb}
@@ -24,11 +24,11 @@ use Rattle.store_rules.proofs.LinksFit.{rows_climb}
 use Rattle.store_rules.proofs.RowChild.{hit_place}
 
 -- what comes before ascending links is not found among them
-none_before_lem : (ls : List Link) (p q x y e : ℕ) → From p (q + 1) x y → Climb x y e ls → lookup ls p q ≡ none
+none_before_lem : (ls : List Link) (p q x y e : ℕ) → From p (q + 1) x y → Climb x y e ls → lookup ls p q ≡ None
 unfolding lookup
 none_before_lem [] p q x y e b c = refl
 none_before_lem (l ∷ ls) p q x y e b c =
-    ap (λ (z : Bool). cond z (some l.child) (lookup ls p q)) (miss next)
+    ap (λ (z : Bool). cond z (Some l.child) (lookup ls p q)) (miss next)
     ∙ none_before_lem ls p q l.parent (place l + 1) e (from_next p (q + 1) l.parent (place l) next) c.1
   where
     next : From p (q + 1) l.parent (place l)
@@ -50,7 +50,7 @@ module _ (p : ℕ) (slot : ℕ → ℕ) (n : ℕ) (own : (i k : ℕ) → slot i 
 
   found_past : (l : Link) (ls : List Link) (k : ℕ) → hit l p (slot k) ≡ false → there (l ∷ ls) k ≡ there ls k
   unfolding lookup
-  found_past l ls k e = ap (λ (z : Bool). cond (is_some (cond z (some l.child) (lookup ls p (slot k)))) 1 0) e
+  found_past l ls k e = ap (λ (z : Bool). cond (is_some (cond z (Some l.child) (lookup ls p (slot k)))) 1 0) e
 
   found_here : (l : Link) (ls : List Link) (k : ℕ) → offset_of p l ≡ true → l.position ≡ slot k → there (l ∷ ls) k ≡ 1
   unfolding lookup

@@ -1,8 +1,8 @@
 -- What an object reaches: its children, and theirs. Assumes nothing.
+use Rattle.std.specs.Prelude.{Some}
 use Prim.Native.Nat.{ℕ, ◌<◌}
 use mathlib.Core.Path.{◌≡◌, sym, ◌∙◌}
 use mathlib.Core.Bool.{false}
-use mathlib.Core.Option.{some}
 use Rattle.folds.proofs.Tests.{by_test, true_false}
 use Rattle.store_rules.specs.Store.{Store, link_at, child_at, child_of, offset_of}
 use Rattle.store_rules.specs.Reach.{Reach, marked, reached, on_cycle}
@@ -15,10 +15,10 @@ abbrev pub Way : Store → ℕ → ℕ → Type 0
 Way s u i = Reach s (λ k. offset_of u (link_at s k)) i
 
 module _ (s : Store) where
-  pub way_child : (u q c : ℕ) → child_at s u q ≡ some c → Way s u c
+  pub way_child : (u q c : ℕ) → child_at s u q ≡ Some c → Way s u c
   way_child u q c e = let (k, l, a, b, x) = child_row s u q c e in Reach.seed k l a x
 
-  pub way_on : (u c q d : ℕ) → Way s u c → child_at s c q ≡ some d → Way s u d
+  pub way_on : (u c q d : ℕ) → Way s u c → child_at s c q ≡ Some d → Way s u d
   way_on u c q d w e = let (k, l, a, b, x) = child_row s c q d e in Reach.step w k l a x
 
   -- an object on no cycle does not reach itself

@@ -1,6 +1,5 @@
 -- The offsets of one object: how many there are, and those at slots that stand in a row. Assumes nothing.
-use Rattle.std.specs.Prelude.{ℕ, ◌+◌, ◌*◌, List, [], ◌∷◌, length}
-use Rattle.std.proofs.Math.Option.{Option, some, none}
+use Rattle.std.specs.Prelude.{ℕ, ◌+◌, ◌*◌, List, [], ◌∷◌, length, Option, Some, None}
 use Rattle.folds.specs.Folds.{flat}
 use Rattle.folds.specs.Lists.{sift}
 use Rattle.store_rules.specs.Store.{Store, Link, links_of, offset_of}
@@ -12,8 +11,8 @@ links_from s p = length (sift (offset_of p) (links_of s))
 
 -- an offset of object p at q, where there is a child
 unfoldable pub slot_link : ℕ → ℕ → Option ℕ → List Link
-slot_link p q (some c) = link p q c ∷ []
-slot_link p q none = []
+slot_link p q (Some c) = link p q c ∷ []
+slot_link p q None = []
 
 -- the offsets of object p at n slots, the first at a and each d bytes behind the one before: slot k has this child, or none
 unfoldable pub slot_links : ℕ → ℕ → ℕ → (ℕ → Option ℕ) → ℕ → List Link

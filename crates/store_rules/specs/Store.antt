@@ -1,7 +1,5 @@
 -- "The object store": what the caller lends, when it is sound, an object's bytes, and the child at a parent's position. Assumes nothing.
-use Rattle.std.specs.Prelude.{ℕ, zero, suc, ◌+◌, ◌-◌, ◌*◌, ◌/◌, min, Bool, true, cond, not, ◌&&◌, ◌||◌, List, [], ◌∷◌, map, length, get_or, leb, ltb, eqb}
-use Rattle.std.proofs.Math.Option
-use Rattle.std.proofs.Math.Option.{Option, some, none}
+use Rattle.std.specs.Prelude.{ℕ, zero, suc, ◌+◌, ◌-◌, ◌*◌, ◌/◌, min, Bool, true, cond, not, ◌&&◌, ◌||◌, List, [], ◌∷◌, map, length, get_or, leb, ltb, eqb, Option, Some, None, unwrap_or}
 use Rattle.folds.specs.Folds.{all, before, upto}
 use Rattle.folds.specs.Lists.{part, sift}
 
@@ -181,8 +179,8 @@ handed_out s i = cond (sound s && ltb i s.object_count) (bytes_of s i) []
 
 -- the child of the first offset of p at position q
 unfoldable pub lookup : List Link → ℕ → ℕ → Option ℕ
-lookup [] p q = none
-lookup (l ∷ ls) p q = cond (offset_of p l && eqb l.position q) (some l.child) (lookup ls p q)
+lookup [] p q = None
+lookup (l ∷ ls) p q = cond (offset_of p l && eqb l.position q) (Some l.child) (lookup ls p q)
 
 -- the child that the offset of p at position q leads to
 unfoldable pub child_at : Store → ℕ → ℕ → Option ℕ
@@ -190,7 +188,7 @@ child_at s p q = lookup (links_of s) p q
 
 -- the object that is linked at q, as number and as bytes; only asked where check 4 has seen the link
 abbrev pub linked_at : Store → ℕ → ℕ → ℕ
-linked_at s t q = Option.get_or (child_at s t q) 0
+linked_at s t q = unwrap_or (child_at s t q) 0
 
 -- its bytes
 abbrev pub linked_bytes : Store → ℕ → ℕ → List ℕ

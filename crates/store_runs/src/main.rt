@@ -3,19 +3,25 @@
 
 ghost use Rattle.store_runs.specs.Looks.{Looks};
 
-use std::io;
+use std::{fmt, io};
 use store_link_rows::put_link;
 use store_reader::{
     CHILD, KIND, ORDERS, PARENT, PER_LINK, POSITION, WIDTH, first_row, is_sound, object_bytes,
 };
 use store_walk::{prepare, subgraph_size};
 
-// What there is to say of a store's first object: whether the store is sound, whether the object can be reached from itself, and how many bytes it reaches.
+// What there is to say of a sound store's first object: whether the object can be reached from itself, and how many bytes it reaches.
 #[derive(Clone, Copy)]
 pub struct Report {
-    pub sound: u64,
-    pub cycle: u64,
+    pub cycle: bool,
     pub reach: u64,
+}
+
+impl fmt::Display for Report {
+    fn fmt<W: fmt::Write>(&self, f: &mut fmt::Formatter<W>) -> fmt::Result {
+        let cycle = u8::from(self.cycle);
+        write!(f, "sound 1, cycle {cycle}, reaches {} bytes", self.reach)
+    }
 }
 
 fn main(rt: HostRuntime) -> io::Result<()> {
@@ -54,47 +60,31 @@ fn main(rt: HostRuntime) -> io::Result<()> {
 
 // Objects of eight bytes each.
 fn lay_objects(objects: &mut [u32; 131072]) {
-    let mut i: usize = 0;
-    while i < 65536 {
+    for i in 0..65536usize {
         objects[2 * i] = (8 * i) as u32;
         objects[2 * i + 1] = (8 * i + 8) as u32;
-        i += 1;
     }
 }
 
 // Four links an object, all to the next one; the last object's lead to `back`.
 fn lay_links(links: &mut [u32; 1310720], back: u32) {
-    let mut k: usize = 0;
-    while k < 262144 {
-        let parent = k / 4;
-        let position = 2 * (k % 4);
-        if parent == 65535 {
-            put_link(links, k, parent as u32, position as u32, back);
-            k += 1;
-        } else {
-            put_link(
-                links,
-                k,
-                parent as u32,
-                position as u32,
-                (parent + 1) as u32,
-            );
-            k += 1;
-        }
+    for k in 0..262144usize {
+        let parent = (k / 4) as u32;
+        let position = (2 * (k % 4)) as u32;
+        let child = if parent == 65535 { back } else { parent + 1 };
+        put_link(links, k, parent, position, child);
     }
 }
 
 // The last object is placed after the first four, and leads nowhere.
 fn order_last(links: &mut [u32; 1310720]) {
-    let mut child: usize = 0;
-    while child < 4 {
+    for child in 0..4usize {
         let at = PER_LINK * (262140 + child);
         links[at + PARENT] = 65535;
         links[at + POSITION] = 0;
         links[at + WIDTH] = 0;
         links[at + CHILD] = child as u32;
         links[at + KIND] = 1;
-        child += 1;
     }
 }
 
@@ -105,37 +95,28 @@ fn look(
     links: &[u32; 1310720],
     used: u32,
     walk: &mut [u32; 131072],
-) -> Report {
+) -> Option<Report> {
     look_at_first(data, objects, links, [524288, 65536, used], walk)
 }
 
-// Looks at object 0 of any store.
+// Looks at object 0 of any store: nothing is said of one that is not sound, or has no object, or has more than the scratch is for.
 fn look_at_first(
     data: &[u8],
     objects: &[u32],
     links: &[u32],
     counts: [u32; 3],
     walk: &mut [u32],
-) -> Report {
+) -> Option<Report> {
     if !is_sound(data, objects, links, counts) {
-        return nothing();
+        return None;
     }
     if counts[1] == 0 {
-        return nothing();
+        return None;
     }
     if walk.len() < 2 * (counts[1] as usize) {
-        return nothing();
+        return None;
     }
-    walk_from_first(objects, links, counts, walk)
-}
-
-// A store that is not sound, or has no object.
-fn nothing() -> Report {
-    Report {
-        sound: 0,
-        cycle: 0,
-        reach: 0,
-    }
+    Some(walk_from_first(objects, links, counts, walk))
 }
 
 // How many bytes of an object are handed out, of the store with all of its links in use.
@@ -152,11 +133,11 @@ fn hand_out(
     println!(rt; "{what}{count} bytes handed out")
 }
 
-fn print(rt: &impl Print, what: &str, r: Report) -> io::Result<()> {
-    println!(rt;
-        "{what}sound {}, cycle {}, reaches {} bytes",
-        r.sound, r.cycle, r.reach
-    )
+fn print(rt: &impl Print, what: &str, report: Option<Report>) -> io::Result<()> {
+    match report {
+        Some(report) => println!(rt; "{what}{report}"),
+        None => println!(rt; "{what}sound 0, cycle 0, reaches 0 bytes"),
+    }
 }
 
 // The walk from object 0 of a sound store: it has a mark then if there is a way back.
@@ -169,8 +150,7 @@ fn walk_from_first(objects: &[u32], links: &[u32], counts: [u32; 3], walk: &mut 
     let after = first_row(links, count, 0, ORDERS);
     let reach = subgraph_size(objects, links, counts, first, after, 1, walk);
     Report {
-        sound: 1,
-        cycle: (walk[0] != 0) as u64,
+        cycle: walk[0] != 0,
         reach,
     }
 }

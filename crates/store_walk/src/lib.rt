@@ -8,7 +8,6 @@ ghost use Rattle.folds.specs.Moments.{came, left};
 ghost use Rattle.store_reader.specs.Rows.{orders};
 ghost use Rattle.store_walk.specs.Marks.{no_row, Offsets, Blank, Lasts, Prepared, WalkReady, Walks, Begun};
 
-use buffers::clear_u32;
 use store_reader::next_row;
 
 // Prepares the scratch, which may hold anything: no object has a mark, and the row where each object's rows end is at hand.
@@ -16,7 +15,7 @@ pub fn prepare(links: &[u32], counts: [u32; 3], walk: &mut [u32])
     requires { Blank links.now counts walk.old }
     ensures { Prepared links.now counts (left walk) }
 {
-    clear_u32(walk);
+    walk.fill(0);
     last_rows(links, counts, walk);
     row_ends(links, counts, walk);
 }
@@ -28,11 +27,9 @@ fn last_rows(links: &[u32], counts: [u32; 3], walk: &mut [u32])
 {
     let n = counts[1] as usize;
     let m = counts[2] as usize;
-    let mut k: usize = 0;
-    while k < m {
+    for k in 0..m {
         let parent = links[store_reader::PER_LINK * k + store_reader::PARENT] as usize;
-        k += 1;
-        walk[n + parent] = k as u32;
+        walk[n + parent] = (k + 1) as u32;
     }
 }
 
@@ -41,16 +38,11 @@ fn row_ends(links: &[u32], counts: [u32; 3], walk: &mut [u32])
     requires { Blank links.now counts walk.old × Lasts links.now counts walk.old }
     ensures { Prepared links.now counts (left walk) }
 {
+    let n = counts[1] as usize;
     let mut end: u32 = 0;
-    let mut i: usize = 0;
-    while i < (counts[1] as usize) {
-        let n = counts[1] as usize;
-        let last = walk[n + i];
-        if end < last {
-            end = last;
-        }
+    for i in 0..n {
+        end = end.max(walk[n + i]);
         walk[n + i] = end;
-        i += 1;
     }
 }
 

@@ -1,219 +1,124 @@
-// The stored text: its numbers, and the arrays that it has in runs.
-ghost use Rattle.std.specs.Prelude.{◌<◌, ◌≤◌, length, IfOk};
-ghost use Rattle.std.specs.Counts.{IsPrefixLen};
-ghost use Rattle.folds.specs.Moments.{left};
+// The stored text: its numbers, and the lists that it has in runs.
+ghost use Rattle.std.specs.Prelude.{◌≤◌, length};
 
-use std::io;
-use std::io::Read;
+use std::alloc::{AllocError, Global};
+use std::array;
 
-// A number, and the place behind it.
+// A number of a list: of a stored one, which has 32 bits, it has the low ones.
+pub trait Entry: Copy + Into<u32> {
+    fn low(stored: u32) -> Self;
+}
+
+impl Entry for u8 {
+    fn low(stored: u32) -> u8 {
+        (stored % 256) as u8
+    }
+}
+
+impl Entry for u16 {
+    fn low(stored: u32) -> u16 {
+        (stored % 65536) as u16
+    }
+}
+
+impl Entry for u32 {
+    fn low(stored: u32) -> u32 {
+        stored
+    }
+}
+
+// What is still to be read of a text.
 #[derive(Clone, Copy)]
-pub struct Number {
-    pub value: u32,
-    pub at: usize,
+pub struct Text<'a> {
+    rest: &'a [u8],
 }
 
-// So many numbers of one value, as the place where they end in their array; and the place behind them in the text.
-#[derive(Clone, Copy)]
-pub struct Run {
-    pub value: u32,
-    pub end: usize,
-    pub at: usize,
-}
-
-// How many numbers an array has, and the place behind it in the text.
-#[derive(Clone, Copy)]
-pub struct Laid {
-    pub count: usize,
-    pub at: usize,
-}
-
-// Reads until `out` is full or the input ends: how much was read.
-pub fn read_full(rt: &impl Input, out: &mut [u8]) -> io::Result<usize>
-    ensures { IfOk result (λ n. IsPrefixLen n (left out)) }
-{
-    let mut input = rt.reader();
-    let mut done: usize = 0;
-    while done < out.len() {
-        let n = input.read(&mut out[done..])?;
-        if n == 0 {
-            return Ok(done);
-        }
-        done += n;
+impl<'a> Text<'a> {
+    pub fn new(bytes: &'a [u8]) -> Text<'a> {
+        Text { rest: bytes }
     }
-    Ok(done)
-}
 
-// The first number from a place on. What stands before it and is no digit is passed over; behind the last number there are zeros.
-pub fn read_number(text: &[u8], from: usize) -> Number {
-    digits(text, first_digit(text, from))
-}
-
-fn first_digit(text: &[u8], from: usize) -> usize {
-    let mut at = from;
-    while at < text.len() {
-        let byte = text[at];
-        if byte >= b'0' {
-            if byte <= b'9' {
-                return at;
-            }
+    // A text that says how long it is, and is so long; with no text nothing is said.
+    pub fn whole(bytes: &'a [u8]) -> Option<Text<'a>> {
+        let mut text = Text::new(bytes);
+        let length = text.next_number();
+        if bytes.is_empty() || bytes.len() != length as usize {
+            return None;
         }
-        at += 1;
+        Some(text)
     }
-    at
-}
 
-// The number whose digits start at a place; a number that 32 bits do not hold is taken modulo 2^32.
-fn digits(text: &[u8], from: usize) -> Number {
-    let mut value: u64 = 0;
-    let mut at = from;
-    while at < text.len() {
-        let byte = text[at];
-        if byte < b'0' {
-            return Number {
-                value: value as u32,
-                at,
-            };
-        }
-        if byte > b'9' {
-            return Number {
-                value: value as u32,
-                at,
-            };
-        }
-        value = (10 * value + (byte - b'0') as u64) % 4294967296;
-        at += 1;
+    pub fn is_at_end(&self) -> bool {
+        self.rest.is_empty()
     }
-    Number {
-        value: value as u32,
-        at,
-    }
-}
 
-// The next run of an array that is laid as far as `done`. It has at least one number, and ends with the array at the latest.
-fn read_run(text: &[u8], from: usize, done: usize, count: usize) -> Run
-    requires { done < count }
-    ensures { (done < result.end) × (result.end ≤ count) }
-{
-    let first = read_number(text, from);
-    let at = first.at;
-    if at < text.len() {
-        if text[at] == b'x' {
-            let second = read_number(text, at);
-            return Run {
-                value: second.value,
-                end: forward(done, first.value as usize, count),
-                at: second.at,
-            };
+    // The next number. What stands before it and is no digit is passed over; behind the last number there are zeros. One that 32 bits do not hold is taken
+    // modulo 2^32.
+    pub fn next_number(&mut self) -> u32 {
+        self.next_while(|byte| !byte.is_ascii_digit());
+        let digits = self.next_while(|byte| byte.is_ascii_digit());
+        digits.iter().fold(0u32, |number, digit| {
+            number
+                .wrapping_mul(10)
+                .wrapping_add(u32::from(digit.wrapping_sub(b'0')))
+        })
+    }
+
+    // The bytes before the first that is not so.
+    fn next_while<F: Fn(&u8) -> bool>(&mut self, is_so: F) -> &'a [u8]
+        requires { (f : F) (x : _) → F.pre f x }
+    {
+        let end = self.rest.iter().take_while(|byte| is_so(byte)).count();
+        let (front, rest) = self.rest.split_at(end);
+        self.rest = rest;
+        front
+    }
+
+    // The next run: so many numbers, of one value.
+    fn next_run(&mut self) -> (usize, u32) {
+        let first = self.next_number();
+        if self.rest.first() == Some(&b'x') {
+            (first as usize, self.next_number())
+        } else {
+            (1, first)
         }
     }
-    Run {
-        value: first.value,
-        end: done + 1,
-        at,
+
+    // The next list: as many numbers as it says, or as there is room for. A run has at least one number, and ends with the list at the latest.
+    pub fn next_list<T: Entry>(
+        &mut self,
+        alloc: Global,
+        room: usize,
+    ) -> Result<Vec<T>, AllocError> {
+        let count = room.min(self.next_number() as usize);
+        let mut list = Vec::with_capacity(alloc, count)?;
+        while list.len() < count {
+            let (times, value) = self.next_run();
+            let times = times.clamp(1, count - list.len());
+            list.resize(list.len() + times, T::low(value))?;
+        }
+        Ok(list)
+    }
+
+    // The next list, of so many numbers at most, and zeros behind it.
+    pub fn next_array<const N: usize>(&mut self, alloc: Global) -> Result<[u32; N], AllocError> {
+        let list = self.next_list::<u32>(alloc, N)?;
+        Ok(array::from_fn(|k| list.get(k).copied().unwrap_or(0)))
     }
 }
 
-// As many steps on as are told, but one at least, and to `count` at most.
-fn forward(done: usize, told: usize, count: usize) -> usize
-    requires { done < count }
-    ensures { (done < result) × (result ≤ count) }
-{
-    if told == 0 {
-        return done + 1;
-    }
-    if told > count - done {
-        return count;
-    }
-    done + told
-}
+#[cfg(test)]
+mod tests {
+    use super::*;
 
-pub fn least(a: usize, b: usize) -> usize
-    ensures { (result ≤ a) × (result ≤ b) }
-{
-    if a < b { a } else { b }
-}
-
-// Lays an array of the text into `out`: its length, or as much as there is room for, and then its runs.
-pub fn lay_u8(text: &[u8], from: usize, out: &mut [u8]) -> Laid
-    ensures { IsPrefixLen result.count (left out) }
-{
-    let told = read_number(text, from);
-    let count = least(told.value as usize, out.len());
-    let mut at = told.at;
-    let mut done: usize = 0;
-    while done < count {
-        let next = read_run(text, at, done, count);
-        let end = next.end;
-        fill_u8(out, done, end, (next.value % 256) as u8);
-        done = end;
-        at = next.at;
-    }
-    Laid { count, at }
-}
-
-// The same, of 16-bit numbers.
-pub fn lay_u16(text: &[u8], from: usize, out: &mut [u16]) -> Laid
-    ensures { IsPrefixLen result.count (left out) }
-{
-    let told = read_number(text, from);
-    let count = least(told.value as usize, out.len());
-    let mut at = told.at;
-    let mut done: usize = 0;
-    while done < count {
-        let next = read_run(text, at, done, count);
-        let end = next.end;
-        fill_u16(out, done, end, (next.value % 65536) as u16);
-        done = end;
-        at = next.at;
-    }
-    Laid { count, at }
-}
-
-// The same, of 32-bit numbers.
-pub fn lay_u32(text: &[u8], from: usize, out: &mut [u32]) -> Laid
-    ensures { IsPrefixLen result.count (left out) }
-{
-    let told = read_number(text, from);
-    let count = least(told.value as usize, out.len());
-    let mut at = told.at;
-    let mut done: usize = 0;
-    while done < count {
-        let next = read_run(text, at, done, count);
-        let end = next.end;
-        fill_u32(out, done, end, next.value);
-        done = end;
-        at = next.at;
-    }
-    Laid { count, at }
-}
-
-fn fill_u8(out: &mut [u8], from: usize, end: usize, value: u8)
-    requires { end ≤ length out.old }
-{
-    let mut k = from;
-    while k < end {
-        out[k] = value;
-        k += 1;
-    }
-}
-
-fn fill_u16(out: &mut [u16], from: usize, end: usize, value: u16)
-    requires { end ≤ length out.old }
-{
-    let mut k = from;
-    while k < end {
-        out[k] = value;
-        k += 1;
-    }
-}
-
-fn fill_u32(out: &mut [u32], from: usize, end: usize, value: u32)
-    requires { end ≤ length out.old }
-{
-    let mut k = from;
-    while k < end {
-        out[k] = value;
-        k += 1;
+    #[test]
+    fn lists_are_laid_in_runs(rt: HostRuntime) -> Result<(), AllocError> {
+        let mut text = Text::new(b"list 5 2x7 0x8 300 9x1 cuts 1 6");
+        let list = text.next_list::<u8>(rt.alloc(), 8)?;
+        assert_eq!(rt; list.as_slice(), [7, 7, 8, 44, 1].as_slice());
+        let array = text.next_array::<3>(rt.alloc())?;
+        assert_eq!(rt; array, [6, 0, 0]);
+        assert!(rt; text.is_at_end());
+        Ok(())
     }
 }

@@ -1,136 +1,80 @@
 // Stored readings beside what tables give.
-use crate::input::{lay_u32, least, read_number};
-use crate::marks::compare_attachment;
-use crate::pairs::compare_pair;
-use crate::report::{Reading, Seen, both, same};
+use crate::input::{Entry, Text};
+use crate::report::Case;
+use crate::store::{Numbers, Reading, Store};
+use std::alloc::{AllocError, Global};
 use std::io;
 
-// Each of some stored readings is there, and is what a table and so many new tables after it give.
-pub fn readings_agree(
-    rt: &impl Print,
-    text: &[u8],
-    from: usize,
-    case: u64,
-    marks: bool,
-    data: &[u8],
-    objects: &[u32],
-    links: &[u32],
-    counts: &[u32; 3],
-    table: u32,
-    new_tables: &[u32; 8192],
-    new_count: u32,
-) -> io::Result<Seen> {
-    let count = read_number(text, from);
-    let mut at = count.at;
-    let mut agrees = true;
-    let mut k: u32 = 0;
-    while k < count.value {
-        if at >= text.len() {
-            return Ok(Seen { at, agrees: false });
-        }
-        let reading = reading_agrees(
-            rt, text, at, case, marks, data, objects, links, counts, table, new_tables, new_count,
-        )?;
-        at = reading.at;
-        agrees = both(agrees, reading.agrees);
-        k += 1;
-    }
-    Ok(Seen { at, agrees })
-}
-
-fn reading_agrees(
-    rt: &impl Print,
-    text: &[u8],
-    from: usize,
-    case: u64,
-    marks: bool,
-    data: &[u8],
-    objects: &[u32],
-    links: &[u32],
-    counts: &[u32; 3],
-    table: u32,
-    new_tables: &[u32; 8192],
-    new_count: u32,
-) -> io::Result<Seen> {
-    let first = read_number(text, from);
-    let second = read_number(text, first.at);
-    let answer = read_number(text, second.at);
-    let found = read_number(text, answer.at);
-    let mut stored = [0u32; 16];
-    let laid = lay_u32(text, found.at, &mut stored);
-    let reading = first_reading(
-        marks,
-        data,
-        objects,
-        links,
-        counts,
-        table,
-        new_tables,
-        new_count,
-        (first.value % 65536) as u16,
-        (second.value % 65536) as u16,
-        &stored,
-    );
-    let agrees = reading.answer == answer.value && reading.found == found.value && reading.agrees;
-    Ok(Seen {
-        at: laid.at,
-        agrees: same(rt, case, "reading", "what two glyphs have", agrees)?,
-    })
-}
-
-// The reading of two glyphs by the first of the tables that has something of them, or else by the last.
-fn first_reading(
-    marks: bool,
-    data: &[u8],
-    objects: &[u32],
-    links: &[u32],
-    counts: &[u32; 3],
-    table: u32,
-    new_tables: &[u32; 8192],
-    new_count: u32,
+// A reading of two glyphs as it is stored.
+#[derive(Clone, Copy)]
+struct Stored {
     first: u16,
     second: u16,
-    stored: &[u32; 16],
-) -> Reading {
-    let mut reading = either_reading(
-        marks, data, objects, links, counts, table, first, second, stored,
-    );
-    let most = least(new_count as usize, 8192);
-    let mut k: usize = 0;
-    while k < most {
-        if reading.found != 0 {
-            return reading;
-        }
-        reading = either_reading(
-            marks,
-            data,
-            objects,
-            links,
-            counts,
-            new_tables[k],
-            first,
-            second,
-            stored,
-        );
-        k += 1;
-    }
-    reading
+    answer: u32,
+    found: u32,
+    numbers: [u32; 16],
 }
 
-// The reading of a table of pairs or of marks.
-fn either_reading(
-    marks: bool,
-    data: &[u8],
-    objects: &[u32],
-    links: &[u32],
-    counts: &[u32; 3],
-    table: u32,
-    first: u16,
-    second: u16,
-    stored: &[u32; 16],
-) -> Reading {
-    if marks {
-        return compare_attachment(data, objects, links, counts, table, first, second, stored);
+impl Stored {
+    // The reading that stands next in a text.
+    fn next(text: &mut Text<'_>, alloc: Global) -> Result<Stored, AllocError> {
+        Ok(Stored {
+            first: u16::low(text.next_number()),
+            second: u16::low(text.next_number()),
+            answer: text.next_number(),
+            found: text.next_number(),
+            numbers: text.next_array(alloc)?,
+        })
     }
-    compare_pair(data, objects, links, counts, table, first, second, stored)
+
+    // A reading is as stored.
+    fn is(&self, reading: &Reading) -> bool {
+        reading.answer == self.answer && reading.found == self.found && self.has(&reading.numbers)
+    }
+
+    // A value is stored raised by 65,536.
+    fn has(&self, numbers: &Numbers) -> bool {
+        match numbers {
+            Numbers::Values(values) => values.iter().zip(self.numbers.iter()).all(|(
+                value,
+                stored,
+            )| *value == (*stored % 131073) as i32 - 65536),
+            Numbers::Anchors(anchors) => anchors
+                .iter()
+                .zip(self.numbers.iter())
+                .all(|(anchor, stored)| anchor == stored),
+        }
+    }
+
+    // The reading by the first of a store's table and new tables that has something of the two glyphs, or else by the last.
+    fn again(&self, store: &Store, new_tables: &[u32]) -> Reading {
+        let mut reading = store.read(store.table, self.first, self.second);
+        for table in new_tables {
+            if reading.found != 0 {
+                break;
+            }
+            reading = store.read(*table, self.first, self.second);
+        }
+        reading
+    }
+}
+
+// Each of some stored readings is there, and is what a store's table and new tables give.
+pub fn readings_agree<R: Print>(
+    case: &mut Case<'_, R>,
+    text: &mut Text<'_>,
+    alloc: Global,
+    store: &Store,
+    new_tables: &[u32],
+) -> io::Result<()> {
+    for _ in 0..text.next_number() {
+        if text.is_at_end() {
+            case.lacks();
+            break;
+        }
+        let stored = Stored::next(text, alloc)?;
+        let agrees = stored.is(&stored.again(store, new_tables));
+        case.same("reading", "what two glyphs have", agrees)?;
+    }
+    Ok(())
 }

@@ -1,115 +1,98 @@
-// What is compared, counted and said.
-ghost use Rattle.std.specs.Prelude.{◌<◌};
+// What is counted and said.
+use crate::calls::Called;
+use crate::store::Kind;
+use std::{fmt, io};
 
-use crate::input::read_number;
-use std::io;
-
-// The place behind what was compared, and whether it was as stored.
-#[derive(Clone, Copy)]
-pub struct Seen {
-    pub at: usize,
-    pub agrees: bool,
+// A case that is compared with what is stored of it, and whether all was as stored so far.
+#[derive(Drop)]
+pub struct Case<'a, R> {
+    rt: &'a R,
+    number: u64,
+    agrees: bool,
 }
 
-// What a call answers, how many numbers it puts into its list, and the digest of all that it leaves; and the place behind what it is lent.
-#[derive(Clone, Copy)]
-pub struct Called {
-    pub at: usize,
-    pub answer: u32,
-    pub count: u32,
-    pub digest: u64,
-}
-
-// What a reading answers, whether two glyphs have something, and whether that is as stored.
-#[derive(Clone, Copy)]
-pub struct Reading {
-    pub answer: u32,
-    pub found: u32,
-    pub agrees: bool,
-}
-
-// The stored answer and digest of a call are its own.
-pub fn call_agrees(
-    rt: &impl Print,
-    text: &[u8],
-    case: u64,
-    call: &str,
-    called: Called,
-) -> io::Result<Seen> {
-    let answer = read_number(text, called.at);
-    let digest = read_number(text, answer.at);
-    let a = same(rt, case, call, "the answer", answer.value == called.answer)?;
-    let b = same(
-        rt,
-        case,
-        call,
-        "what it leaves",
-        digest.value as u64 == called.digest,
-    )?;
-    Ok(Seen {
-        at: digest.at,
-        agrees: both(a, b),
-    })
-}
-
-pub fn both(a: bool, b: bool) -> bool {
-    a && b
-}
-
-// Says what of a call differs, where it does.
-pub fn same(rt: &impl Print, case: u64, call: &str, what: &str, agrees: bool) -> io::Result<bool> {
-    if agrees {
-        return Ok(true);
+impl<'a, R: Print> Case<'a, R> {
+    pub fn new(rt: &'a R, number: u64) -> Case<'a, R> {
+        Case {
+            rt,
+            number,
+            agrees: true,
+        }
     }
-    println!(rt; "case {case}, {call}: {what} differs")?;
-    Ok(false)
-}
 
-// Adds a case to its kind: 0 where the table was cut, the answer where the split was refused, 13 where there was nothing to cut; and one of marks to 14.
-pub fn add_case(tally: &mut [u64; 15], answer: u32, count: u32, marks: bool) {
-    add_one(tally, kind_of(answer, count));
-    if marks {
-        add_one(tally, 14);
+    // Says what of a call differs, where it does.
+    pub fn same(&mut self, call: &str, what: &str, agrees: bool) -> io::Result<()> {
+        if agrees {
+            return Ok(());
+        }
+        self.agrees = false;
+        let number = self.number;
+        println!(self.rt; "case {number}, {call}: {what} differs")
+    }
+
+    // Something stored is not there.
+    pub fn lacks(&mut self) {
+        self.agrees = false;
+    }
+
+    pub fn agrees(&self) -> bool {
+        self.agrees
     }
 }
 
-fn add_one(tally: &mut [u64; 15], kind: usize)
-    requires { kind < 15 }
-{
-    if tally[kind] < u64::MAX {
-        tally[kind] += 1;
+// What came of the cases, as numbers of them.
+#[derive(Drop)]
+pub struct Tally {
+    cases: u32,
+    cut: u64,
+    uncut: u64,
+    refused: [u64; 12],
+    of_marks: u64,
+    differing: u64,
+}
+
+impl Tally {
+    // The tally before so many cases are replayed.
+    pub fn new(cases: u32) -> Tally {
+        Tally {
+            cases,
+            cut: 0,
+            uncut: 0,
+            refused: [0; 12],
+            of_marks: 0,
+            differing: 0,
+        }
+    }
+
+    // Adds a case of a kind of table and what its split answered. A number past the last refusal counts as that.
+    pub fn add(&mut self, kind: Kind, split: Called) {
+        let counted = match (split.count, split.answer) {
+            (0, 0) => &mut self.uncut,
+            (0, refusal) => &mut self.refused[refusal.clamp(1, 12) as usize - 1],
+            _ => &mut self.cut,
+        };
+        *counted = counted.saturating_add(1);
+        match kind {
+            Kind::Pairs => {}
+            Kind::Marks => self.of_marks = self.of_marks.saturating_add(1),
+        }
+    }
+
+    // Adds cases that are not as stored, or not there.
+    pub fn add_differing(&mut self, count: u32) {
+        self.differing = self.differing.saturating_add(u64::from(count));
     }
 }
 
-fn kind_of(answer: u32, count: u32) -> usize
-    ensures { result < 14 }
-{
-    if count > 0 {
-        return 0;
+impl fmt::Display for Tally {
+    fn fmt<W: fmt::Write>(&self, f: &mut fmt::Formatter<W>) -> fmt::Result {
+        writeln!(f, "cut: {}", self.cut)?;
+        writeln!(f, "nothing to cut: {}", self.uncut)?;
+        for (k, count) in self.refused.iter().enumerate() {
+            writeln!(f, "refused by {}: {count}", k + 1)?;
+        }
+        writeln!(f, "cases: {}", self.cases)?;
+        writeln!(f, "cases of marks: {}", self.of_marks)?;
+        write!(f, "not as stored: {}", self.differing)
     }
-    if answer == 0 {
-        return 13;
-    }
-    if answer > 12 {
-        return 12;
-    }
-    answer as usize
-}
-
-// Says how many cases of each kind there are.
-pub fn print_kinds(rt: &impl Print, tally: &[u64; 15]) -> io::Result<()> {
-    print_line(rt, "cut", tally[0])?;
-    print_line(rt, "nothing to cut", tally[13])?;
-    let mut k: usize = 1;
-    while k < 13 {
-        print!(rt; "refused by {k}")?;
-        print_line(rt, "", tally[k])?;
-        k += 1;
-    }
-    Ok(())
-}
-
-// A line of what is counted and its number.
-pub fn print_line(rt: &impl Print, what: &str, count: u64) -> io::Result<()> {
-    println!(rt; "{what}: {count}")
 }

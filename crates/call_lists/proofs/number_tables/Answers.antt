@@ -1,5 +1,5 @@
 -- `call_lists::number_tables` meets its contract: the first j numbers are written. Assumes nothing.
-use Prim.Native.Nat.{◌-◌, ◌+◌, ◌*◌}
+use Prim.Native.Nat.{◌+◌, ◌*◌}
 use native.Mathlib.Omega.{arith}
 use Rattle.call_lists.proofs.Numbering.{number_start, number_turn, number_stop, number_small}
 use Rattle.call_lists.proofs.number_tables.Goals as goal

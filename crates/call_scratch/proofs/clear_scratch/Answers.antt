@@ -4,4 +4,6 @@ use Rattle.call_scratch.proofs.clear_scratch.Goals as goal
 
 pub returns : goal.returns
 unfolding cleared
-returns c = λ i. scratch_of (c.clear_u32.ensures i) (c.clear_u8.ensures i) (c.clear_u16.ensures i) (c.clear_u16-2.ensures i) (c.clear_u16-3.ensures i)
+returns c =
+    λ i. scratch_of (c.fill.ensures.after (λ y e. e) i) (c.fill-2.ensures.after (λ y e. e) i) (c.fill-3.ensures.after (λ y e. e) i)
+    (c.fill-4.ensures.after (λ y e. e) i) (c.fill-5.ensures.after (λ y e. e) i)

@@ -15,4 +15,4 @@ rewrite_roots-requires c =
     record { by_index = roots_low c.args.«data».now c.args.objects.now c.args.links.now c.args.counts.now c.args.roots.now c.args.walk.now c.requires c.number_kept.ensures; n_in_bounds = (c.number_kept.ensures.numbered.long, fits.objects_most) }
 
 pub returns : goal.returns
-returns c = carried c.args.«data».now c.args.objects.now c.args.links.now c.args.counts.now c.args.roots.now c.args.walk.now c.requires c.number_kept.ensures c.compact_objects-packed.ensures c.compact_links-rows.ensures c.rewrite_roots.ensures c.clear_u32.ensures
+returns c = carried c.args.«data».now c.args.objects.now c.args.links.now c.args.counts.now c.args.roots.now c.args.walk.now c.requires c.number_kept.ensures c.compact_objects-packed.ensures c.compact_links-rows.ensures c.rewrite_roots.ensures (c.fill.ensures.after (λ y e. e))

@@ -1,10 +1,17 @@
--- `cut_parts::part_end` meets its contract: the items passed lie below the bound. Assumes nothing.
-use borrow.Author.Rules.{rules}
-use Prim.Native.Nat.{◌-◌}
-use mathlib.Core.Logic.{⊎_elim}
-use native.Mathlib.Nat.{eq-or-lt_of_le, le_of_suc-le-suc}
-use native.Mathlib.Numerals.{add-one}
+-- `cut_parts::part_end` meets its contract: the classes counted lie below the bound. Assumes nothing.
+use native.Mathlib.Omega.{arith}
+use lib.Dec.{ltb}
+use borrow.Author.Tests.{ltb-true, ltb-false}
+use Rattle.folds.proofs.Passing.{Passed, passed_inside, passed, stopped}
 use Rattle.cut_parts.proofs.part_end.Goals as goal
 
-pub loop-at-preserved : goal.loop-at-preserved
-loop-at-preserved c = (search rules, search rules, λ i l m. ⊎_elim (λ e. rw e (search rules)) (λ lt. c.loop-at.invariant.2 i l lt) (eq-or-lt_of_le (le_of_suc-le-suc (rw add-one at m))))
+pub returns : goal.returns
+returns c =
+    let a = c.args in
+    let e : Passed (λ k. ltb k a.hi) a.classes.now a.from c.count_front.result = record { counted = c.count_front.ensures } in
+    record {
+      after = omega arith;
+      inside = passed_inside e c.requires;
+      below = λ i l m. ltb-true _ _ (passed e c.requires i l m);
+      above = λ l. ltb-false _ _ (stopped e c.requires l);
+    }

@@ -1,18 +1,19 @@
--- `glyph_class_parts::class_end` meets its contract: all entries that were passed are of the class. Assumes nothing.
-use Prim.Native.Nat.{◌-◌}
+-- `glyph_class_parts::class_end` meets its contract: the entries counted are those of the class. Assumes nothing.
+use mathlib.Core.Path.{sym, ◌∙◌}
 use native.Mathlib.Omega.{arith}
-use borrow.Author.Rules.{rules}
-use Rattle.glyph_class_parts.proofs.Scanning.{scan_start, scan_turn, scan_stop}
+use borrow.Author.Tests.{eqb-true, eq-eqb}
+use Rattle.std.specs.Bool.{◌==◌}
+use Rattle.folds.proofs.Passing.{Passed, passed_inside, passed, stopped}
+use Rattle.folds.proofs.Tests.{true_false}
 use Rattle.glyph_class_parts.proofs.class_end.Goals as goal
 
-pub loop-end-init : goal.loop-end-init
-loop-end-init c = scan_start c.requires
-
-pub returns-then-classes-end : goal.returns-then-classes-end
-returns-then-classes-end c = scan_stop c.loop-end.invariant (λ h. c.if-classes-end.true)
-
-pub loop-end-preserved : goal.loop-end-preserved
-loop-end-preserved c = scan_turn c.loop-end.invariant (search rules) c.if-classes-end.false
-
 pub returns : goal.returns
-returns c = scan_stop c.loop-end.invariant (λ h. absurd (omega arith))
+returns c =
+    let a = c.args in
+    let e : Passed (λ k. k == a.class) a.classes.now a.from c.count_front.result = record { counted = c.count_front.ensures } in
+    record {
+      after = omega arith;
+      inside = passed_inside e c.requires;
+      same = λ k l m. eqb-true _ _ (passed e c.requires k l m);
+      other = λ l m. true_false (sym (eq-eqb _ _ m) ∙ stopped e c.requires l);
+    }

@@ -9,4 +9,4 @@ use Rattle.glyph_set.proofs.contains.Goals as goal
 
 pub returns : goal.returns
 unfolding member
-returns c = let a = c.args in ap (λ (n : ℕ). eqb n 1) (masked_lowest (get_or a.set.now (a.glyph / 8) 0 / 2 ^ (a.glyph % 8)))
+returns c = let a = c.args in rw c.from-at.ensures (ap (λ (n : ℕ). eqb n 1) (masked_lowest (get_or a.set.now (a.glyph / 8) 0 / 2 ^ (a.glyph % 8))))

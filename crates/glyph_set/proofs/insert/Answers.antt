@@ -3,4 +3,4 @@ use Rattle.glyph_set.proofs.Marks.{mark_shifted}
 use Rattle.glyph_set.proofs.insert.Goals as goal
 
 pub returns : goal.returns
-returns c = mark_shifted c.args.set.now c.args.glyph
+returns c = rw c.from-at.ensures (mark_shifted c.args.set.now c.args.glyph)

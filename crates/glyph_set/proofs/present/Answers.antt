@@ -9,4 +9,4 @@ as_number true = refl
 as_number false = refl
 
 pub returns : goal.returns
-returns c = as_number c.contains.result ∙ ap (λ (b : Bool). cond b 1 0) c.contains.ensures
+returns c = c.from.ensures ∙ as_number c.contains.result ∙ ap (λ (b : Bool). cond b 1 0) c.contains.ensures

@@ -23,7 +23,7 @@ rows_of-rows-requires c = let all = searchable c.requires in record { in_order_l
 
 -- the marks are no more than the walk has
 pub slice_bounds-lookups_fit-end-2 : goal.slice_bounds-lookups_fit-end-2
-slice_bounds-lookups_fit-end-2 c = simp length-take (omega (arith, c.lesser-most.ensures))
+slice_bounds-lookups_fit-end-2 c = simp length-take (omega (arith, c.min-most.ensures))
 
 pub lookups_fit-requires : goal.lookups_fit-requires
 lookups_fit-requires c = rows_used_lem c.requires c.rows_of-rows.ensures

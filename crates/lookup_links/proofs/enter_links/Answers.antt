@@ -1,5 +1,4 @@
 -- `lookup_links::enter_links` meets its contract: the links of the new lookups before m are written. Assumes nothing.
-use Prim.Native.Nat.{◌-◌}
 use Rattle.lookup_links.proofs.Entering.{all_start, all_stop, lookup_ready, all-turn}
 use Rattle.lookup_links.proofs.enter_links.Goals as goal
 

@@ -1,5 +1,4 @@
 -- `lookup_links::enter_lookup` meets its contract: the links of the rows before k are written. Assumes nothing.
-use Prim.Native.Nat.{◌-◌}
 use native.Mathlib.Omega.{arith}
 use Rattle.lookup_links.proofs.Lookup.{all_are, entered_start, entered_stop, row_ready, entered_turn}
 use Rattle.lookup_links.proofs.enter_lookup.Goals as goal

@@ -13,7 +13,8 @@ pub overflow_add-position-3 : goal.overflow_add-position-3
 overflow_add-position-3 c = omega (arith, c.requires.small)
 
 pub put_tables-requires : goal.put_tables-requires
-put_tables-requires c = record { tables_in_bounds = listing_room c.requires c.put_link.ensures c.if-child-table.false; tables_bound = omega (arith, c.requires.small) }
+put_tables-requires c =
+    record { tables_in_bounds = listing_room c.requires c.put_link.ensures c.if-child-table.false; tables_bound = omega (arith, c.requires.small) }
 
 pub returns : goal.returns
 returns c = listing_copied c.requires c.put_link.ensures c.if-child-table.false c.put_tables.ensures

@@ -1,5 +1,4 @@
 -- `lookup_links::lead_links` meets its contract: the rows before k are redirected. Assumes nothing.
-use Prim.Native.Nat.{◌-◌}
 use lib.ListN.{length-set}
 use borrow.Author.Rules.{rules}
 use Rattle.store_link_rows.proofs.Changing.{changed_start, changed_turn, changed_done}

@@ -1,5 +1,4 @@
 -- `lookup_links::put_tables` meets its contract: the links to the tables before j are written. Assumes nothing.
-use Prim.Native.Nat.{◌-◌}
 use Rattle.lookup_links.proofs.Rows.{tables_start, tables_turn, tables_stop}
 use Rattle.lookup_links.proofs.put_tables.Goals as goal
 

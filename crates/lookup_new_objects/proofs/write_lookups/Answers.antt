@@ -1,5 +1,4 @@
 -- `lookup_new_objects::write_lookups` meets its contract: the new lookups before m are written. Assumes nothing.
-use Prim.Native.Nat.{◌-◌}
 use native.Mathlib.Omega.{arith}
 use Rattle.lookup_new_objects.proofs.Looping.{lookups_start, lookups_stop, lookup_ready, row_small, lookups_turn}
 use Rattle.lookup_new_objects.proofs.write_lookups.Goals as goal

@@ -1,6 +1,6 @@
 -- `lookup_split::enter_planned` meets its contract: nothing to cut, or the lookups in order, and then by what is entered at the plan's places. Assumes nothing.
 use native.Mathlib.Omega.{arith}
-use Rattle.lookup_split.proofs.Planned.{nothing, both_small, marks_long_lem, lookups_end, placing, refused, entered}
+use Rattle.lookup_split.proofs.Planned.{nothing, both_small, marks_long_lem, lookups_end, placing, entered}
 use Rattle.lookup_split.proofs.enter_planned.Goals as goal
 
 pub returns-then-count-eq0 : goal.returns-then-count-eq0
@@ -21,44 +21,8 @@ offset_bounds-ordered-marks c = omega (arith, both_small c.requires c.if-count-e
 pub slice_bounds-enter_at-end-2 : goal.slice_bounds-enter_at-end-2
 slice_bounds-enter_at-end-2 c = lookups_end c.requires c.if-count-eq0.false c.order_lookups-found.ensures c.order_lookups-found.auto.walk
 
-pub enter_at-answer-requires : goal.enter_at-answer-requires
-enter_at-answer-requires c = placing c.requires c.if-count-eq0.false c.order_lookups-found.ensures
-
-pub shape_of-data-then-answer-ne0 : goal.shape_of-data-then-answer-ne0
-shape_of-data-then-answer-ne0 c = c.data-1.given
-
-pub shape_of-objects-then-answer-ne0 : goal.shape_of-objects-then-answer-ne0
-shape_of-objects-then-answer-ne0 c = c.objects-1.given
-
-pub shape_of-links-then-answer-ne0 : goal.shape_of-links-then-answer-ne0
-shape_of-links-then-answer-ne0 c = c.links-1.given
-
-pub shape_of-walk-then-answer-ne0 : goal.shape_of-walk-then-answer-ne0
-shape_of-walk-then-answer-ne0 c = c.walk-1.given
-
-pub shape_of-new_tables-then-answer-ne0 : goal.shape_of-new_tables-then-answer-ne0
-shape_of-new_tables-then-answer-ne0 c = c.new_tables-1.given
-
-pub returns-then-answer-ne0 : goal.returns-then-answer-ne0
-returns-then-answer-ne0 c = refused c.requires c.if-count-eq0.false c.order_lookups-found.ensures c.args.new_tables.now c.enter_at-answer.ensures c.if-answer-ne0.true
-
-pub overflow_cast-new_count : goal.overflow_cast-new_count
-overflow_cast-new_count c = omega (arith, c.requires.plan.few)
-
-pub shape_of-data : goal.shape_of-data
-shape_of-data c = c.data-1.given
-
-pub shape_of-objects : goal.shape_of-objects
-shape_of-objects c = c.objects-1.given
-
-pub shape_of-links : goal.shape_of-links
-shape_of-links c = c.links-1.given
-
-pub shape_of-walk : goal.shape_of-walk
-shape_of-walk c = c.walk-1.given
-
-pub shape_of-new_tables : goal.shape_of-new_tables
-shape_of-new_tables c = c.new_tables-1.given
+pub enter_at-requires : goal.enter_at-requires
+enter_at-requires c = placing c.requires c.if-count-eq0.false c.order_lookups-found.ensures
 
 pub returns : goal.returns
-returns c = entered c.requires c.if-count-eq0.false c.order_lookups-found.ensures c.args.new_tables.now c.enter_at-answer.ensures c.if-answer-ne0.false
+returns c w = entered c.requires c.if-count-eq0.false c.order_lookups-found.ensures c.args.new_tables.now w (c.enter_at.ensures w)

@@ -2,6 +2,7 @@
 use mathlib.Core.Path.{◌∙◌}
 use Rattle.call_rules.specs.Scratch.{scratch_of}
 use Rattle.call_lists.proofs.Split.{then_cleared}
+use Rattle.call_lists.proofs.GivenOut.{given_out}
 use Rattle.lookup_split.proofs.split_in_lookups.Goals as goal
 
 pub shape_of-walk : goal.shape_of-walk
@@ -22,6 +23,7 @@ shape_of-cuts c = c.cuts-2-1.given ∙ c.cuts-1.given
 pub returns : goal.returns
 returns c =
     let a = c.args in
-    then_cleared {w = scratch_of a.walk.now a.glyph_set.now a.glyphs.now a.classes.now a.cuts.now}
-    (record { walk = c.enter_any-answer.auto.walk; set = c.enter_any-answer.auto.glyph_set; glyphs = c.enter_any-answer.auto.glyphs; classes = c.enter_any-answer.auto.classes; cuts = c.enter_any-answer.auto.cuts })
-    c.clear_scratch.ensures c.enter_any-answer.ensures
+    given_out c.enter_any-entered.result c.give_out.ensures.answer c.give_out.ensures.count
+    (then_cleared {w = scratch_of a.walk.now a.glyph_set.now a.glyphs.now a.classes.now a.cuts.now}
+    (record { walk = c.enter_any-entered.auto.walk; set = c.enter_any-entered.auto.glyph_set; glyphs = c.enter_any-entered.auto.glyphs; classes = c.enter_any-entered.auto.classes; cuts = c.enter_any-entered.auto.cuts })
+    c.clear_scratch.ensures c.enter_any-entered.ensures)

@@ -4,10 +4,26 @@ use Rattle.mark_links.proofs.Whole.{all_sources, tables_room, kept_many, kept_in
 use Rattle.mark_links.proofs.copy_new.Goals as goal
 
 pub copy_tables-at-requires : goal.copy_tables-at-requires
-copy_tables-at-requires c = record { sources = (all_sources _ _ _ _ _ _ c.requires c.rows_of-marks.ensures c.rows_of-bases.ensures, c.requires.parts); places_len_bound = (c.requires.few, omega (arith, c.requires.numbers)); part_end = c.part_end-end.ensures; rows_room = tables_room _ _ _ _ _ _ c.requires }
+copy_tables-at-requires c =
+    let g = c.requires in
+    record {
+      sources = (all_sources _ _ _ _ _ _ g c.of-rows.ensures, g.parts);
+      places_len_bound = (g.few, omega (arith, g.numbers));
+      part_end = c.part_end-end.ensures;
+      rows_room = tables_room _ _ _ _ _ _ g;
+    }
 
 pub copy_arrays-requires : goal.copy_arrays-requires
-copy_arrays-requires c = let sources = all_sources _ _ _ _ _ _ c.requires c.rows_of-marks.ensures c.rows_of-bases.ensures in record { sources = (kept_sources _ _ _ _ _ _ c.requires _ c.part_end-end.ensures c.copy_tables-at.ensures _ sources, omega (arith, c.requires.few, kept_many _ _ _ _ _ _ c.requires _ c.part_end-end.ensures c.copy_tables-at.ensures)); lo_le_hi = (omega arith, kept_inside _ _ _ _ _ _ c.requires _ c.part_end-end.ensures c.copy_tables-at.ensures, omega (arith, c.requires.numbers)); rows_room = kept_room _ _ _ _ _ _ c.requires _ c.part_end-end.ensures c.copy_tables-at.ensures }
+copy_arrays-requires c =
+    let g = c.requires in
+    let end = c.part_end-end.ensures in
+    let done = c.copy_tables-at.ensures in
+    let sources = all_sources _ _ _ _ _ _ g c.of-rows.ensures in
+    record {
+      sources = (kept_sources _ _ _ _ _ _ g _ end done _ sources, omega (arith, g.few, kept_many _ _ _ _ _ _ g _ end done));
+      lo_le_hi = (omega arith, kept_inside _ _ _ _ _ _ g _ end done, omega (arith, g.numbers));
+      rows_room = kept_room _ _ _ _ _ _ g _ end done;
+    }
 
 pub returns : goal.returns
 returns c = all_copied _ _ _ _ _ _ c.requires _ c.part_end-end.ensures c.copy_tables-at.ensures c.copy_arrays.ensures

@@ -1,5 +1,4 @@
 -- `mark_links::copy_tables` meets its contract: the links of the tables before j are written. Assumes nothing.
-use Prim.Native.Nat.{◌-◌}
 use native.Mathlib.Omega.{arith}
 use Rattle.mark_links.specs.Splitting.{tables_copies}
 use Rattle.store_link_rows.proofs.Copying.{turns_stop}
@@ -10,30 +9,20 @@ pub loop-j-init : goal.loop-j-init
 unfolding tables_copies
 loop-j-init c = tables_start _ _ _ _ _ _ _ _ c.requires.sources.1 _ c.requires.part_end c.requires.rows_room
 
-pub part_end-to-requires : goal.part_end-to-requires
-part_end-to-requires c = c.loop-j.invariant.halved.inside
-
-pub slice_bounds-copy_table-count : goal.slice_bounds-copy_table-count
-slice_bounds-copy_table-count c = omega (arith, c.part_end-to.ensures.after)
-
-pub slice_bounds-copy_table-start : goal.slice_bounds-copy_table-start
-slice_bounds-copy_table-start c = omega (arith, c.part_end-to.ensures.after, c.part_end-to.ensures.inside, c.requires.sources.1.same)
-
-pub slice_bounds-copy_table-end : goal.slice_bounds-copy_table-end
-slice_bounds-copy_table-end c = omega (arith, c.part_end-to.ensures.after, c.part_end-to.ensures.inside, c.requires.sources.1.same)
-
-pub overflow_cast-table : goal.overflow_cast-table
-overflow_cast-table c = omega (arith, c.loop-j.invariant.table_is, c.loop-j-test.true, c.requires.places_len_bound.1)
-
 pub copy_table-next-requires : goal.copy_table-next-requires
 copy_table-next-requires c =
+    let (sources, parted) = c.requires.sources in
     let inv = c.loop-j.invariant in
     let more = c.loop-j-test.true in
-    let (low, high) = turn_range _ _ _ _ _ _ _ _ c.requires.sources.1 inv more _ _ c.cut_after-hi.ensures c.part_end-to.ensures in
-    let many = turn_many _ _ _ _ _ _ _ _ c.requires.sources.1 inv more _ _ c.cut_after-hi.ensures c.part_end-to.ensures in record { sources = (turn_sources _ _ _ _ _ _ _ _ c.requires.sources.1 inv more _ c.requires.sources.0, omega (arith, many, c.requires.places_len_bound.0)); lo_le_hi = (low, high, omega (arith, inv.table_is, more, c.requires.places_len_bound.1)); rows_room = turn_room _ _ _ _ _ _ _ _ c.requires.sources.1 inv more _ _ c.cut_after-hi.ensures c.part_end-to.ensures }
-
-pub overflow_add-table : goal.overflow_add-table
-overflow_add-table c = omega (arith, c.loop-j.invariant.table_is, c.loop-j-test.true, c.requires.places_len_bound.1)
+    let high = c.cut_after-hi.ensures in
+    let end = c.part_end-to.ensures in
+    let range = turn_range _ _ _ _ _ _ _ _ parted inv more _ _ high end in
+    let many = turn_many _ _ _ _ _ _ _ _ parted inv more _ _ high end in
+    record {
+      sources = (turn_sources _ _ _ _ _ _ _ _ parted inv more _ sources, omega (arith, many, c.requires.places_len_bound.0));
+      lo_le_hi = (range.0, range.1, omega (arith, inv.table_is, more, c.requires.places_len_bound.1));
+      rows_room = turn_room _ _ _ _ _ _ _ _ parted inv more _ _ high end;
+    }
 
 pub loop-j-preserved : goal.loop-j-preserved
 loop-j-preserved c =

@@ -1,8 +1,7 @@
 -- `mark_new_objects::new_length` meets its contract: the kept table's parts and the objects of the first i new tables are summed. Assumes nothing.
 use native.Mathlib.Omega.{arith}
-use Prim.Native.Nat.{◌-◌}
 use mathlib.Core.Path.{refl}
-use Rattle.mark_new_objects.proofs.Lengths.{first_few, total_start, total_turn, total_stop, next_few, turn_few, turn_rises, turn_fits}
+use Rattle.mark_new_objects.proofs.Lengths.{first_few, total_start, total_turn, total_stop, turn_few, turn_fits}
 use Rattle.mark_new_objects.proofs.new_length.Goals as goal
 
 pub parts_length-total-requires : goal.parts_length-total-requires
@@ -13,11 +12,6 @@ loop-i-init c = total_start _ _ _ _ _ c.requires (omega arith) _ _ c.part_end-at
 
 pub part_end-end-requires : goal.part_end-end-requires
 part_end-end-requires c = c.loop-i.invariant.halved.inside
-
-pub overflow_sub-hi : goal.overflow_sub-hi
-overflow_sub-hi c =
-    let inv = c.loop-i.invariant in
-    omega (arith, turn_rises _ _ _ _ _ _ _ _ inv c.loop-i-test.true _ _ _ refl c.cut_after-hi.ensures c.part_end-end.ensures)
 
 pub parts_length-parts-requires : goal.parts_length-parts-requires
 parts_length-parts-requires c =
@@ -33,9 +27,6 @@ pub overflow_add-total-in-loop-i : goal.overflow_add-total-in-loop-i
 overflow_add-total-in-loop-i c =
     let inv = c.loop-i.invariant in
     omega (arith, turn_fits _ _ _ _ _ _ _ _ inv c.loop-i-test.true _ _ _ refl c.cut_after-hi.ensures c.part_end-end.ensures _ c.parts_length-parts.ensures)
-
-pub overflow_add-i : goal.overflow_add-i
-overflow_add-i c = omega (arith, next_few _ _ _ _ _ _ _ _ c.loop-i.invariant c.loop-i-test.true)
 
 pub loop-i-preserved : goal.loop-i-preserved
 loop-i-preserved c =

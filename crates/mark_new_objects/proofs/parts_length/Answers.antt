@@ -4,17 +4,8 @@ use Rattle.ot_layouts.proofs.CoverageLength.{cover_length}
 use Rattle.mark_new_objects.proofs.Lengths.{slots_small}
 use Rattle.mark_new_objects.proofs.parts_length.Goals as goal
 
-pub overflow_mul-slots : goal.overflow_mul-slots
-overflow_mul-slots c = omega (arith, slots_small c.args.bases c.args.classes (omega arith) (omega arith))
-
 pub overflow_add-result-2 : goal.overflow_add-result-2
 overflow_add-result-2 c = omega (arith, (cover_length c.args.glyphs.now).1)
-
-pub overflow_mul-result-2 : goal.overflow_mul-result-2
-overflow_mul-result-2 c = let a = c.args in omega (arith, slots_small a.bases a.classes (omega arith) (omega arith))
-
-pub overflow_add-result-3 : goal.overflow_add-result-3
-overflow_add-result-3 c = let a = c.args in omega (arith, slots_small a.bases a.classes (omega arith) (omega arith))
 
 pub overflow_add-result-4 : goal.overflow_add-result-4
 overflow_add-result-4 c =

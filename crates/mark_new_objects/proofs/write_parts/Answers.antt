@@ -10,7 +10,11 @@ pub overflow_cast-end : goal.overflow_cast-end
 overflow_cast-end c = omega (arith, one_small _ _ c.requires.objects_room_lem c.write_coverage-end.ensures.1)
 
 pub write_arrays-requires : goal.write_arrays-requires
-write_arrays-requires c = record { classes = c.requires.range_marks.classes; objects_room_lem = rest_room _ _ c.requires.objects_room_lem c.write_coverage-end.ensures.0 c.put_object.ensures c.write_coverage-end.ensures.1 }
+write_arrays-requires c =
+    record {
+      classes = c.requires.range_marks.classes;
+      objects_room_lem = rest_room _ _ c.requires.objects_room_lem c.write_coverage-end.ensures.0 c.put_object.ensures c.write_coverage-end.ensures.1;
+    }
 
 pub returns : goal.returns
 returns c = rest_done _ _ c.requires.objects_room_lem c.write_coverage-end.ensures.0 c.put_object.ensures c.write_coverage-end.ensures.1 c.write_arrays.ensures

@@ -1,11 +1,8 @@
 -- `mark_new_objects::write_tables` meets its contract: the objects of the first j new tables are written. Assumes nothing.
-use Prim.Native.Nat.{◌-◌}
-use lib.ListN.{length}
 use Rattle.mark_new_objects.proofs.Looping.{Tables}
 use Rattle.mark_new_objects.proofs.write_tables.Given as goal
 
 abbrev pub invariant-loop-j : goal.invariant-loop-j
-invariant-loop-j l = Tables l.initial.«data» l.initial.objects l.glyphs l.classes l.cuts l.class_count l.bases l.byte_count l.object_count l.«data» l.objects l.from l.at l.row l.j
-
-abbrev pub decreases-loop-j : goal.decreases-loop-j
-decreases-loop-j l = length l.cuts - l.j
+invariant-loop-j l =
+    Tables l.initial.«data» l.initial.objects l.glyphs l.classes l.cuts l.class_count l.bases l.byte_count l.object_count l.«data» l.objects l.from
+    l.at l.row l.j

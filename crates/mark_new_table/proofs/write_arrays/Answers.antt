@@ -16,7 +16,8 @@ pub overflow_cast-middle-2 : goal.overflow_cast-middle-2
 overflow_cast-middle-2 c = omega (arith, middle_small _ _ _ _ c.requires.objects_room_lem c.write_mark_array-middle.ensures)
 
 pub overflow_cast-end : goal.overflow_cast-end
-overflow_cast-end c = omega (arith, end_small _ _ _ _ c.requires.objects_room_lem c.write_mark_array-middle.ensures c.put_object.ensures c.write_base_array-end.ensures)
+overflow_cast-end c =
+    omega (arith, end_small _ _ _ _ c.requires.objects_room_lem c.write_mark_array-middle.ensures c.put_object.ensures c.write_base_array-end.ensures)
 
 pub returns : goal.returns
 returns c =

@@ -1,15 +1,11 @@
 -- `mark_new_table::write_mark_array` meets its contract: in the loop the first k marks stand behind the count. Assumes nothing.
 use native.Mathlib.Omega.{arith}
-use Prim.Native.Nat.{◌-◌}
 use mathlib.Core.Path.{refl}
 use Rattle.mark_new_table.proofs.Bytes.{marking_start, marking_turn, marking_stop}
 use Rattle.mark_new_table.proofs.write_mark_array.Goals as goal
 
 pub loop-k-init : goal.loop-k-init
 loop-k-init c = marking_start _ _ _ _ _ c.requires.classes (omega arith)
-
-pub overflow_sub-classes : goal.overflow_sub-classes
-overflow_sub-classes c = omega (arith, c.loop-k.invariant.known.above c.loop-k.k c.loop-k-test.true)
 
 pub loop-k-preserved : goal.loop-k-preserved
 loop-k-preserved c = marking_turn c.loop-k.invariant c.loop-k-test.true c.put_mark.auto.«data» c.put_mark.ensures

@@ -1,5 +1,4 @@
 -- `mark_order::classes_into` meets its contract: one class is written a turn. Assumes nothing.
-use Prim.Native.Nat.{◌-◌}
 use borrow.Author.Rules.{rules}
 use Rattle.buffers.proofs.Filling.{fill_start, fill_turn, fill_stop}
 use Rattle.ot_layouts.specs.MarkBasePos.{mark_class}

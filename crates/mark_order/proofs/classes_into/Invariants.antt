@@ -1,12 +1,7 @@
 -- `mark_order::classes_into` meets its contract: one class is written a turn. Assumes nothing.
-use Prim.Native.Nat.{◌-◌}
-use lib.ListN.{length}
 use Rattle.buffers.proofs.Filling.{Filling}
 use Rattle.ot_layouts.specs.MarkBasePos.{mark_class}
 use Rattle.mark_order.proofs.classes_into.Given as goal
 
 abbrev pub invariant-loop-i : goal.invariant-loop-i
 invariant-loop-i l = Filling (mark_class l.array) l.initial.classes l.classes l.i
-
-abbrev pub decreases-loop-i : goal.decreases-loop-i
-decreases-loop-i l = length l.initial.classes - l.i

@@ -7,7 +7,8 @@ use Rattle.mark_plan.proofs.decide_cuts.Goals as goal
 pub begin_walk-requires : goal.begin_walk-requires
 begin_walk-requires c =
     let scratch : Scratch = let a = c.args in scratch_of a.walk.now a.glyph_set.now a.glyphs.now a.classes.now a.cuts.now in
-    record { by_index = (c.args.«data».now, c.requires.passed.opens.reads.sounds); table_bound = ((can_begin (scratch) c.requires.passed).0, (can_begin (scratch) c.requires.passed).1, omega arith) }
+    let can = can_begin (scratch) c.requires.passed in
+    record { by_index = (c.args.«data».now, c.requires.passed.opens.reads.sounds); table_bound = (can.0, can.1, omega arith) }
 
 pub bounds-walk-table : goal.bounds-walk-table
 bounds-walk-table c =

@@ -1,12 +1,17 @@
 -- `mark_reading::place_below` meets its contract: by the place that is found, and by the count. Assumes nothing.
-use Rattle.mark_reading.proofs.Places.{none_covered, past_count, below_count}
+use Rattle.std.proofs.Common.{◌≡◌, ◌∙◌, rules}
+use Rattle.std.specs.Prelude.{ltb}
+use Rattle.std.proofs.lemmas.Option.{MatchOption-at_some, MatchOption-at_none}
+use Rattle.mark_reading.proofs.Places.{by_place, none_covered, kept_place}
 use Rattle.mark_reading.proofs.place_below.Goals as goal
 
-pub returns-in_default : goal.returns-in_default
-returns-in_default c l n = none_covered _ _ _ (c.place_in-place.ensures l n) c.in_default.is
-
-pub returns-then-count-i : goal.returns-then-count-i
-returns-then-count-i c l n = past_count _ _ _ (c.place_in-place.ensures l n) c.in-At.is c.if-count-i.true
-
 pub returns : goal.returns
-returns c l n = below_count _ _ _ (c.place_in-place.ensures l n) c.in-At.is c.if-count-i.false
+returns c l n =
+    let a = c.args in
+    let e = c.place_in.ensures l n in
+    by_place c.place_in.result
+    (λ y. MatchOption-at_none _ _ y c.filter.ensures ∙ none_covered _ _ _ e y)
+    (λ i y.
+    let (b, called, made) = MatchOption-at_some _ _ i y c.filter.ensures in
+    let tested : b ≡ ltb i a.count = search rules in
+    made ∙ kept_place _ _ _ e y tested)

@@ -1,30 +1,30 @@
 -- `mark_split::split_at` meets its contract: the needs are measured, and there is room for them or not. Assumes nothing.
 use native.Mathlib.Omega.{arith}
-use Rattle.mark_carrying.proofs.ByTable.{marks_room}
-use Rattle.mark_split.proofs.SplitAt.{in_use_lem, no_room_lem, can_carry, carried}
+use Rattle.mark_split.proofs.SplitAt.{in_use_lem, short_is, no_room_lem, can_carry, carried}
 use Rattle.mark_split.proofs.split_at.Goals as goal
 
 pub measure_needs-needs-requires : goal.measure_needs-needs-requires
 measure_needs-needs-requires c = (c.args.table, c.requires.arranging)
 
 pub is_short-requires : goal.is_short-requires
-is_short-requires c = in_use_lem c.args.counts.now c.requires c.args.new_tables.now
+is_short-requires c = in_use_lem c.args.counts.now c.requires c.args.new_tables.now (c.of-lent.ensures c.args.counts.now)
 
 pub returns-then-is_short : goal.returns-then-is_short
 returns-then-is_short c =
     let a = c.args in
-    no_room_lem a.counts.now c.requires a.new_tables.now (c.measure_needs-needs.ensures a.table c.requires.arranging) c.is_short.ensures c.if-is_short.true
-
-pub slice_bounds-carry_out-end : goal.slice_bounds-carry_out-end
-slice_bounds-carry_out-end c = omega (arith, marks_room c.requires.arranging, c.glyphs-1.given)
+    let short = short_is a.counts.now c.requires a.new_tables.now (c.of-lent.ensures a.counts.now) _ c.is_short.ensures in
+    no_room_lem a.counts.now c.requires a.new_tables.now (c.measure_needs-needs.ensures a.table c.requires.arranging) short c.if-is_short.true
 
 pub carry_out-requires : goal.carry_out-requires
 carry_out-requires c =
     let a = c.args in
-    can_carry a.counts.now c.requires a.new_tables.now (c.measure_needs-needs.ensures a.table c.requires.arranging) c.is_short.ensures c.if-is_short.false
+    let short = short_is a.counts.now c.requires a.new_tables.now (c.of-lent.ensures a.counts.now) _ c.is_short.ensures in
+    can_carry a.counts.now c.requires a.new_tables.now (c.measure_needs-needs.ensures a.table c.requires.arranging) short c.if-is_short.false
     (omega (arith, c.requires.arranging.scratch, c.glyph_set-1.given))
 
 pub returns : goal.returns
 returns c =
     let a = c.args in
-    carried a.counts.now c.requires a.new_tables.now (c.measure_needs-needs.ensures a.table c.requires.arranging) c.is_short.ensures c.if-is_short.false c.carry_out.ensures
+    let short = short_is a.counts.now c.requires a.new_tables.now (c.of-lent.ensures a.counts.now) _ c.is_short.ensures in
+    carried a.counts.now c.requires a.new_tables.now (c.measure_needs-needs.ensures a.table c.requires.arranging) short c.if-is_short.false
+    c.carry_out.ensures

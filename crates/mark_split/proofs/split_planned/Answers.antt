@@ -1,8 +1,7 @@
 -- `mark_split::split_planned` meets its contract: nothing to cut, no room, or the split. Assumes nothing.
 use Prim.Native.Nat.{ℕ}
-use mathlib.Core.Path.{◌≡◌, sym}
+use mathlib.Core.Path.{◌≡◌, refl, sym}
 use mathlib.Core.List.{List}
-use native.Mathlib.Omega.{arith}
 use lib.ListN.{length}
 use borrow.Author.Tests.{not-true, not-false}
 use Rattle.folds.specs.Lists.{part}
@@ -11,7 +10,7 @@ use Rattle.store_rules.specs.Store.{Store, lent}
 use Rattle.call_lists.proofs.Split.{nothing, refused, carried}
 use Rattle.mark_rules.specs.Written.{needed, split_store, new_tables}
 use Rattle.mark_rules.specs.Calls.{last_cases}
-use Rattle.mark_split.proofs.Fronts.{classes_room, fronts_lent}
+use Rattle.mark_split.proofs.Fronts.{fronts_lent}
 use Rattle.mark_split.proofs.SplitAt.{tables_many}
 use mathlib.Core.Path.{ap}
 use mathlib.Core.Bool.{not}
@@ -27,9 +26,6 @@ returns-then-count-eq0 c =
     let s = store in
     nothing s a.new_tables.now (needed s a.table) (split_store s a.table) (new_tables s a.table) (places) (counted) c.if-count-eq0.true
 
-pub slice_bounds-split_at-end-2 : goal.slice_bounds-split_at-end-2
-slice_bounds-split_at-end-2 c = omega (arith, classes_room c.requires)
-
 pub split_at-split-requires : goal.split_at-split-requires
 split_at-split-requires c = fronts_lent c.requires c.if-count-eq0.false
 
@@ -42,7 +38,7 @@ returns-then-not-split c =
     let a = c.args in
     let s = store in
     refused s a.new_tables.now (needed s a.table) (split_store s a.table) (new_tables s a.table) (places) (counted) c.if-count-eq0.false
-    c.split_at-split.ensures (not-true _ (ap not c.if-not-split.true)) c.number_of.ensures
+    c.split_at-split.ensures (not-true _ (ap not c.if-not-split.true)) refl
 
 pub returns : goal.returns
 unfolding last_cases

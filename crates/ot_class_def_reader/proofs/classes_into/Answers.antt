@@ -1,4 +1,5 @@
 -- `ot_class_def_reader::classes_into` meets its contract: by its header a class definition is a list of classes or ranges. Assumes nothing.
+use Rattle.std.specs.Prelude.{Some}
 use Prim.Native.Nat.{ℕ}
 use mathlib.Core.Path.{◌≡◌, sym, ap, ◌∙◌}
 use mathlib.Core.List.{List, map}
@@ -6,13 +7,12 @@ use Rattle.folds.specs.Lists.{put}
 use Rattle.ot_layouts.specs.ClassDef.{class_def_of, class_of}
 use Rattle.ot_layouts.specs.declared.Kind.TheVariants as Kind
 use Rattle.ot_layouts.specs.declared.Header.{Header}
-use Rattle.ot_layouts.specs.declared.Reading.TheVariants.{Readable}
 use Rattle.ot_layouts.proofs.ClassDefRead.{header_list, header_ranges}
 use Rattle.ot_class_def_reader.specs.Lookup.{list_class, range_class}
 use Rattle.ot_class_def_reader.proofs.Filled.{map_same}
 use Rattle.ot_class_def_reader.proofs.classes_into.Goals as goal
 
-module _ (part : List ℕ) (h : Header) (r : class_def_of part ≡ Readable h) (gs out : List ℕ) {out' : List ℕ} where
+module _ (part : List ℕ) (h : Header) (r : class_def_of part ≡ Some h) (gs out : List ℕ) {out' : List ℕ} where
   as_list_lem : h.kind ≡ Kind.List → out' ≡ put out 0 (map (list_class part h.count) gs) → out' ≡ put out 0 (map (class_of part) gs)
   as_list_lem k e = e ∙ ap (put out 0) (sym (map_same (class_of part) (list_class part h.count) (header_list part h r k).class gs))
 

@@ -9,4 +9,4 @@ returns-then-lookup-lt6 c = lookup_short _ (search rules)
 
 pub returns : goal.returns
 unfolding lookup_exact
-returns c = rw (c.subtable_count-subtables.ensures, c.filters-set.ensures)
+returns c = rw (c.from-subtables.ensures, c.subtable_count.ensures, c.from-set.ensures, c.filters.ensures)

@@ -1,22 +1,16 @@
--- `ot_markbasepos::classes_below` meets its contract: the marks before i have classes below. Assumes nothing.
-use borrow.Author.Rules.{rules}
-use Rattle.ot_markbasepos.proofs.Readable.{none_yet, one_more, one_above, all-below}
+-- `ot_markbasepos::classes_below` meets its contract: the numbers of a range, one by one. Assumes nothing.
+use Rattle.std.proofs.Common.{ℕ, rules, arith, refl, ◌∙◌}
+use Rattle.std.proofs.lemmas.Iterator.{YieldsList-from_range}
+use Rattle.std.proofs.lemmas.Iterator.Search.{all_from_yields_List}
+use lib.Dec.{ltb}
+use borrow.Author.Tests.{tests}
+use Rattle.folds.proofs.Ranges.{all_range}
+use Rattle.ot_layouts.specs.MarkBasePos.{mark_class}
 use Rattle.ot_markbasepos.proofs.classes_below.Goals as goal
-
-pub loop-i-init : goal.loop-i-init
-loop-i-init c = none_yet _ _ _
-
-pub returns-then-classes-u16_at : goal.returns-then-classes-u16_at
-returns-then-classes-u16_at c =
-    let a = c.args in
-    one_above a.classes a.array.now a.marks (search rules) c.u16_at.ensures c.if-classes-u16_at.true
-
-pub loop-i-preserved : goal.loop-i-preserved
-loop-i-preserved c =
-    let a = c.args in
-    one_more a.classes a.array.now a.marks c.loop-i.invariant (search rules) c.u16_at.ensures c.if-classes-u16_at.false
 
 pub returns : goal.returns
 returns c =
-    let a = c.args in
-    all-below a.classes a.array.now a.marks c.loop-i.invariant c.loop-i-test.false
+    let n = c.args.marks in
+    let below = λ (i : ℕ). ltb (mark_class c.args.array.now i) c.args.classes in
+    all_from_yields_List below _ _ c.all.result c.all.ensures.ran (YieldsList-from_range 0 n n refl (omega arith)) (λ x b q k. search (rules, tests))
+    ∙ all_range below n

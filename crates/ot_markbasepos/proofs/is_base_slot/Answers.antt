@@ -3,10 +3,10 @@ use borrow.Author.Tests.{le-leb, lt-leb}
 use Rattle.ot_layouts.specs.MarkBasePos.{is_base_slot}
 use Rattle.ot_markbasepos.proofs.is_base_slot.Goals as goal
 
-pub returns-then-position-lt2 : goal.returns-then-position-lt2
+pub returns-then-position-ge2 : goal.returns-then-position-ge2
 unfolding is_base_slot
-returns-then-position-lt2 c = rw (lt-leb _ _ c.if-position-lt2.true)
+returns-then-position-ge2 c = rw (le-leb _ _ c.if-position-ge2.true)
 
-pub returns : goal.returns
+pub returns-else-position-ge2 : goal.returns-else-position-ge2
 unfolding is_base_slot
-returns c = rw (le-leb _ _ c.if-position-lt2.false)
+returns-else-position-ge2 c = rw (lt-leb _ _ c.if-position-ge2.false)

@@ -15,9 +15,9 @@ returns-then-k-first c =
     let a = c.args in
     c.is_device.ensures ∙ first_slot a.value1 a.value2 a.offset c.if-offset-eq1.false (omega (arith, c.field_count-first.ensures))
 
-pub returns : goal.returns
-returns c =
+pub returns-else-k-first : goal.returns-else-k-first
+returns-else-k-first c =
     let a = c.args in
-    c.is_device-2.ensures
+    c.is_device-else-k-first.ensures
     ∙ ap (λ (n : ℕ). among (a.offset / 2 - n) (devices a.value2)) c.field_count-first.ensures
     ∙ second_slot a.value1 a.value2 a.offset c.if-offset-eq1.false (omega (arith, c.field_count-first.ensures))

@@ -7,5 +7,5 @@ use Rattle.ot_pairpos.proofs.open.Goals as goal
 pub returns-then-table-lt2 : goal.returns-then-table-lt2
 returns-then-table-lt2 c = no_format c.args.table.now (search rules)
 
-pub returns : goal.returns
-returns c = other_format c.args.table.now (search rules) (λ n. omega arith) (λ n. omega arith)
+pub returns-in_default : goal.returns-in_default
+returns-in_default c = other_format c.args.table.now (search rules) (λ n. omega arith) (λ n. omega arith)

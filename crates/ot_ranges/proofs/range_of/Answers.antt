@@ -1,36 +1,37 @@
--- `ot_ranges::range_of` meets its contract: what halving knows of the ranges on either side decides where the glyph is. Assumes nothing.
-use Prim.Native.Nat.{ℕ, ◌≤◌, ◌<◌}
-use mathlib.Core.Path.{◌≡◌}
-use mathlib.Core.List.{List}
+-- `ot_ranges::range_of` meets its contract: where the ranges change over from those that end below the glyph is the one that may have it. Assumes nothing.
 use native.Mathlib.Omega.{arith}
-use Rattle.folds.proofs.Halving.{begin, up, down, passed, met}
-use Rattle.ot_layouts.specs.Coverage.{start_at, end_at}
+use borrow.Author.Rules.{rules}
+use borrow.Author.Tests.{ltb-true, ltb-false}
+use Rattle.folds.proofs.Halving.{Parts}
+use Rattle.ot_layouts.specs.Coverage.{end_at}
 use Rattle.ot_layouts.proofs.RangesRead.{ranges_read}
-use Rattle.ot_ranges.specs.Ranges.{range_found, range_of}
-use Rattle.ot_ranges.proofs.Place.{range_at_lem, range_none}
-use Rattle.ot_ranges.specs.declared.Found.TheVariants.{At, Nowhere}
-use Rattle.ot_ranges.proofs.range_of.Invariants.{Inv}
+use Rattle.ot_ranges.proofs.Place.{range_here, range_nowhere}
+use Rattle.ot_ranges.proofs.range_of.Goals.{else-k-count-via-then-k-count+else-u16_at-glyph, else-k-count-via-else-k-count}
 use Rattle.ot_ranges.proofs.range_of.Goals as goal
 
-module _ {part : List ℕ} {count g lo hi : ℕ} (i : Inv part count g lo hi) where
-  hit : {b e : ℕ} (m : ℕ) → m < hi → b ≡ start_at part m → e ≡ end_at part m → b ≤ g → g ≤ e → range_found (At m) ≡ range_of part count g
-  hit {b} {e} m l pb pe h o =
-      rw (range_at_lem part count g m (omega (arith, i.between.hi_n)) (passed i.read.rising i.between m l (omega arith)) (omega arith) (omega arith))
+pub partition_point-k-requires-clause-callable : goal.partition_point-k-requires-clause-callable
+partition_point-k-requires-clause-callable c k _ l =
+    let long = (ranges_read _ _ c.requires).long in
+    (λ κs p q r s t. omega arith, λ κs p q r s t. omega arith, λ κs p q r s t u. omega arith)
 
-  miss : hi ≤ lo → range_found Nowhere ≡ range_of part count g
-  miss l = rw (range_none part count g (met i.between l))
+pub overflow_mul-k : goal.overflow_mul-k
+overflow_mul-k c = let long = (ranges_read _ _ c.requires).long in omega arith
 
-pub loop-lo-init : goal.loop-lo-init
-loop-lo-init c = record { read = ranges_read _ _ c.requires; between = begin _ _ _ _ }
+pub overflow_add-k : goal.overflow_add-k
+overflow_add-k c = let long = (ranges_read _ _ c.requires).long in omega arith
 
-pub loop-lo-preserved-then-end-glyph : goal.loop-lo-preserved-then-end-glyph
-loop-lo-preserved-then-end-glyph c = let i = c.loop-lo.invariant in record { read = i.read; between = up i.read.rising i.between _ (omega arith) (omega arith) }
+pub u16_at-requires : goal.u16_at-requires
+u16_at-requires c = let long = (ranges_read _ _ c.requires).long in omega arith
 
-pub loop-lo-preserved : goal.loop-lo-preserved
-loop-lo-preserved c = let i = c.loop-lo.invariant in record { read = i.read; between = down i.read.rising i.between _ (omega arith) (omega arith) (omega arith) }
+pub returns-then-u16_at-glyph : goal.returns-then-u16_at-glyph
+returns-then-u16_at-glyph c =
+    let p : Parts (end_at c.args.part.now) c.args.count c.args.glyph c.partition_point-k.result =
+    record { within = omega arith; before = λ l. ltb-true _ _ (search rules); at = λ l. ltb-false _ _ (search rules) } in
+    range_here _ _ _ (ranges_read _ _ c.requires) p c.if-k-count.true (omega arith)
 
-pub returns-else-glyph-start : goal.returns-else-glyph-start
-returns-else-glyph-start c = hit c.loop-lo.invariant _ (omega arith) c.u16_at-start.ensures c.u16_at-end.ensures c.if-glyph-start.false c.if-end-glyph.false
-
-pub returns : goal.returns
-returns c = miss c.loop-lo.invariant c.loop-lo-test.false
+pub returns-else-k-count : goal.returns-else-k-count
+returns-else-k-count c =
+    let p : Parts (end_at c.args.part.now) c.args.count c.args.glyph c.partition_point-k.result =
+    record { within = omega arith; before = λ l. ltb-true _ _ (search rules); at = λ l. ltb-false _ _ (search rules) } in
+    range_nowhere _ _ _ (ranges_read _ _ c.requires) p
+    (elim c.else-k-count.branch [ else-k-count-via-then-k-count+else-u16_at-glyph w ↦ λ l. omega arith | else-k-count-via-else-k-count w ↦ λ l. omega arith ])

@@ -39,13 +39,13 @@ pub loop-k-init : goal.loop-k-init
 loop-k-init c = start _ _ c.if-part-count.false
 
 pub returns-then-start-next : goal.returns-then-start-next
-returns-then-start-next c = too-low c.loop-k.invariant c.loop-k-test.true c.u16_at-start.ensures c.if-start-next.true
+returns-then-start-next c = too-low c.loop-k.invariant c.loop-k-test.true (c.from-start.ensures ∙ c.u16_at.ensures) c.if-start-next.true
 
 pub returns-then-end-start : goal.returns-then-end-start
-returns-then-end-start c = turned c.loop-k.invariant c.loop-k-test.true c.u16_at-start.ensures c.u16_at-end.ensures c.if-end-start.true
+returns-then-end-start c = turned c.loop-k.invariant c.loop-k-test.true (c.from-start.ensures ∙ c.u16_at.ensures) (c.from-end.ensures ∙ c.u16_at-in-loop-k.ensures) c.if-end-start.true
 
 pub loop-k-preserved : goal.loop-k-preserved
-loop-k-preserved c = turn c.loop-k.invariant c.loop-k-test.true c.u16_at-start.ensures c.u16_at-end.ensures c.if-start-next.false c.if-end-start.false
+loop-k-preserved c = turn c.loop-k.invariant c.loop-k-test.true (c.from-start.ensures ∙ c.u16_at.ensures) (c.from-end.ensures ∙ c.u16_at-in-loop-k.ensures) c.if-start-next.false c.if-end-start.false
 
 pub returns : goal.returns
 returns c = stop c.loop-k.invariant c.loop-k-test.false

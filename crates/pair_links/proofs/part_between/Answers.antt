@@ -15,7 +15,9 @@ pub overflow_add-first_kept-2 : goal.overflow_add-first_kept-2
 overflow_add-first_kept-2 c = omega (arith, ready _ _ _ _ _ _ _ c.requires)
 
 pub part_rows-requires : goal.part_rows-requires
-part_rows-requires c = let r = ready _ _ _ _ _ _ _ c.requires in record { fit = r.fits; a_le_b = (r.ends, r.used, r.room); positions_rise = r.order; by_index = r.bottom }
+part_rows-requires c =
+    let r = ready _ _ _ _ _ _ _ c.requires in
+    record { fit = r.fits; a_le_b = (r.ends, r.used, r.room); positions_rise = r.order; by_index = r.bottom }
 
 pub overflow_cast-first_kept : goal.overflow_cast-first_kept
 overflow_cast-first_kept c = omega (arith, ready _ _ _ _ _ _ _ c.requires)

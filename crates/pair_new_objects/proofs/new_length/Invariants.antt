@@ -1,11 +1,6 @@
 -- `pair_new_objects::new_length` meets its contract: the kept table's parts and the objects of the first i new tables are summed. Assumes nothing.
-use Prim.Native.Nat.{◌-◌}
-use lib.ListN.{length}
 use Rattle.pair_new_objects.proofs.Lengths.{Total}
 use Rattle.pair_new_objects.proofs.new_length.Given as goal
 
 abbrev pub invariant-loop-i : goal.invariant-loop-i
 invariant-loop-i l = Total l.glyphs l.classes l.cuts l.layout l.at l.total l.i
-
-abbrev pub decreases-loop-i : goal.decreases-loop-i
-decreases-loop-i l = length l.cuts - l.i

@@ -13,7 +13,15 @@ pub put_object-requires : goal.put_object-requires
 put_object-requires c = one_row _ _ c.requires.objects_room_lem
 
 pub write_parts-requires : goal.write_parts-requires
-write_parts-requires c = record { classes_len = c.requires.classes_len; beside = c.requires.beside; objects_room_lem = rest_room _ _ c.requires.objects_room_lem c.write_table-end.ensures.written c.put_object.ensures c.write_table-end.ensures.ends }
+write_parts-requires c =
+    let end_is = c.write_table-end.ensures in
+    record {
+      classes_len = c.requires.classes_len;
+      beside = c.requires.beside;
+      objects_room_lem = rest_room _ _ c.requires.objects_room_lem end_is.written c.put_object.ensures end_is.ends;
+    }
 
 pub returns : goal.returns
-returns c = rest_done _ _ c.requires.objects_room_lem c.write_table-end.ensures.written c.put_object.ensures c.write_table-end.ensures.ends c.write_parts.ensures
+returns c =
+    let end_is = c.write_table-end.ensures in
+    rest_done _ _ c.requires.objects_room_lem end_is.written c.put_object.ensures end_is.ends c.write_parts.ensures

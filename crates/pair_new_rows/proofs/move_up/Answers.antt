@@ -1,6 +1,5 @@
 -- `pair_new_rows::move_up` meets its contract: rows move from the last on, so that none is written over before it is read. Assumes nothing.
-use Rattle.store_rules.specs.Store.{per_link, row_position}
-use Prim.Native.Nat.{◌+◌, ◌-◌, ◌*◌}
+use Prim.Native.Nat.{◌-◌}
 use native.Mathlib.Omega.{arith}
 use Rattle.pair_new_rows.specs.Blocks.{moved_row}
 use Rattle.pair_new_rows.proofs.Moving.{up_start, up_turn, up_stop, up_all}
@@ -9,18 +8,15 @@ use Rattle.pair_new_rows.proofs.move_up.Goals as goal
 pub loop-left-init : goal.loop-left-init
 loop-left-init c = up_start _ _ _ _ _ _ _ (omega arith) (omega arith) (omega arith)
 
-pub overflow_cast-position : goal.overflow_cast-position
-overflow_cast-position c = omega (arith, c.slice_known-in-loop-left-1.given (per_link * (c.args.q + c.loop-left.left - 1) + row_position))
-
 pub returns-then-position-bound : goal.returns-then-position-bound
-returns-then-position-bound c = up_stop _ _ _ _ _ _ _ _ _ _ c.loop-left.invariant c.loop-left-test.true c.if-position-bound.true
-
-pub overflow_cast-position-in-loop-left : goal.overflow_cast-position-in-loop-left
-overflow_cast-position-in-loop-left c = omega (arith, c.slice_known-in-loop-left-1.given (per_link * (c.args.q + c.loop-left.left - 1) + row_position))
+returns-then-position-bound c =
+    up_stop _ _ _ _ _ _ _ _ _ c.loop-left.invariant (c.loop-left.left - 1) (omega arith) c.if-position-bound.true
 
 pub loop-left-preserved : goal.loop-left-preserved
 unfolding moved_row
-loop-left-preserved c = up_turn _ _ _ _ _ _ _ _ _ _ c.loop-left.invariant _ c.loop-left-test.true c.if-position-bound.false c.move_row.auto.links c.move_row.ensures
+loop-left-preserved c =
+    up_turn _ _ _ _ _ _ _ _ _ c.loop-left.invariant (c.loop-left.left - 1) (omega arith) _ c.if-position-bound.false
+    c.move_row.auto.links c.move_row.ensures
 
 pub returns : goal.returns
-returns c = up_all _ _ _ _ _ _ _ _ _ _ c.loop-left.invariant c.loop-left-test.false
+returns c = up_all _ _ _ _ _ _ _ _ _ c.loop-left.invariant (omega arith)

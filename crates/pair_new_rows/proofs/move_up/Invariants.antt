@@ -1,10 +1,6 @@
 -- `pair_new_rows::move_up` meets its contract: rows move from the last on, so that none is written over before it is read. Assumes nothing.
-use Prim.Native.Nat.{◌-◌}
 use Rattle.pair_new_rows.proofs.Moving.{Up}
 use Rattle.pair_new_rows.proofs.move_up.Given as goal
 
 abbrev pub invariant-loop-left : goal.invariant-loop-left
-invariant-loop-left l = Up l.initial.links l.q l.count l.to l.bound l.down l.parent l.links l.left l.at
-
-abbrev pub decreases-loop-left : goal.decreases-loop-left
-decreases-loop-left l = l.left
+invariant-loop-left l = Up l.initial.links l.q l.count l.to l.bound l.down l.parent l.links l.left

@@ -21,9 +21,13 @@ slice_bounds-put_header-end-2 c = omega (arith, few_heads _ c.requires.0)
 
 pub put_header-requires : goal.put_header-requires
 put_header-requires c =
-    let own = ap length (own_positions _ c.requires.0) in
-    let heads = ap length (head_positions _ c.requires.0) in
-    record { heads_in_bounds = omega (arith, heads, c.requires.0.heads_is); own_nonzero = (omega (arith, own, some_own _ c.requires.0), omega (arith, own, c.requires.0.own_is)) }
+    let numbered = c.requires.0 in
+    let own = ap length (own_positions _ numbered) in
+    let heads = ap length (head_positions _ numbered) in
+    record {
+      heads_in_bounds = omega (arith, heads, numbered.heads_is);
+      own_nonzero = (omega (arith, own, some_own _ numbered), omega (arith, own, numbered.own_is));
+    }
 
 pub returns : goal.returns
 unfolding head_rows

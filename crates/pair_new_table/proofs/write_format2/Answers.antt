@@ -14,15 +14,15 @@ overflow_add-first c = let m = mul-le-mul_left c.args.row c.requires.lo_le_hi in
 pub overflow_add-first-2 : goal.overflow_add-first-2
 overflow_add-first-2 c = let m = mul-le-mul_left c.args.row c.requires.lo_le_hi in omega arith
 
-pub copy_up-requires : goal.copy_up-requires
-copy_up-requires c =
+pub copy_bytes-requires : goal.copy_bytes-requires
+copy_bytes-requires c =
     let a = c.args in
     let m = mul-le-mul_left a.row c.requires.lo_le_hi in
     let s = mul-sub a.row a.hi a.lo in
-    record { count_bound = omega arith; count_in_bounds = omega arith }
+    record { from_in_bounds = omega arith; at_in_bounds = omega arith }
 
 pub returns : goal.returns
 returns c tail l inside q =
     let a = c.args in
     cloned2 a.«data».now a.head a.at tail a.lo a.hi inside (search rules) a.row (search rules) (search rules)
-    c.write_head.ensures c.write_counts.ensures c.copy_up.ensures l q
+    c.write_head.ensures c.write_counts.ensures c.copy_bytes.ensures l q

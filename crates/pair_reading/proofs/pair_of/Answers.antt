@@ -13,9 +13,12 @@ pub pair_at-requires : goal.pair_at-requires
 pair_at-requires c =
     let a = c.args in
     let o = opens (lent a.«data».now a.objects.now a.links.now a.counts) a.table a.opened c.requires.table_value in
-    record { value_record = first_record_lem o a.first a.second c.spot_of-spot.ensures c.in-At.is; value_record_2 = second_record o a.first a.second c.spot_of-spot.ensures c.in-At.is }
+    record {
+      value_record = first_record_lem o a.first a.second c.spot_of-spot.ensures c.in-Some.is;
+      value_record_2 = second_record o a.first a.second c.spot_of-spot.ensures c.in-Some.is;
+    }
 
 pub returns : goal.returns
 returns c =
     let a = c.args in
-    at_spot (opens (lent a.«data».now a.objects.now a.links.now a.counts) a.table a.opened c.requires.table_value) a.first a.second c.spot_of-spot.ensures c.in-At.is c.pair_at.ensures
+    at_spot (opens (lent a.«data».now a.objects.now a.links.now a.counts) a.table a.opened c.requires.table_value) a.first a.second c.spot_of-spot.ensures c.in-Some.is c.pair_at.ensures

@@ -1,5 +1,4 @@
 -- `pair_row_points::compute_format2_split_points` meets its contract: after each row the code stands where the cut rule does. Assumes nothing.
-use Prim.Native.Nat.{◌-◌}
 use mathlib.Core.Path.{refl}
 use native.Mathlib.Omega.{arith}
 use borrow.Author.Rules.{rules}

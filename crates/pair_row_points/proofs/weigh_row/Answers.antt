@@ -13,66 +13,78 @@ pub item_end-end-requires : goal.item_end-end-requires
 item_end-end-requires c = omega (arith, (row_ends c.requires.1.2 c.requires.0).1)
 
 pub measure-measured-requires : goal.measure-measured-requires
-measure-measured-requires c = record { epoch_bound = (omega (arith, c.requires.1.2.table.described.epochs, c.requires.1.2.filled.few, c.requires.0), omega (arith, c.item_end-end.ensures, (row_ends c.requires.1.2 c.requires.0).1)); by_index = (c.requires.1.0, _, _, c.args.i, c.item_end-end.ensures ∙ (row_ends c.requires.1.2 c.requires.0).0, c.requires.1.2.at) }
-
-pub add-held-requires : goal.add-held-requires
-add-held-requires c = (_, _, c.requires.1.2.filled.first, c.requires.1.2.table.ordered, c.requires.1.2.held)
+measure-measured-requires c =
+    let inside = c.requires.0 in
+    let v = c.requires.1.2 in
+    record {
+      epoch_bound = (omega (arith, v.table.described.epochs, v.filled.few, inside), omega (arith, c.item_end-end.ensures, (row_ends v inside).1));
+      by_index = (c.requires.1.0, _, _, c.args.i, c.item_end-end.ensures ∙ (row_ends v inside).0, v.at);
+    }
 
 pub beside-beside-requires : goal.beside-beside-requires
 beside-beside-requires c =
-    let (h, e) = c.add-held.ensures _ _ c.requires.1.2.filled.first c.requires.1.2.table.ordered c.requires.1.2.held in
-    record { small = held_small c.requires.1.2.table.ordered h; class2_bound = omega (arith, c.requires.1.2.table.class2, linked_most c.requires.1.2.table.described 10) }
+    let v = c.requires.1.2 in
+    let (h, e) = c.add-held.ensures _ _ v.filled.first v.table.ordered v.held in
+    record { small = held_small v.table.ordered h; class2_bound = omega (arith, v.table.class2, linked_most v.table.described 10) }
 
 pub overflow_add-info : goal.overflow_add-info
 overflow_add-info c =
-    let most : (c.measure-measured.result.size ≤ 16777216) × (c.args.info.item ≤ 16777216) = ((c.measure-measured.ensures c.requires.1.0 _ _ c.args.i (c.item_end-end.ensures ∙ (row_ends c.requires.1.2 c.requires.0).0) c.requires.1.2.at).most, row_most c.requires.1.2 c.requires.0) in
+    let v = c.requires.1.2 in
+    let most : (c.measure-measured.result.size ≤ 16777216) × (c.args.info.item ≤ 16777216) =
+    ((c.measure-measured.ensures c.requires.1.0 _ _ c.args.i (c.item_end-end.ensures ∙ (row_ends v c.requires.0).0) v.at).most, row_most v c.requires.0)
+    in
     omega (arith, most)
 
 pub is_due-requires : goal.is_due-requires
 is_due-requires c =
-    let most : (c.measure-measured.result.size ≤ 16777216) × (c.args.info.item ≤ 16777216) = ((c.measure-measured.ensures c.requires.1.0 _ _ c.args.i (c.item_end-end.ensures ∙ (row_ends c.requires.1.2 c.requires.0).0) c.requires.1.2.at).most, row_most c.requires.1.2 c.requires.0) in
     let v = c.requires.1.2 in
+    let most : (c.measure-measured.result.size ≤ 16777216) × (c.args.info.item ≤ 16777216) =
+    ((c.measure-measured.ensures c.requires.1.0 _ _ c.args.i (c.item_end-end.ensures ∙ (row_ends v c.requires.0).0) v.at).most, row_most v c.requires.0)
+    in
     let (h, e) = c.add-held.ensures _ _ v.filled.first v.table.ordered v.held in (
       omega (arith, v.filled.small),
       omega (arith, most),
       rw c.beside-beside.ensures (beside_most _ _ (held_small v.table.ordered h) (omega (arith, v.table.class2, linked_most v.table.described 10))),
     )
 
-pub overflow_add-epoch-then-is_due : goal.overflow_add-epoch-then-is_due
-overflow_add-epoch-then-is_due c =
-    let early : (c.args.info.epoch + c.args.rows.filling.cuts + 1 < 2147483648) = omega (arith, c.requires.1.2.table.described.epochs, c.requires.1.2.filled.few, c.requires.0) in
-    omega (arith, early)
-
 pub measure_at_cut-size-requires : goal.measure_at_cut-size-requires
 measure_at_cut-size-requires c =
-    let early : (c.args.info.epoch + c.args.rows.filling.cuts + 1 < 2147483648) = omega (arith, c.requires.1.2.table.described.epochs, c.requires.1.2.filled.few, c.requires.0) in
-    let y = c.measure-measured.ensures c.requires.1.0 _ _ c.args.i (c.item_end-end.ensures ∙ (row_ends c.requires.1.2 c.requires.0).0) c.requires.1.2.at in
-    record { epoch_bound = omega (arith, early); by_index = (c.requires.1.0, _, _, _, at_cut (row_short c.requires.1.2 c.requires.0) c.requires.1.2.at y) }
+    let inside = c.requires.0 in
+    let v = c.requires.1.2 in
+    let early : (c.args.info.epoch + c.args.rows.filling.cuts + 1 < 2147483648) = omega (arith, v.table.described.epochs, v.filled.few, inside) in
+    let y = c.measure-measured.ensures c.requires.1.0 _ _ c.args.i (c.item_end-end.ensures ∙ (row_ends v inside).0) v.at in
+    record { epoch_bound = omega (arith, early); by_index = (c.requires.1.0, _, _, _, at_cut (row_short v inside) v.at y) }
 
 pub overflow_add-info-then-is_due : goal.overflow_add-info-then-is_due
 overflow_add-info-then-is_due c =
-    let most : (c.measure-measured.result.size ≤ 16777216) × (c.args.info.item ≤ 16777216) = ((c.measure-measured.ensures c.requires.1.0 _ _ c.args.i (c.item_end-end.ensures ∙ (row_ends c.requires.1.2 c.requires.0).0) c.requires.1.2.at).most, row_most c.requires.1.2 c.requires.0) in
-    let most-again : (c.measure_at_cut-size.result ≤ 16777216) = let y = c.measure-measured.ensures c.requires.1.0 _ _ c.args.i (c.item_end-end.ensures ∙ (row_ends c.requires.1.2 c.requires.0).0) c.requires.1.2.at in
-    (c.measure_at_cut-size.ensures c.requires.1.0 _ _ _ (at_cut (row_short c.requires.1.2 c.requires.0) c.requires.1.2.at y)).most most.0 in
+    let inside = c.requires.0 in
+    let v = c.requires.1.2 in
+    let b = c.requires.1.0 in
+    let measured_is = c.measure-measured.ensures in
+    let most : (c.measure-measured.result.size ≤ 16777216) × (c.args.info.item ≤ 16777216) =
+    ((measured_is b _ _ c.args.i (c.item_end-end.ensures ∙ (row_ends v inside).0) v.at).most, row_most v inside) in
+    let most-again : (c.measure_at_cut-size.result ≤ 16777216) =
+    let y = measured_is b _ _ c.args.i (c.item_end-end.ensures ∙ (row_ends v inside).0) v.at in
+    (c.measure_at_cut-size.ensures b _ _ _ (at_cut (row_short v inside) v.at y)).most most.0 in
     omega (arith, most-again, most.1)
 
 pub cut-requires : goal.cut-requires
 cut-requires c =
-    let most : (c.measure-measured.result.size ≤ 16777216) × (c.args.info.item ≤ 16777216) = ((c.measure-measured.ensures c.requires.1.0 _ _ c.args.i (c.item_end-end.ensures ∙ (row_ends c.requires.1.2 c.requires.0).0) c.requires.1.2.at).most, row_most c.requires.1.2 c.requires.0) in
-    let most-again : (c.measure_at_cut-size.result ≤ 16777216) = let y = c.measure-measured.ensures c.requires.1.0 _ _ c.args.i (c.item_end-end.ensures ∙ (row_ends c.requires.1.2 c.requires.0).0) c.requires.1.2.at in
-    (c.measure_at_cut-size.ensures c.requires.1.0 _ _ _ (at_cut (row_short c.requires.1.2 c.requires.0) c.requires.1.2.at y)).most most.0 in
-    (omega (arith, most-again, most.1), omega arith, cut_room c.requires.1.2.table.described _ c.requires.1.2.filled c.requires.0)
+    let inside = c.requires.0 in
+    let v = c.requires.1.2 in
+    let b = c.requires.1.0 in
+    let measured_is = c.measure-measured.ensures in
+    let most : (c.measure-measured.result.size ≤ 16777216) × (c.args.info.item ≤ 16777216) =
+    ((measured_is b _ _ c.args.i (c.item_end-end.ensures ∙ (row_ends v inside).0) v.at).most, row_most v inside) in
+    let most-again : (c.measure_at_cut-size.result ≤ 16777216) =
+    let y = measured_is b _ _ c.args.i (c.item_end-end.ensures ∙ (row_ends v inside).0) v.at in
+    (c.measure_at_cut-size.ensures b _ _ _ (at_cut (row_short v inside) v.at y)).most most.0 in
+    (omega (arith, most-again, most.1), omega arith, cut_room v.table.described _ v.filled inside)
 
 pub restart-requires : goal.restart-requires
 restart-requires c =
     let (h, e) = c.add-held.ensures _ _ c.requires.1.2.filled.first c.requires.1.2.table.ordered c.requires.1.2.held in
     (_, _, _, c.requires.1.2.filled.first, c.requires.1.2.table.ordered, h, e)
-
-pub shape_of-walk-then-is_due : goal.shape_of-walk-then-is_due
-shape_of-walk-then-is_due c = c.walk-then-is_due-1.given ∙ c.walk-1.given
-
-pub shape_of-set-then-is_due : goal.shape_of-set-then-is_due
-shape_of-set-then-is_due c = c.set-then-is_due-1.given ∙ c.set-1.given
 
 pub returns-then-is_due : goal.returns-then-is_due
 returns-then-is_due c =
@@ -85,13 +97,18 @@ returns-then-is_due c =
 
 pub overflow_add-info-2 : goal.overflow_add-info-2
 overflow_add-info-2 c =
-    let most : (c.measure-measured.result.size ≤ 16777216) × (c.args.info.item ≤ 16777216) = ((c.measure-measured.ensures c.requires.1.0 _ _ c.args.i (c.item_end-end.ensures ∙ (row_ends c.requires.1.2 c.requires.0).0) c.requires.1.2.at).most, row_most c.requires.1.2 c.requires.0) in
+    let v = c.requires.1.2 in
+    let most : (c.measure-measured.result.size ≤ 16777216) × (c.args.info.item ≤ 16777216) =
+    ((c.measure-measured.ensures c.requires.1.0 _ _ c.args.i (c.item_end-end.ensures ∙ (row_ends v c.requires.0).0) v.at).most, row_most v c.requires.0)
+    in
     omega (arith, most)
 
 pub add-requires : goal.add-requires
 add-requires c =
-    let most : (c.measure-measured.result.size ≤ 16777216) × (c.args.info.item ≤ 16777216) = ((c.measure-measured.ensures c.requires.1.0 _ _ c.args.i (c.item_end-end.ensures ∙ (row_ends c.requires.1.2 c.requires.0).0) c.requires.1.2.at).most, row_most c.requires.1.2 c.requires.0) in
-    let v = c.requires.1.2 in (omega (arith, v.filled.small), omega (arith, most))
+    let v = c.requires.1.2 in
+    let most : (c.measure-measured.result.size ≤ 16777216) × (c.args.info.item ≤ 16777216) =
+    ((c.measure-measured.ensures c.requires.1.0 _ _ c.args.i (c.item_end-end.ensures ∙ (row_ends v c.requires.0).0) v.at).most, row_most v c.requires.0)
+    in (omega (arith, v.filled.small), omega (arith, most))
 
 pub returns : goal.returns
 returns c =

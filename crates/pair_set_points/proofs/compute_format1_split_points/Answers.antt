@@ -1,5 +1,4 @@
 -- `pair_set_points::compute_format1_split_points` meets its contract: after each pair set the code stands where the cut rule does. Assumes nothing.
-use Prim.Native.Nat.{◌-◌}
 use mathlib.Core.Path.{refl}
 use native.Mathlib.Omega.{arith}
 use borrow.Author.Rules.{rules}

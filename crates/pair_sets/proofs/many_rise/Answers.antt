@@ -1,5 +1,5 @@
 -- `pair_sets::many_rise` meets its contract: `at` is the place of a record behind which nothing was looked at. Assumes nothing.
-use Prim.Native.Nat.{◌+◌, ◌-◌}
+use Prim.Native.Nat.{◌+◌}
 use mathlib.Core.Path.{refl}
 use native.Mathlib.Nat.{mul-le-mul_left}
 use native.Mathlib.Omega.{arith}
@@ -28,9 +28,9 @@ returns-then-last-at c =
     ends v c.requires.1 (c.seventeen_rise.ensures _ v.k refl v.place) (ap not c.if-not-seventeen_rise.false) c.if-last-at.true
 
 pub loop-size-smaller : goal.loop-size-smaller
-loop-size-smaller c = omega (arith, c.lesser-at.ensures)
+loop-size-smaller c = omega (arith, c.min-at.ensures)
 
 pub loop-size-preserved : goal.loop-size-preserved
 loop-size-preserved c =
     let v = c.loop-size.invariant in
-    goes_on v c.requires.1 (c.seventeen_rise.ensures _ v.k refl v.place) (ap not c.if-not-seventeen_rise.false) c.lesser-at.ensures
+    goes_on v c.requires.1 (c.seventeen_rise.ensures _ v.k refl v.place) (ap not c.if-not-seventeen_rise.false) c.min-at.ensures

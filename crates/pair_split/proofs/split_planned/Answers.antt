@@ -1,52 +1,53 @@
 -- `pair_split::split_planned` meets its contract: nothing to cut, no room, or the split. Assumes nothing.
-use borrow.Author.Tests.{not-true, not-false}
-use mathlib.Core.Path.{◌≡◌, sym}
+use Rattle.std.proofs.lemmas.Result.{err_from_is_err_and}
+use Rattle.std.specs.Prelude.{is_ok}
+use mathlib.Core.Path.{◌≡◌, sym, ap}
 use mathlib.Core.List.{List}
 use Prim.Native.Nat.{ℕ}
 use lib.ListN.{length}
 use Rattle.folds.specs.Lists.{part}
 use Rattle.folds.proofs.Fronts.{front_long}
 use Rattle.store_rules.specs.Store.{Store, lent}
+use Rattle.call_rules.specs.Answers.{number}
 use Rattle.call_lists.proofs.Split.{nothing, refused, carried}
 use Rattle.pair_rules.specs.Written.{needed, split_store, new_tables}
 use Rattle.pair_rules.specs.Calls.{last_cases}
 use Rattle.pair_carrying.proofs.Counting.{tables_many}
 use Rattle.pair_split.proofs.Fronts.{fronts_lent}
-use mathlib.Core.Path.{ap}
-use mathlib.Core.Bool.{not}
+use Rattle.pair_split.proofs.SplitAt.{by_room, refusal_is}
 use Rattle.pair_split.proofs.split_planned.Goals as goal
 
 pub returns-then-count-eq0 : goal.returns-then-count-eq0
 unfolding last_cases
 returns-then-count-eq0 c =
-    let store : Store = let a = c.args in lent a.«data».now a.objects.now a.links.now a.counts.now in
-    let places : List ℕ = part c.args.cuts.now 0 c.args.plan.cuts in
-    let counted : c.args.plan.cuts ≡ length (places) = sym (front_long c.args.cuts.now c.args.plan.cuts c.requires.cut_room) in
     let a = c.args in
-    let s = store in
-    nothing s a.new_tables.now (needed s a.table) (split_store s a.table) (new_tables s a.table) (places) (counted) c.if-count-eq0.true
+    let s : Store = lent a.«data».now a.objects.now a.links.now a.counts.now in
+    let places : List ℕ = part a.cuts.now 0 a.plan.cuts in
+    let counted : a.plan.cuts ≡ length places = sym (front_long a.cuts.now a.plan.cuts c.requires.cut_room) in
+    nothing s a.new_tables.now (needed s a.table) (split_store s a.table) (new_tables s a.table) places counted c.if-count-eq0.true
 
-pub split_at-split-requires : goal.split_at-split-requires
-split_at-split-requires c = fronts_lent c.requires c.if-count-eq0.false
+pub split_at-requires : goal.split_at-requires
+split_at-requires c = fronts_lent c.requires c.if-count-eq0.false
 
-pub returns-then-not-split : goal.returns-then-not-split
+pub returns-in_err-split_at : goal.returns-in_err-split_at
 unfolding last_cases
-returns-then-not-split c =
-    let store : Store = let a = c.args in lent a.«data».now a.objects.now a.links.now a.counts.now in
-    let places : List ℕ = part c.args.cuts.now 0 c.args.plan.cuts in
-    let counted : c.args.plan.cuts ≡ length (places) = sym (front_long c.args.cuts.now c.args.plan.cuts c.requires.cut_room) in
+returns-in_err-split_at c w =
     let a = c.args in
-    let s = store in
-    refused s a.new_tables.now (needed s a.table) (split_store s a.table) (new_tables s a.table) (places) (counted) c.if-count-eq0.false c.split_at-split.ensures
-    (not-true _ (ap not c.if-not-split.true)) c.number_of.ensures
+    let s : Store = lent a.«data».now a.objects.now a.links.now a.counts.now in
+    let places : List ℕ = part a.cuts.now 0 a.plan.cuts in
+    let counted : a.plan.cuts ≡ length places = sym (front_long a.cuts.now a.plan.cuts c.requires.cut_room) in
+    let d = c.split_at.ensures in
+    let p = err_from_is_err_and c.from_residual.result c.from_residual.ensures.1 in
+    rw (p.1, p.2)
+    (refused s a.new_tables.now (needed s a.table) (split_store s a.table) (new_tables s a.table) places counted c.if-count-eq0.false (by_room d)
+    (ap is_ok c.in_err-split_at.was) (ap number (refusal_is d c.in_err-split_at.was)) w)
 
 pub returns : goal.returns
 unfolding last_cases
 returns c =
-    let store : Store = let a = c.args in lent a.«data».now a.objects.now a.links.now a.counts.now in
-    let places : List ℕ = part c.args.cuts.now 0 c.args.plan.cuts in
-    let counted : c.args.plan.cuts ≡ length (places) = sym (front_long c.args.cuts.now c.args.plan.cuts c.requires.cut_room) in
     let a = c.args in
-    let s = store in
-    carried s a.new_tables.now (needed s a.table) (split_store s a.table) (new_tables s a.table) (places) (counted) c.if-count-eq0.false c.split_at-split.ensures
-    (not-false _ (ap not c.if-not-split.false)) (tables_many s a.table (places))
+    let s : Store = lent a.«data».now a.objects.now a.links.now a.counts.now in
+    let places : List ℕ = part a.cuts.now 0 a.plan.cuts in
+    let counted : a.plan.cuts ≡ length places = sym (front_long a.cuts.now a.plan.cuts c.requires.cut_room) in
+    carried s a.new_tables.now (needed s a.table) (split_store s a.table) (new_tables s a.table) places counted c.if-count-eq0.false
+    (by_room c.split_at.ensures) (ap is_ok c.in_ok-split_at.was) (tables_many s a.table places)

@@ -4,7 +4,9 @@ use Rattle.pair_spots.proofs.Finding.{no_row, no_column, in_column}
 use Rattle.pair_spots.proofs.spot_by_classes.Goals as goal
 
 pub returns-then-layout-row : goal.returns-then-layout-row
-returns-then-layout-row c l k = let a = c.args in no_row (lent a.«data».now a.objects.now l k) a.table a.opened a.first a.second (c.class_in-row.ensures l k) c.if-layout-row.true
+returns-then-layout-row c l k =
+    let a = c.args in
+    no_row (lent a.«data».now a.objects.now l k) a.table a.opened a.first a.second (c.class_in-row.ensures l k) c.if-layout-row.true
 
 pub returns-then-layout-column : goal.returns-then-layout-column
 returns-then-layout-column c l k =

@@ -4,13 +4,13 @@ use Rattle.pair_spots.proofs.Widths.{row_fits, place_fits, behind_fits}
 use Rattle.pair_spots.proofs.spot_in_row.Goals as goal
 
 pub overflow_mul-record : goal.overflow_mul-record
-overflow_mul-record c = let a = c.args in omega (arith, row_fits a.row a.layout.columns (omega arith) (omega arith))
+overflow_mul-record c = omega (arith, row_fits c.from.result c.from-2.result (omega arith) (omega arith))
 
 pub overflow_add-record : goal.overflow_add-record
-overflow_add-record c = let a = c.args in omega (arith, row_fits a.row a.layout.columns (omega arith) (omega arith))
+overflow_add-record c = omega (arith, row_fits c.from.result c.from-2.result (omega arith) (omega arith))
 
 pub overflow_mul-at : goal.overflow_mul-at
-overflow_mul-at c = let a = c.args in record { fits = place_fits _ _ c.requires (omega (arith, row_fits a.row a.layout.columns (omega arith) (omega arith))) }
+overflow_mul-at c = record { fits = place_fits _ _ c.requires (omega (arith, row_fits c.from.result c.from-2.result (omega arith) (omega arith))) }
 
 pub overflow_add-at : goal.overflow_add-at
-overflow_add-at c = let a = c.args in record { fits = behind_fits _ _ c.requires (omega (arith, row_fits a.row a.layout.columns (omega arith) (omega arith))) }
+overflow_add-at c = record { fits = behind_fits _ _ c.requires (omega (arith, row_fits c.from.result c.from-2.result (omega arith) (omega arith))) }

@@ -1,5 +1,4 @@
 -- `pair_values::numbers_at` meets its contract: the fields before `j` are read, and each field's name is its row. Assumes nothing.
-use Prim.Native.Nat.{◌-◌}
 use lib.IntN.{pos}
 use Rattle.store_rules.specs.Store.{lent}
 use Rattle.pair_rules.specs.Pairs.{number_of}
@@ -8,6 +7,3 @@ use Rattle.pair_values.proofs.numbers_at.Given as goal
 
 abbrev pub invariant-loop-j : goal.invariant-loop-j
 invariant-loop-j l = Filled (pos 0) (number_of (lent l.«data» l.objects l.links l.counts) l.object l.at l.format) 8 l.numbers l.j
-
-abbrev pub decreases-loop-j : goal.decreases-loop-j
-decreases-loop-j l = 8 - l.j

@@ -1,5 +1,4 @@
 -- `store_link_rows::keep_rows` meets its contract: the rows before k are done. Assumes nothing.
-use Prim.Native.Nat.{◌-◌}
 use Rattle.store_link_rows.proofs.Changing.{changed_start, changed_turn, changed_done}
 use Rattle.store_link_rows.proofs.keep_rows.Goals as goal
 

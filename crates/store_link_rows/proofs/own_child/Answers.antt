@@ -1,16 +1,23 @@
--- `store_link_rows::own_child` meets its contract: none of the positions before i is the link's. Assumes nothing.
-use Prim.Native.Nat.{◌-◌}
-use Rattle.store_link_rows.proofs.Header.{sought_start, sought_turn, sought_found, sought_none}
+-- `store_link_rows::own_child` meets its contract: by the first of its own positions that is the link's. Assumes nothing.
+use mathlib.Core.Path.{◌≡◌}
+use borrow.Author.Rules.{rules}
+use borrow.Author.Tests.{tests}
+use Rattle.std.proofs.lemmas.Iterator.{IsFirst-from_position, YieldsList-from_slice}
+use Rattle.store_link_rows.proofs.Header.{FirstOwn, own_first, own_none}
 use Rattle.store_link_rows.proofs.own_child.Goals as goal
 
-pub loop-i-init : goal.loop-i-init
-loop-i-init c = sought_start _ _ _ _
+pub returns-in-Some : goal.returns-in-Some
+returns-in-Some c =
+    let a = c.args in
+    let first : FirstOwn a.own.now a.first a.position a.child c.position.result =
+    IsFirst-from_position _ _ c.position.result (λ x. a.position ≡ x) (λ x. a.position ≡ x → ⊥) c.position.ensures.ran
+    (YieldsList-from_slice a.own.now cc) (λ x q k. search (rules, tests)) (λ x q k. search (rules, tests)) in
+    own_first a.own.now a.first a.position a.child (rw c.in-Some.is at first)
 
-pub returns-then-position-own : goal.returns-then-position-own
-returns-then-position-own c = sought_found _ _ _ _ _ c.loop-i.invariant c.loop-i-test.true c.if-position-own.true
-
-pub loop-i-preserved : goal.loop-i-preserved
-loop-i-preserved c = sought_turn _ _ _ _ _ c.loop-i.invariant c.loop-i-test.true c.if-position-own.false
-
-pub returns : goal.returns
-returns c = sought_none _ _ _ _ _ c.loop-i.invariant c.loop-i-test.false
+pub returns-in-None : goal.returns-in-None
+returns-in-None c =
+    let a = c.args in
+    let first : FirstOwn a.own.now a.first a.position a.child c.position.result =
+    IsFirst-from_position _ _ c.position.result (λ x. a.position ≡ x) (λ x. a.position ≡ x → ⊥) c.position.ensures.ran
+    (YieldsList-from_slice a.own.now cc) (λ x q k. search (rules, tests)) (λ x q k. search (rules, tests)) in
+    own_none a.own.now a.first a.position a.child (rw c.in-None.is at first)

@@ -1,5 +1,4 @@
 -- `store_link_rows::put_header` meets its contract: the rows of the first i positions are written. Assumes nothing.
-use Prim.Native.Nat.{◌-◌}
 use Rattle.store_link_rows.proofs.Header.{headed_start, headed_turn, headed_done}
 use Rattle.store_link_rows.proofs.put_header.Goals as goal
 

@@ -1,5 +1,4 @@
 -- `store_reader::first_row_between` meets its contract: the rows before `from` are below the key, those from `to` on are not. Assumes nothing.
-use Prim.Native.Nat.{◌-◌}
 use native.Mathlib.Omega.{arith}
 use Rattle.store_reader.proofs.Rows.{key_asks, up, down, found}
 use Rattle.store_reader.proofs.first_row_between.Goals as goal

@@ -1,5 +1,4 @@
 -- `store_reader::next_row` meets its contract: the rows before `row` are below the key. Assumes nothing.
-use Prim.Native.Nat.{◌-◌}
 use native.Mathlib.Omega.{arith}
 use Rattle.store_reader.proofs.Rows.{key_asks, rest, up, down, found}
 use Rattle.store_reader.proofs.next_row.Goals as goal
@@ -15,6 +14,3 @@ returns-then-key-key_at c = found (down c.requires.0 c.loop-row.invariant c.loop
 
 pub loop-row-preserved : goal.loop-row-preserved
 loop-row-preserved c = up c.requires.0 c.loop-row.invariant c.loop-row.row (omega arith) (omega arith) (omega arith)
-
-pub returns : goal.returns
-returns c = found c.loop-row.invariant c.loop-row-test.false

@@ -1,9 +1,8 @@
 -- `store_reader::objects_fit` meets its contract: the rows below `i` fit, and `least` is the tail of the last of them. Assumes nothing.
-use Prim.Native.Nat.{ℕ, ◌+◌, ◌-◌, ◌*◌}
+use Prim.Native.Nat.{ℕ, ◌+◌, ◌*◌}
 use mathlib.Core.Path.{sym}
 use lib.ListN.{get_or}
 use Rattle.folds.proofs.Folds.{before_none, before_more}
-use Rattle.store_rules.specs.Store.{object_fits}
 use Rattle.store_reader.proofs.Checks.{start, turn, stop, fail}
 use mathlib.Core.Path.{ap}
 use mathlib.Core.Bool.{not}

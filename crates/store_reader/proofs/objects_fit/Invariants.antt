@@ -1,5 +1,5 @@
 -- `store_reader::objects_fit` meets its contract: the rows below `i` fit, and `least` is the tail of the last of them. Assumes nothing.
-use Prim.Native.Nat.{ℕ, ◌-◌}
+use Prim.Native.Nat.{ℕ}
 use mathlib.Core.List.{List}
 use mathlib.Core.Path.{◌≡◌}
 use lib.ListN.{get_or}
@@ -10,6 +10,3 @@ use Rattle.store_reader.proofs.objects_fit.Given as goal
 
 abbrev pub invariant-loop-i : goal.invariant-loop-i
 invariant-loop-i at = ((b l : List ℕ) → Passed (object_fits (lent b at.objects l at.counts)) (get_or at.counts 1 0) at.i) × (at.least ≡ least_head at.objects at.i)
-
-abbrev pub decreases-loop-i : goal.decreases-loop-i
-decreases-loop-i l = get_or l.counts 1 0 - l.i

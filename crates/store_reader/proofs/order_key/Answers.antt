@@ -1,5 +1,5 @@
 -- `store_reader::order_key` meets its contract: its tests are those of the shape, and its place is behind all positions, by its child. Assumes nothing.
-use Prim.Native.Nat.{ℕ, ◌+◌}
+use Rattle.std.specs.Prelude.{Some}
 use mathlib.Core.Path.{ap, ◌∙◌}
 use native.Mathlib.Omega.{arith}
 use Rattle.store_rules.specs.Store.{lent}
@@ -22,12 +22,9 @@ returns-then-links-k-ne0-2 c =
 pub overflow_add-links : goal.overflow_add-links
 overflow_add-links c = omega (arith, place_is_child c.args.links.now c.args.k c.requires.1, c.requires.2)
 
-pub overflow_add-result : goal.overflow_add-result
-overflow_add-result c = omega (arith, c.key_of.ensures, c.requires.0.low, place_is_child c.args.links.now c.args.k c.requires.1, c.requires.2)
-
 pub returns : goal.returns
 returns c =
     λ b o t.
-    ap (λ (n : ℕ). n + 1) c.key_of.ensures
+    ap Some c.key_of.ensures
     ∙ keys.order_key_lem (lent b o c.args.links.now t) c.args.k c.requires.1 c.if-links-k-ne1.false
     c.if-links-k-ne0.false c.if-links-k-ne0-2.false c.requires.0.parent

@@ -1,10 +1,10 @@
 -- `links::pack_links` meets its contract: the links of the rows before k that stay are written, and all rows from k on are as they came. Assumes nothing.
-use Prim.Native.Nat.{◌-◌}
 use mathlib.Core.List.{[]}
 use native.Mathlib.Omega.{arith}
 use Rattle.store_rules.specs.Store.{lent}
 use Rattle.compact_carrying.proofs.Sifting.{Linked, linked, sifting_start, sifting_stop, links_long, parent_used_lem, child_used_lem, row_inside, turn_kept, turn_dropped}
 use Rattle.compact_carrying.proofs.links.pack_links.Goals as goal
+use Rattle.compact_carrying.proofs.links.pack_links.Goals.{then-keeps_ends, else-keeps_ends}
 
 pub loop-k-init : goal.loop-k-init
 loop-k-init c =
@@ -110,25 +110,13 @@ overflow_add-j c =
     let fits : Linked (lent [] [] c.args.links.now c.args.counts) = linked c.requires.by_index.0 c.requires.by_index.1 c.args.links.now c.args.counts c.requires.by_index.2 in
     omega (arith, c.loop-k.invariant.low, c.loop-k.invariant.some, fits.rows_most)
 
-pub overflow_add-k : goal.overflow_add-k
-overflow_add-k c =
-    let fits : Linked (lent [] [] c.args.links.now c.args.counts) = linked c.requires.by_index.0 c.requires.by_index.1 c.args.links.now c.args.counts c.requires.by_index.2 in
-    omega (arith, c.loop-k.invariant.low, c.loop-k.invariant.some, fits.rows_most)
-
-pub loop-k-preserved-then-keeps_ends : goal.loop-k-preserved-then-keeps_ends
-loop-k-preserved-then-keeps_ends c =
-    let fits : Linked (lent [] [] c.args.links.now c.args.counts) = linked c.requires.by_index.0 c.requires.by_index.1 c.args.links.now c.args.counts c.requires.by_index.2 in
-    turn_kept _ _ (fits) c.requires.numbered c.loop-k.invariant c.loop-k-test.true c.keeps_ends.ensures c.if-keeps_ends.true c.renumber_row.ensures
-
-pub overflow_add-k-else-keeps_ends : goal.overflow_add-k-else-keeps_ends
-overflow_add-k-else-keeps_ends c =
-    let fits : Linked (lent [] [] c.args.links.now c.args.counts) = linked c.requires.by_index.0 c.requires.by_index.1 c.args.links.now c.args.counts c.requires.by_index.2 in
-    omega (arith, c.loop-k.invariant.some, fits.rows_most)
-
 pub loop-k-preserved : goal.loop-k-preserved
 loop-k-preserved c =
     let fits : Linked (lent [] [] c.args.links.now c.args.counts) = linked c.requires.by_index.0 c.requires.by_index.1 c.args.links.now c.args.counts c.requires.by_index.2 in
-    turn_dropped _ _ (fits) c.requires.numbered c.loop-k.invariant c.loop-k-test.true c.keeps_ends.ensures c.if-keeps_ends.false
+    elim c.if-keeps_ends.branch [
+      | then-keeps_ends w ↦ rw (w.links-is, w.j-is) (turn_kept _ _ fits c.requires.numbered c.loop-k.invariant c.loop-k-test.true c.keeps_ends.ensures w.if-keeps_ends.true w.renumber_row.ensures)
+      | else-keeps_ends w ↦ rw (w.links-is, w.j-is) (turn_dropped _ _ fits c.requires.numbered c.loop-k.invariant c.loop-k-test.true c.keeps_ends.ensures w.if-keeps_ends.false)
+    ]
 
 pub overflow_cast-result : goal.overflow_cast-result
 overflow_cast-result c =

@@ -1,6 +1,7 @@
 -- `objects::compact_objects` meets its contract: the kept objects are packed, and what lies behind them is zero. Assumes nothing.
 use mathlib.Core.List.{[]}
 use native.Mathlib.Omega.{arith}
+use Rattle.buffers.proofs.Putting.{filled}
 use Rattle.store_rules.specs.Store.{lent}
 use Rattle.compact_carrying.proofs.Packing.{Lying, lying}
 use Rattle.compact_carrying.proofs.Wiping.{objects_left_lem, rest_asked}
@@ -24,14 +25,20 @@ zero_bytes-requires c =
     let (a, b, d, o) = rest_asked _ _ (lies) c.pack_objects-packed.ensures in
     omega (arith, lies.bytes_in, lies.bytes_most, lies.rows_in, lies.rows_most)
 
-pub overflow_sub-counts-2 : goal.overflow_sub-counts-2
-overflow_sub-counts-2 c =
+pub slice_bounds-fill-count : goal.slice_bounds-fill-count
+slice_bounds-fill-count c =
     let lies : Lying (lent c.args.«data».now c.args.objects.now [] c.args.counts) = lying c.args.«data».now c.args.objects.now c.requires.by_index.0 c.args.counts c.requires.by_index.1 in
     let (a, b, d, o) = rest_asked _ _ (lies) c.pack_objects-packed.ensures in
     omega (arith, lies.bytes_in, lies.bytes_most, lies.rows_in, lies.rows_most)
 
-pub zero_numbers-requires : goal.zero_numbers-requires
-zero_numbers-requires c =
+pub slice_bounds-fill-start : goal.slice_bounds-fill-start
+slice_bounds-fill-start c =
+    let lies : Lying (lent c.args.«data».now c.args.objects.now [] c.args.counts) = lying c.args.«data».now c.args.objects.now c.requires.by_index.0 c.args.counts c.requires.by_index.1 in
+    let (a, b, d, o) = rest_asked _ _ (lies) c.pack_objects-packed.ensures in
+    omega (arith, lies.bytes_in, lies.bytes_most, lies.rows_in, lies.rows_most)
+
+pub slice_bounds-fill-end : goal.slice_bounds-fill-end
+slice_bounds-fill-end c =
     let lies : Lying (lent c.args.«data».now c.args.objects.now [] c.args.counts) = lying c.args.«data».now c.args.objects.now c.requires.by_index.0 c.args.counts c.requires.by_index.1 in
     let (a, b, d, o) = rest_asked _ _ (lies) c.pack_objects-packed.ensures in
     omega (arith, lies.bytes_in, lies.bytes_most, lies.rows_in, lies.rows_most)
@@ -39,4 +46,5 @@ zero_numbers-requires c =
 pub returns : goal.returns
 returns c =
     let lies : Lying (lent c.args.«data».now c.args.objects.now [] c.args.counts) = lying c.args.«data».now c.args.objects.now c.requires.by_index.0 c.args.counts c.requires.by_index.1 in
-    objects_left_lem _ _ (lies) c.pack_objects-packed.ensures c.zero_bytes.ensures c.zero_numbers.ensures
+    let (a, b, d, o) = rest_asked _ _ (lies) c.pack_objects-packed.ensures in
+    objects_left_lem _ _ (lies) c.pack_objects-packed.ensures c.zero_bytes.ensures (filled _ _ _ (omega (arith, lies.rows_most)) (omega (arith, lies.rows_in)) 0 (c.fill.ensures.after (λ y e. e)))

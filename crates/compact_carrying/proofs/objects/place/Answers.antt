@@ -8,4 +8,4 @@ returns-then-head-at c = placed_still c.args.«data».now c.args.objects.now c.a
 pub returns : goal.returns
 returns c =
     placed_moved c.args.«data».now c.args.objects.now c.args.i c.args.j c.args.at c.requires c.put_object.ensures
-    c.if-head-at.false c.copy_down.ensures
+    c.if-head-at.false c.copy_bytes.ensures

@@ -1,5 +1,4 @@
 -- `glyph_estimator::Estimator::add_by_glyph` meets its contract: after each turn the glyphs passed are added. The measure is what is left. Assumes nothing.
-use Prim.Native.Nat.{◌-◌}
 use Rattle.glyph_estimator.proofs.Taking.{start, set-length, takes, turn, stop}
 use Rattle.glyph_estimator.proofs.Estimator.add_by_glyph.Goals as goal
 

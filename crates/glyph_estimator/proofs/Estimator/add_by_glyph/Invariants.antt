@@ -1,11 +1,6 @@
--- `glyph_estimator::Estimator::add_by_glyph` meets its contract: after each turn the glyphs passed are added. The measure is what is left. Assumes nothing.
-use Prim.Native.Nat.{◌-◌}
-use lib.ListN.{length}
+-- `glyph_estimator::Estimator::add_by_glyph` meets its contract: after each turn the glyphs passed are added. Assumes nothing.
 use Rattle.glyph_estimator.proofs.Taking.{Adding}
 use Rattle.glyph_estimator.proofs.Estimator.add_by_glyph.Given as goal
 
 abbrev pub invariant-loop-k : goal.invariant-loop-k
 invariant-loop-k l = Adding l.initial.self l.initial.set l.class l.glyphs l.self l.set l.k
-
-abbrev pub decreases-loop-k : goal.decreases-loop-k
-decreases-loop-k l = length l.glyphs - l.k

@@ -1,7 +1,6 @@
 -- `glyph_estimator::Estimator::add_by_word` meets its contract: after each turn the glyphs passed are added but for the runs, which are counted once all
 -- are in. The measure is what is left. Assumes nothing.
 use borrow.Author.Rules.{rules}
-use Prim.Native.Nat.{◌-◌}
 use Rattle.glyph_estimator.proofs.Taking.{start, set-length, takes, turn}
 use Rattle.glyph_estimator.proofs.Recounting.{long, spans, added_counted}
 use Rattle.glyph_estimator.proofs.Estimator.add_by_word.Goals as goal

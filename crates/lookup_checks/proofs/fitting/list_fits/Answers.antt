@@ -1,4 +1,5 @@
 -- `lookup_checks::fitting::list_fits` meets its contract: its length, and then its slots. Assumes nothing.
+use borrow.Author.Rules.{rules}
 use Prim.Native.Nat.{ℕ}
 use mathlib.Core.Path.{ap, ◌∙◌}
 use Rattle.ot_layouts.specs.Lookup.{is_one_of, list_header, list_exact, is_list_slot}
@@ -19,14 +20,14 @@ returns-then-not-list_exact c =
     length_fails s a.list list_exact is_list_slot
     (c.bytes_of-bytes.ensures a.links.now a.counts) c.list_exact.ensures (ap not c.if-not-list_exact.true)
 
-pub lookup_count-requires : goal.lookup_count-requires
-lookup_count-requires c =
+pub lookup_count-count-requires : goal.lookup_count-count-requires
+lookup_count-count-requires c =
     let a = c.args in
     let s = lent a.«data».now a.objects.now a.links.now a.counts in
     list_long s a.list (c.bytes_of-bytes.ensures a.links.now a.counts) c.list_exact.ensures (ap not c.if-not-list_exact.false)
 
-pub all_at-requires : goal.all_at-requires
-all_at-requires c = searchable c.requires
+pub all_offsets-requires : goal.all_offsets-requires
+all_offsets-requires c = let (order, small) = searchable c.requires in record { order = order; parent_bound = small; callable = search rules }
 
 pub returns : goal.returns
 unfolding good_list is_list_slot
@@ -35,4 +36,5 @@ returns c =
     let s = lent a.«data».now a.objects.now a.links.now a.counts in
     slots_decide s a.list list_exact is_list_slot
     (c.bytes_of-bytes.ensures a.links.now a.counts) c.list_exact.ensures (ap not c.if-not-list_exact.false)
-    (c.all_at.ensures a.«data».now a.objects.now c.requires.sounds ∙ ap (λ (n : ℕ). all_at s a.list (is_one_of list_header n)) c.lookup_count.ensures)
+    (c.all_offsets.ensures a.«data».now a.objects.now (is_one_of list_header c.lookup_count-count.result) c.requires.sounds (λ q r small told. search rules)
+    ∙ ap (λ (n : ℕ). all_at s a.list (is_one_of list_header n)) c.lookup_count-count.ensures)

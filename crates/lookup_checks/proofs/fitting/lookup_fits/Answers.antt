@@ -1,4 +1,5 @@
 -- `lookup_checks::fitting::lookup_fits` meets its contract: its length, and then its slots. Assumes nothing.
+use borrow.Author.Rules.{rules}
 use Prim.Native.Nat.{ℕ}
 use mathlib.Core.Path.{ap, ◌∙◌}
 use Rattle.ot_layouts.specs.Lookup.{is_one_of, lookup_header, lookup_exact, is_subtable_slot}
@@ -19,14 +20,14 @@ returns-then-not-lookup_exact c =
     length_fails s a.lookup lookup_exact is_subtable_slot
     (c.bytes_of-bytes.ensures a.links.now a.counts) c.lookup_exact.ensures (ap not c.if-not-lookup_exact.true)
 
-pub subtable_count-requires : goal.subtable_count-requires
-subtable_count-requires c =
+pub subtable_count-count-requires : goal.subtable_count-count-requires
+subtable_count-count-requires c =
     let a = c.args in
     let s = lent a.«data».now a.objects.now a.links.now a.counts in
     lookup_long s a.lookup (c.bytes_of-bytes.ensures a.links.now a.counts) c.lookup_exact.ensures (ap not c.if-not-lookup_exact.false)
 
-pub all_at-requires : goal.all_at-requires
-all_at-requires c = searchable c.requires
+pub all_offsets-requires : goal.all_offsets-requires
+all_offsets-requires c = let (order, small) = searchable c.requires in record { order = order; parent_bound = small; callable = search rules }
 
 pub returns : goal.returns
 unfolding good_lookup is_subtable_slot
@@ -35,4 +36,5 @@ returns c =
     let s = lent a.«data».now a.objects.now a.links.now a.counts in
     slots_decide s a.lookup lookup_exact is_subtable_slot
     (c.bytes_of-bytes.ensures a.links.now a.counts) c.lookup_exact.ensures (ap not c.if-not-lookup_exact.false)
-    (c.all_at.ensures a.«data».now a.objects.now c.requires.sounds ∙ ap (λ (n : ℕ). all_at s a.lookup (is_one_of lookup_header n)) c.subtable_count.ensures)
+    (c.all_offsets.ensures a.«data».now a.objects.now (is_one_of lookup_header c.subtable_count-count.result) c.requires.sounds (λ q r small told. search rules)
+    ∙ ap (λ (n : ℕ). all_at s a.lookup (is_one_of lookup_header n)) c.subtable_count-count.ensures)

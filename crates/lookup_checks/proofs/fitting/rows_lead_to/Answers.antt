@@ -1,16 +1,19 @@
--- `lookup_checks::fitting::rows_lead_to` meets its contract: the rows before i do not. Assumes nothing.
-use Prim.Native.Nat.{◌-◌}
-use Rattle.lookup_checks.proofs.Leading.{start, turn, stop, met}
+-- `lookup_checks::fitting::rows_lead_to` meets its contract: by what each row leads to. Assumes nothing.
+use Prim.Native.Nat.{ℕ, ◌+◌, ◌-◌, ◌*◌}
+use mathlib.Core.Path.{◌≡◌, refl}
+use borrow.Author.Rules.{rules}
+use borrow.Author.Tests.{tests}
+use lib.ListN.{get_or}
+use Rattle.std.proofs.lemmas.Iterator.{cases_from_any, YieldsList-from_range}
+use Rattle.store_rules.specs.Store.{per_link, row_child}
+use Rattle.lookup_checks.proofs.Leading.{led_to}
 use Rattle.lookup_checks.proofs.fitting.rows_lead_to.Goals as goal
 
-pub loop-i-init : goal.loop-i-init
-loop-i-init c = start _ _ _
-
-pub returns-then-links-first : goal.returns-then-links-first
-returns-then-links-first c = met _ _ _ _ c.loop-i-test.true c.if-links-first.true
-
-pub loop-i-preserved : goal.loop-i-preserved
-loop-i-preserved c = turn _ _ _ c.loop-i.invariant c.loop-i-test.true c.if-links-first.false
-
 pub returns : goal.returns
-returns c = stop _ _ _ c.loop-i.invariant c.loop-i-test.false
+returns c =
+    let a = c.args in
+    let lead : ℕ → ℕ = λ row. get_or a.links.now (per_link * row + row_child) 0 in
+    led_to lead a.table a.rows.first (a.rows.after - a.rows.first) c.any.result
+    (cases_from_any _ _ _ (λ row. lead row ≡ a.table) (λ row. lead row ≡ a.table → ⊥) c.any.ensures.ran
+    (YieldsList-from_range a.rows.first a.rows.after (a.rows.after - a.rows.first) refl refl)
+    (λ x q k. search (rules, tests)) (λ x q k. search (rules, tests)))

@@ -13,14 +13,14 @@ pub rows_of-rows-requires : goal.rows_of-rows-requires
 rows_of-rows-requires c = let all = searchable c.requires.object_in_use in record { in_order_lem = all.0; parent_bound = all.1 }
 
 -- the walk has a mark for each object
-pub slice_bounds-clear_u32-end-2 : goal.slice_bounds-clear_u32-end-2
-slice_bounds-clear_u32-end-2 c = sym (length-take-le _ _ (search rules))
+pub slice_bounds-fill-end-2 : goal.slice_bounds-fill-end-2
+slice_bounds-fill-end-2 c = sym (length-take-le _ _ (search rules))
 
 pub order_rows-requires : goal.order_rows-requires
 order_rows-requires c =
     let a = c.args in
     let s = lent a.«data».now a.objects.now a.links.now a.counts in
-    let marks = take (get_or a.counts 1 0) a.walk.now in record { rows_used = rows_used_lem c.requires.object_in_use c.rows_of-rows.ensures; orderable = orderable s a.list a.table c.requires.object_in_use c.requires.table_value c.rows_of-rows.ensures (length marks) a.walk.now c.clear_u32.ensures (length-take-le _ _ (omega (arith, c.requires.counts_in_bounds))) c.requires.counts_in_bounds }
+    let marks = take (get_or a.counts 1 0) a.walk.now in record { rows_used = rows_used_lem c.requires.object_in_use c.rows_of-rows.ensures; orderable = orderable s a.list a.table c.requires.object_in_use c.requires.table_value c.rows_of-rows.ensures (length marks) a.walk.now (c.fill.ensures.after (λ y e. e)) (length-take-le _ _ (omega (arith, c.requires.counts_in_bounds))) c.requires.counts_in_bounds }
 
 pub returns : goal.returns
 returns c =

@@ -1,5 +1,4 @@
 -- `lookup_checks::order::order_rows` meets its contract: what the rows before i lead to is in order. Assumes nothing.
-use Prim.Native.Nat.{◌-◌}
 use mathlib.Core.Path.{refl}
 use Rattle.store_rules.specs.Store.{lent}
 use Rattle.store_rules.proofs.Sound.{sound_fits}
@@ -20,18 +19,18 @@ pub put_lookup-requires : goal.put_lookup-requires
 put_lookup-requires c =
     let a = c.args in
     placed _ _ _ _ _ c.loop-i.invariant c.loop-i-test.true c.was_marked.ensures c.if-was_marked.false
-    c.is_rewritten.ensures c.if-is_rewritten.true
+    c.is_rewritten.ensures c.if-not-is_rewritten.false
     (sound_fits (lent a.«data».now a.objects.now a.links.now a.counts) c.requires.rows_used.sounds).objects_most
-
-pub loop-i-preserved-then-is_rewritten : goal.loop-i-preserved-then-is_rewritten
-loop-i-preserved-then-is_rewritten c =
-    one_chosen _ _ _ _ _ c.loop-i.invariant c.loop-i-test.true c.was_marked.ensures c.if-was_marked.false
-    c.is_rewritten.ensures c.if-is_rewritten.true c.put_lookup.ensures
 
 pub loop-i-preserved : goal.loop-i-preserved
 loop-i-preserved c =
+    one_chosen _ _ _ _ _ c.loop-i.invariant c.loop-i-test.true c.was_marked.ensures c.if-was_marked.false
+    c.is_rewritten.ensures c.if-not-is_rewritten.false c.put_lookup.ensures
+
+pub loop-i-preserved-then-not-is_rewritten : goal.loop-i-preserved-then-not-is_rewritten
+loop-i-preserved-then-not-is_rewritten c =
     one_other _ _ _ _ _ c.loop-i.invariant c.loop-i-test.true c.was_marked.ensures c.if-was_marked.false
-    c.is_rewritten.ensures c.if-is_rewritten.false
+    c.is_rewritten.ensures c.if-not-is_rewritten.true
 
 pub returns : goal.returns
 returns c = end _ _ _ _ _ c.loop-i.invariant c.loop-i-test.false

@@ -1,6 +1,6 @@
 -- `arranging::arrange_glyphs` meets its contract: all covered glyphs are written, and those of the marks arranged. Assumes nothing.
 use Rattle.mark_checks.proofs.Opened.{marks_inside}
-use Rattle.mark_carrying.proofs.ByTable.{coverage_inside, cover_ready, marks_few, glyphs_numbered, glyphs_arranged}
+use Rattle.mark_carrying.proofs.ByTable.{coverage_inside, cover_ready, glyphs_numbered, glyphs_arranged}
 use Rattle.mark_carrying.proofs.arranging.arrange_glyphs.Goals as goal
 
 pub bytes_of-requires : goal.bytes_of-requires
@@ -9,17 +9,15 @@ bytes_of-requires c =
     coverage_inside k
 
 pub glyphs_into-requires : goal.glyphs_into-requires
-glyphs_into-requires c = let (l, n, t, k) = c.requires in let all = cover_ready k (λ i. (c.shared_slice_known-1.given i).fits) (c.bytes_of.ensures l n) in record { part_value = all.0; part_in_bounds = all.1 }
+glyphs_into-requires c =
+    let (l, n, t, k) = c.requires in
+    let all = cover_ready k (λ i. (c.shared_slice_known-1.given i).fits) (c.bytes_of.ensures l n) in
+    record { part_value = all.0; part_in_bounds = all.1 }
 
 pub bytes_of-requires-2 : goal.bytes_of-requires-2
 bytes_of-requires-2 c =
     let (l, n, t, k) = c.requires in
     marks_inside k.opens
-
-pub slice_bounds-arrange-end : goal.slice_bounds-arrange-end
-slice_bounds-arrange-end c =
-    let (l, n, t, k) = c.requires in
-    marks_few k (λ i. (c.shared_slice_known-1.given i).fits) (c.bytes_of.ensures l n) c.glyphs_into.ensures
 
 pub arrange-requires : goal.arrange-requires
 arrange-requires c =

@@ -1,23 +1,16 @@
 -- `carrying::carry_out` meets its contract: the new objects, the link rows, the class count and the list are those after the split, and then the counts.
 -- Assumes nothing.
 use native.Mathlib.Omega.{arith}
-use Rattle.mark_carrying.proofs.StoreAfter.{in_use_lem, objects_asked, links_asked, count_asked, list_asked, bytes_fit, objects_fit_lem, rows_fit, carried}
+use Rattle.mark_carrying.proofs.StoreAfter.{objects_asked, links_asked, count_asked, list_asked, bytes_fit, objects_fit_lem, rows_fit, carried}
 use Rattle.mark_carrying.proofs.carrying.carry_out.Goals as goal
 
-pub overflow_cast-counts : goal.overflow_cast-counts
-overflow_cast-counts c = omega (arith, in_use_lem c.requires)
-
-pub overflow_cast-counts-2 : goal.overflow_cast-counts-2
-overflow_cast-counts-2 c = omega (arith, in_use_lem c.requires)
-
 pub write_objects-bytes-requires : goal.write_objects-bytes-requires
-write_objects-bytes-requires c = let all = objects_asked c.requires (λ i. (c.slice_known-1.given i).fits) in record { planned_parts = all.0; objects_room_lem = all.1 }
+write_objects-bytes-requires c =
+    let all = objects_asked c.requires (λ i. (c.slice_known-1.given i).fits) in
+    record { planned_parts = all.0; objects_room_lem = all.1 }
 
 pub relink-rows-requires : goal.relink-rows-requires
 relink-rows-requires c = (c.args.«data».now, c.args.objects.now, links_asked c.requires c.write_objects-bytes.ensures)
-
-pub bounds-cuts-0 : goal.bounds-cuts-0
-bounds-cuts-0 c = c.requires.some
 
 pub keep_classes-requires : goal.keep_classes-requires
 keep_classes-requires c = let all = count_asked c.requires c.write_objects-bytes.ensures in record { table_in_bounds = all.0; class_count_at_in_bounds = all.1 }

@@ -12,9 +12,9 @@ pub copy_links-requires : goal.copy_links-requires
 copy_links-requires c =
     let a = c.args in
     let (b, o, k) = c.requires in
-    record { bytes = b; objects = o; known = links_asked k (c.arrange_places.ensures a.links.now a.counts a.table (places_asked k)) }
+    record { bytes = b; objects = o; known = links_asked k c.of-arrays.ensures (c.arrange_places.ensures a.links.now a.counts a.table (places_asked k)) }
 
 pub returns : goal.returns
 returns c b o k =
     let a = c.args in
-    c.copy_links.ensures b o (links_asked k (c.arrange_places.ensures a.links.now a.counts a.table (places_asked k)))
+    c.copy_links.ensures b o (links_asked k c.of-arrays.ensures (c.arrange_places.ensures a.links.now a.counts a.table (places_asked k)))

@@ -6,8 +6,13 @@ use Rattle.store_reader.proofs.Rows.{in_order_lem, positions_low}
 use Rattle.store_link_rows.proofs.OwnLinks.{own_many}
 use Rattle.mark_carrying.proofs.measuring.links_from.Goals as goal
 
-pub overflow_sub-result : goal.overflow_sub-result
-overflow_sub-result c = c.rows_of-rows.ensures.rise
-
 pub returns : goal.returns
-returns c = let a = c.args in record { upper_bound = omega (arith, c.rows_of-rows.ensures.after.within); by_index = λ b o sounds. let s = lent b o a.links.now a.counts in let f = sound_fits s sounds in own_many s (in_order_lem s f) (positions_low s f) a.object c.rows_of-rows.ensures }
+returns c =
+    let a = c.args in
+    record {
+      upper_bound = omega (arith, c.rows_of-rows.ensures.after.within);
+      by_index = λ b o sounds.
+          let s = lent b o a.links.now a.counts in
+          let f = sound_fits s sounds in
+          own_many s (in_order_lem s f) (positions_low s f) a.object c.rows_of-rows.ensures;
+    }

@@ -1,7 +1,5 @@
 -- `measuring::measure_needs` meets its contract: the marks are arranged, the new objects counted from them, and the links from the old arrays. Assumes nothing.
-use native.Mathlib.Omega.{arith}
 use Rattle.mark_checks.proofs.AtSlots.{opened_in_order, marks_small, bases_small}
-use Rattle.mark_carrying.proofs.ByTable.{marks_room}
 use Rattle.mark_carrying.proofs.Counting.{few_links, planned, few_cuts, measured}
 use Rattle.mark_carrying.proofs.measuring.measure_needs.Goals as goal
 
@@ -9,11 +7,6 @@ pub arrange_glyphs-requires : goal.arrange_glyphs-requires
 arrange_glyphs-requires c =
     let (t, k) = c.requires in
     (c.args.links.now, c.args.counts, t, k)
-
-pub slice_bounds-new_length-end : goal.slice_bounds-new_length-end
-slice_bounds-new_length-end c =
-    let (t, k) = c.requires in
-    omega (arith, marks_room k, c.glyphs-1.given)
 
 pub new_length-bytes-requires : goal.new_length-bytes-requires
 new_length-bytes-requires c =
@@ -30,11 +23,6 @@ pub links_from-of_bases-requires : goal.links_from-of_bases-requires
 links_from-of_bases-requires c =
     let (t, k) = c.requires in
     (opened_in_order k.opens, bases_small k.opens)
-
-pub overflow_add-of_marks : goal.overflow_add-of_marks
-overflow_add-of_marks c =
-    let (t, k) = c.requires in
-    omega (arith, few_links k.opens c.links_from-of_marks.ensures.upper_bound c.links_from-of_bases.ensures.upper_bound)
 
 pub needs_of-requires : goal.needs_of-requires
 needs_of-requires c =

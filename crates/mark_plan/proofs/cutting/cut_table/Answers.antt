@@ -1,8 +1,8 @@
--- `mark_plan::cutting::cut_table` meets its contract: the marks' places by class stand in the fronts of the scratch, and the cut rule is asked. Assumes nothing.
+-- `mark_plan::cutting::cut_table` meets its contract: the marks' places by class stand in the scratch's fronts, and the cut rule is asked. Assumes nothing.
 use native.Mathlib.Omega.{arith}
 use Rattle.folds.specs.Lists.{Bytes}
 use Rattle.mark_checks.proofs.Opened.{marks_inside, marks_bits, classes_bits}
-use Rattle.mark_plan.proofs.Looking.{cover_inside, glyphs_room, classes_room, places_ready, points_ready}
+use Rattle.mark_plan.proofs.Looking.{cover_inside, places_ready, points_ready}
 use Rattle.mark_plan.proofs.cutting.cut_table.Goals as goal
 
 pub bytes_of-array-requires : goal.bytes_of-array-requires
@@ -11,23 +11,11 @@ bytes_of-array-requires c = marks_inside c.requires.1.opens
 pub info_of-info-requires : goal.info_of-info-requires
 info_of-info-requires c = cover_inside c.requires.1
 
-pub slice_bounds-order_places-end : goal.slice_bounds-order_places-end
-slice_bounds-order_places-end c = omega (arith, glyphs_room c.requires.1)
-
-pub slice_bounds-order_places-end-2 : goal.slice_bounds-order_places-end-2
-slice_bounds-order_places-end-2 c = omega (arith, classes_room c.requires.1)
-
 pub order_places-requires : goal.order_places-requires
 order_places-requires c =
     let octets : Bytes c.args.«data».now = λ i. omega (arith, c.shared_slice_known-1.given i) in
     let ready = places_ready c.requires.1 (c.bytes_of-array.ensures c.args.links.now c.args.counts) (marks_bits c.requires.1.opens (octets)) in
     record { classes_len = ready.0; places_in_bounds = ready.1; in_bounds = c.requires.1.long }
-
-pub slice_bounds-compute_split_points-end : goal.slice_bounds-compute_split_points-end
-slice_bounds-compute_split_points-end c = omega (arith, glyphs_room c.requires.1, c.glyphs-1.given)
-
-pub slice_bounds-compute_split_points-end-2 : goal.slice_bounds-compute_split_points-end-2
-slice_bounds-compute_split_points-end-2 c = omega (arith, classes_room c.requires.1, c.classes-1.given)
 
 pub compute_split_points-requires : goal.compute_split_points-requires
 compute_split_points-requires c =

@@ -8,7 +8,13 @@ pub marks_size-marks-requires : goal.marks_size-marks-requires
 marks_size-marks-requires c = (c.requires.rows_known.0.marks, walks_on c.requires.rows_known.1 c.column_size-bases.ensures)
 
 pub overflow_add-result : goal.overflow_add-result
-overflow_add-result c = omega (arith, walks_most c.requires.rows_known.1 c.column_size-bases.ensures, walks_most (walks_on c.requires.rows_known.1 c.column_size-bases.ensures) c.marks_size-marks.ensures)
+overflow_add-result c =
+    let rows_known_1 = c.requires.rows_known.1 in
+    let bases_is = c.column_size-bases.ensures in
+    omega (arith, walks_most rows_known_1 bases_is, walks_most (walks_on rows_known_1 bases_is) c.marks_size-marks.ensures)
 
 pub returns : goal.returns
-returns c = record { grown = λ b from u v. let g = c.column_size-bases.ensures.grown b from u v in grown_more g (c.marks_size-marks.ensures.grown b _ u g.marks) }
+returns c =
+    record {
+      grown = λ b from u v. let g = c.column_size-bases.ensures.grown b from u v in grown_more g (c.marks_size-marks.ensures.grown b _ u g.marks);
+    }

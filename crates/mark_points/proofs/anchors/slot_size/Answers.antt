@@ -7,13 +7,23 @@ use Rattle.mark_points.proofs.Walking.{slot_offsets, slot_grown}
 use Rattle.mark_points.proofs.anchors.slot_size.Goals as goal
 
 pub row_near-row-requires : goal.row_near-row-requires
-row_near-row-requires c = (in_order_lem _ (sound_fits _ c.requires.walkable.1.1.is_sound), among-parent c.requires.walkable.0 _ (omega (arith, c.requires.position_bound)))
+row_near-row-requires c =
+    (in_order_lem _ (sound_fits _ c.requires.walkable.1.1.is_sound), among-parent c.requires.walkable.0 _ (omega (arith, c.requires.position_bound)))
 
 pub next_row-next-requires : goal.next_row-next-requires
-next_row-next-requires c = (in_order_lem _ (sound_fits _ c.requires.walkable.1.1.is_sound), c.row_near-row.ensures.within, λ k h. omega (arith, c.row_near-row.ensures.below k h))
+next_row-next-requires c = (
+  in_order_lem _ (sound_fits _ c.requires.walkable.1.1.is_sound),
+  c.row_near-row.ensures.within,
+  λ k h. omega (arith, c.row_near-row.ensures.below k h),
+)
 
 pub subgraph_size-size-requires : goal.subgraph_size-size-requires
-subgraph_size-size-requires c = (c.next_row-next.ensures.within, c.requires.walkable.1, slot_offsets _ _ (sound_fits _ c.requires.walkable.1.1.is_sound) c.requires.position_bound c.row_near-row.ensures c.next_row-next.ensures)
+subgraph_size-size-requires c =
+    let next_is = c.next_row-next.ensures in (
+      next_is.within,
+      c.requires.walkable.1,
+      slot_offsets _ _ (sound_fits _ c.requires.walkable.1.1.is_sound) c.requires.position_bound c.row_near-row.ensures next_is,
+    )
 
 pub returns : goal.returns
 returns c =

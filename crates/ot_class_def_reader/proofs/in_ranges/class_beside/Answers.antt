@@ -7,6 +7,7 @@ use native.Mathlib.Omega.{arith}
 use lib.Dec.{leb, ltb}
 use borrow.Author.Tests.{lt-ltb, le-ltb, le-leb, lt-leb}
 use Rattle.ot_layouts.specs.Coverage.{start_at, beside_at}
+use Rattle.ot_class_def_reader.proofs.in_ranges.class_beside.Goals.{else-k-count-via-then-k-count+else-u16_at-glyph, else-k-count-via-else-k-count}
 use Rattle.ot_class_def_reader.proofs.in_ranges.class_beside.Goals as goal
 
 module _ (part : List ℕ) (count k g : ℕ) where
@@ -23,11 +24,12 @@ module _ (part : List ℕ) (count k g : ℕ) where
   beside : {b : ℕ} → k < count → b ≡ start_at part k → b ≤ g → beside_at part k ≡ class
   beside l e h = rw (lt-ltb k count l, le-leb (start_at part k) g (omega arith))
 
-pub returns-then-count-k : goal.returns-then-count-k
-returns-then-count-k c = not_there c.args.part.now _ _ c.args.glyph c.if-count-k.true
+pub returns-then-u16_at-glyph : goal.returns-then-u16_at-glyph
+returns-then-u16_at-glyph c = c.u16_at-then-u16_at-glyph.ensures ∙ beside c.args.part.now _ _ _ c.if-k-count.true c.u16_at.ensures c.if-u16_at-glyph.true
 
-pub returns-then-glyph-u16_at : goal.returns-then-glyph-u16_at
-returns-then-glyph-u16_at c = above c.args.part.now _ _ _ c.if-count-k.false c.u16_at.ensures c.if-glyph-u16_at.true
-
-pub returns : goal.returns
-returns c = c.u16_at-2.ensures ∙ beside c.args.part.now _ _ _ c.if-count-k.false c.u16_at.ensures c.if-glyph-u16_at.false
+pub returns-else-k-count : goal.returns-else-k-count
+returns-else-k-count c =
+    elim c.else-k-count.branch [
+      | else-k-count-via-then-k-count+else-u16_at-glyph w ↦ above c.args.part.now _ _ _ w.if-k-count.true w.u16_at.ensures w.if-u16_at-glyph.false
+      | else-k-count-via-else-k-count w ↦ not_there c.args.part.now _ _ c.args.glyph w.if-k-count.false
+    ]

@@ -1,5 +1,5 @@
 -- `ot_class_def_reader::in_ranges::range_classes` meets its contract: the ranges passed end below the glyph, and the next decides its class. Assumes nothing.
-use Prim.Native.Nat.{ℕ, ◌+◌, ◌-◌, ◌≤◌, ◌<◌}
+use Prim.Native.Nat.{ℕ, ◌+◌, ◌≤◌, ◌<◌}
 use mathlib.Core.Path.{◌≡◌, sym, ◌∙◌}
 use mathlib.Core.Bool.{Bool, true, false, cond, ◌&&◌}
 use mathlib.Core.List.{List}
@@ -95,11 +95,11 @@ loop-i-smaller-then-ends_below c = let h = one_more c.loop-i.invariant c.ends_be
 pub loop-i-preserved-then-ends_below : goal.loop-i-preserved-then-ends_below
 loop-i-preserved-then-ends_below c = next-range c.loop-i.invariant c.ends_below.ensures c.if-ends_below.true
 
-pub class_beside-class-requires : goal.class_beside-class-requires
-class_beside-class-requires c = c.loop-i.invariant.read.long
+pub class_beside-requires : goal.class_beside-requires
+class_beside-requires c = c.loop-i.invariant.read.long
 
 pub loop-i-preserved : goal.loop-i-preserved
-loop-i-preserved c = next-glyph c.loop-i.invariant c.ends_below.ensures c.if-ends_below.false c.loop-i-test.true c.class_beside-class.ensures
+loop-i-preserved c = next-glyph c.loop-i.invariant c.ends_below.ensures c.if-ends_below.false c.loop-i-test.true c.class_beside.ensures
 
 pub returns : goal.returns
 returns c = filled_all c.loop-i.invariant.filled c.loop-i-test.false

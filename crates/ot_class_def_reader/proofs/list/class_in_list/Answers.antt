@@ -12,17 +12,17 @@ module _ (part : List ℕ) {start : ℕ} (count g : ℕ) (e : start ≡ u16_at p
   before-it : g < start → 0 ≡ list_class part count g
   before-it h = rw (lt-leb (u16_at part 2) g (omega arith))
 
-  at-it : start ≤ g → g - start < count → u16_at part (6 + 2 * (g - start)) ≡ list_class part count g
-  at-it h l = rw (le-leb (u16_at part 2) g (omega arith), lt-ltb g (u16_at part 2 + count) (omega arith), e)
+  at-it : {p : ℕ} → p ≡ g - start → start ≤ g → p < count → u16_at part (6 + 2 * p) ≡ list_class part count g
+  at-it q h l = rw (le-leb (u16_at part 2) g (omega arith), lt-ltb g (u16_at part 2 + count) (omega arith), q, e)
 
-  past-it : start ≤ g → count ≤ g - start → 0 ≡ list_class part count g
-  past-it h l = rw (le-leb (u16_at part 2) g (omega arith), le-ltb g (u16_at part 2 + count) (omega arith))
+  past-it : {p : ℕ} → p ≡ g - start → start ≤ g → count ≤ p → 0 ≡ list_class part count g
+  past-it q h l = rw (le-leb (u16_at part 2) g (omega arith), le-ltb g (u16_at part 2 + count) (omega arith))
 
 pub returns-then-glyph-start : goal.returns-then-glyph-start
 returns-then-glyph-start c = before-it _ _ _ c.u16_at-start.ensures c.if-glyph-start.true
 
 pub returns-then-place-count : goal.returns-then-place-count
-returns-then-place-count c = c.u16_at.ensures ∙ at-it _ _ _ c.u16_at-start.ensures c.if-glyph-start.false c.if-place-count.true
+returns-then-place-count c = c.u16_at.ensures ∙ at-it _ _ _ c.u16_at-start.ensures c.from-place.ensures c.if-glyph-start.false c.if-place-count.true
 
 pub returns-else-place-count : goal.returns-else-place-count
-returns-else-place-count c = past-it _ _ _ c.u16_at-start.ensures c.if-glyph-start.false c.if-place-count.false
+returns-else-place-count c = past-it _ _ _ c.u16_at-start.ensures c.from-place.ensures c.if-glyph-start.false c.if-place-count.false

@@ -38,8 +38,8 @@ overflow_add-last c =
     let read : Ranged c.args.part.now c.args.count = header_ranges _ _ c.requires refl in
     omega (arith, read.read.long)
 
-pub u16_at-start-requires : goal.u16_at-start-requires
-u16_at-start-requires c =
+pub u16_at-requires : goal.u16_at-requires
+u16_at-requires c =
     let read : Ranged c.args.part.now c.args.count = header_ranges _ _ c.requires refl in
     omega (arith, read.read.long)
 
@@ -53,8 +53,8 @@ overflow_add-last-2 c =
     let read : Ranged c.args.part.now c.args.count = header_ranges _ _ c.requires refl in
     omega (arith, read.read.long)
 
-pub u16_at-end-requires : goal.u16_at-end-requires
-u16_at-end-requires c =
+pub u16_at-requires-2 : goal.u16_at-requires-2
+u16_at-requires-2 c =
     let read : Ranged c.args.part.now c.args.count = header_ranges _ _ c.requires refl in
     omega (arith, read.read.long)
 
@@ -68,8 +68,8 @@ overflow_add-last-3 c =
     let read : Ranged c.args.part.now c.args.count = header_ranges _ _ c.requires refl in
     omega (arith, read.read.long)
 
-pub u16_at-index-requires : goal.u16_at-index-requires
-u16_at-index-requires c =
+pub u16_at-requires-3 : goal.u16_at-requires-3
+u16_at-requires-3 c =
     let read : Ranged c.args.part.now c.args.count = header_ranges _ _ c.requires refl in
     omega (arith, read.read.long)
 
@@ -81,4 +81,4 @@ overflow_sub-result c =
 pub returns : goal.returns
 returns c =
     let read : Ranged c.args.part.now c.args.count = header_ranges _ _ c.requires refl in
-    last_there (read) (omega arith) (omega arith) c.u16_at-start.ensures c.u16_at-end.ensures c.u16_at-index.ensures
+    last_there (read) (omega arith) (omega arith) (c.from-start.ensures ∙ c.u16_at.ensures) (c.from-end.ensures ∙ c.u16_at-2.ensures) (c.from-index.ensures ∙ c.u16_at-3.ensures)

@@ -51,13 +51,13 @@ pub loop-k-init : goal.loop-k-init
 loop-k-init c = start _ _ c.requires
 
 pub returns-then-index-total : goal.returns-then-index-total
-returns-then-index-total c = stop c.loop-k.invariant c.loop-k-test.true c.u16_at-index.ensures c.if-index-total.true
+returns-then-index-total c = stop c.loop-k.invariant c.loop-k-test.true (c.from-index.ensures ∙ c.u16_at-in-loop-k-2.ensures) c.if-index-total.true
 
 pub overflow_sub-total : goal.overflow_sub-total
 overflow_sub-total c = omega (arith, c.loop-k.invariant.read.rising.ordered c.loop-k.k c.loop-k-test.true)
 
 pub loop-k-preserved : goal.loop-k-preserved
-loop-k-preserved c = turn c.loop-k.invariant c.loop-k-test.true (omega arith) c.u16_at-start.ensures c.u16_at-end.ensures c.u16_at-index.ensures c.if-index-total.false
+loop-k-preserved c = turn c.loop-k.invariant c.loop-k-test.true (omega arith) (c.from-start.ensures ∙ c.u16_at.ensures) (c.from-end.ensures ∙ c.u16_at-in-loop-k.ensures) (c.from-index.ensures ∙ c.u16_at-in-loop-k-2.ensures) c.if-index-total.false
 
 pub returns : goal.returns
 returns c = done c.loop-k.invariant c.loop-k-test.false

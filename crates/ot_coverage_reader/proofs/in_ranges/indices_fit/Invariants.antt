@@ -1,7 +1,7 @@
 -- `in_ranges::indices_fit` meets its contract. In the loop `total` is how many glyphs the ranges passed have, and those are numbered right. Assumes nothing.
 use mathlib.Core.Path.{◌≡◌}
 use mathlib.Core.List.{List}
-use Prim.Native.Nat.{ℕ, ◌-◌, ◌≤◌}
+use Prim.Native.Nat.{ℕ, ◌≤◌}
 use Rattle.folds.specs.Folds.{sum}
 use Rattle.ot_layouts.specs.Coverage.{size_at}
 use Rattle.ot_layouts.proofs.RangesRead.{RangesRead}
@@ -17,6 +17,3 @@ pub record Inv (part : List ℕ) (count total k : ℕ) : Type 0 where
 
 abbrev pub invariant-loop-k : goal.invariant-loop-k
 invariant-loop-k l = Inv l.part l.count l.total l.k
-
-abbrev pub decreases-loop-k : goal.decreases-loop-k
-decreases-loop-k l = l.count - l.k

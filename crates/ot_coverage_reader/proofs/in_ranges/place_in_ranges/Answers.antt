@@ -1,19 +1,16 @@
 -- `in_ranges::place_in_ranges` meets its contract: the range that has the glyph is numbered by the glyphs before it. Assumes nothing.
-use mathlib.Core.Path.{◌≡◌, refl, sym, ap, ◌∙◌}
+use Rattle.std.specs.Prelude.{Some}
+use mathlib.Core.Path.{◌≡◌, refl, sym, ◌∙◌}
 use mathlib.Core.Bool.{true}
 use mathlib.Core.List.{List}
-use mathlib.Core.Option.{some}
 use Prim.Native.Nat.{ℕ, ◌+◌, ◌-◌, ◌*◌, ◌≤◌, ◌<◌}
 use native.Mathlib.Omega.{arith}
 use lib.ListN.{length}
 use Rattle.ot_layouts.specs.Coverage.{start_at, beside_at, ranges_fit, cover_place}
 use Rattle.ot_layouts.proofs.RangesRead.{ranges_fit_lem}
 use Rattle.ot_layouts.proofs.CoverageRead.{Ranged, header_ranges}
-use Rattle.ot_ranges.specs.Ranges.{range_found, range_of}
-use Rattle.ot_ranges.specs.declared.Found.{Found}
-use Rattle.ot_ranges.specs.declared.Found.TheVariants as Found
-use Rattle.ot_coverage_reader.specs.Coverage.{AsRanges, place_found}
-use Rattle.ot_coverage_reader.specs.declared.Place.TheVariants.{At, Nowhere}
+use Rattle.ot_ranges.specs.Ranges.{range_of}
+use Rattle.ot_coverage_reader.specs.Coverage.{AsRanges}
 use Rattle.ot_coverage_reader.proofs.Places.{has, place_at, place_none}
 use Rattle.ot_coverage_reader.proofs.in_ranges.place_in_ranges.Goals as goal
 
@@ -29,60 +26,38 @@ module _ (part : List ℕ) (count g : ℕ) (a : AsRanges part count) where
   fit : ranges_fit part count ≡ true
   fit = ranges_fit_lem part count ranged.read
 
-  module _ {f : Found} (e : range_found f ≡ range_of part count g) where
-    module _ {k : ℕ} (q : f ≡ Found.At k) where
-      which : range_of part count g ≡ some k
-      which = sym e ∙ ap range_found q
+  inside : {k : ℕ} → Some k ≡ range_of part count g → Inside part g k
+  inside {k} q = let h = has part g count k (sym q) in record { long = omega (arith, ranged.read.long); starts = h.starts }
 
-      inside : Inside part g k
-      inside = let h = has part g count k which in record { long = omega (arith, ranged.read.long); starts = h.starts }
+  hit : {k b x d : ℕ} → Some k ≡ range_of part count g → b ≡ start_at part k → x ≡ beside_at part k → d ≡ g - b → Some (x + d) ≡ cover_place part g
+  hit {k} q pb px pd = rw (pd, pb, px, place_at ranged g k (sym q))
 
-      hit : {b x : ℕ} → b ≡ start_at part k → x ≡ beside_at part k → place_found (At (x + (g - b))) ≡ cover_place part g
-      hit {b} {x} pb px = rw (pb, px, place_at ranged g k which)
+pub range_of-requires : goal.range_of-requires
+range_of-requires c = fit _ _ c.args.glyph c.requires
 
-    miss : f ≡ Found.Nowhere → place_found Nowhere ≡ cover_place part g
-    miss q = rw (place_none ranged g (sym e ∙ ap range_found q))
-
-pub range_of-found-requires : goal.range_of-found-requires
-range_of-found-requires c = fit c.args.part.now c.args.count c.args.glyph c.requires
+pub returns-in_err-k : goal.returns-in_err-k
+returns-in_err-k c = c.from_residual.ensures ∙ sym (place_none (ranged _ _ c.args.glyph c.requires) _ (sym c.in_err-k.ensures))
 
 pub overflow_mul-k : goal.overflow_mul-k
-overflow_mul-k c =
-    let here : Inside c.args.part.now c.args.glyph c.in-At.k = inside _ c.args.count _ c.requires c.range_of-found.ensures c.in-At.is in
-    omega (arith, here.long)
+overflow_mul-k c = let here = inside _ _ _ c.requires c.in_ok-k.ensures in omega (arith, here.long)
 
 pub overflow_add-k : goal.overflow_add-k
-overflow_add-k c =
-    let here : Inside c.args.part.now c.args.glyph c.in-At.k = inside _ c.args.count _ c.requires c.range_of-found.ensures c.in-At.is in
-    omega (arith, here.long)
+overflow_add-k c = let here = inside _ _ _ c.requires c.in_ok-k.ensures in omega (arith, here.long)
 
 pub u16_at-start-requires : goal.u16_at-start-requires
-u16_at-start-requires c =
-    let here : Inside c.args.part.now c.args.glyph c.in-At.k = inside _ c.args.count _ c.requires c.range_of-found.ensures c.in-At.is in
-    omega (arith, here.long)
+u16_at-start-requires c = let here = inside _ _ _ c.requires c.in_ok-k.ensures in omega (arith, here.long)
 
-pub overflow_mul-k-in-At : goal.overflow_mul-k-in-At
-overflow_mul-k-in-At c =
-    let here : Inside c.args.part.now c.args.glyph c.in-At.k = inside _ c.args.count _ c.requires c.range_of-found.ensures c.in-At.is in
-    omega (arith, here.long)
+pub overflow_mul-k-2 : goal.overflow_mul-k-2
+overflow_mul-k-2 c = let here = inside _ _ _ c.requires c.in_ok-k.ensures in omega (arith, here.long)
 
-pub overflow_add-k-in-At : goal.overflow_add-k-in-At
-overflow_add-k-in-At c =
-    let here : Inside c.args.part.now c.args.glyph c.in-At.k = inside _ c.args.count _ c.requires c.range_of-found.ensures c.in-At.is in
-    omega (arith, here.long)
+pub overflow_add-k-2 : goal.overflow_add-k-2
+overflow_add-k-2 c = let here = inside _ _ _ c.requires c.in_ok-k.ensures in omega (arith, here.long)
 
-pub u16_at-index-requires : goal.u16_at-index-requires
-u16_at-index-requires c =
-    let here : Inside c.args.part.now c.args.glyph c.in-At.k = inside _ c.args.count _ c.requires c.range_of-found.ensures c.in-At.is in
-    omega (arith, here.long)
+pub u16_at-requires : goal.u16_at-requires
+u16_at-requires c = let here = inside _ _ _ c.requires c.in_ok-k.ensures in omega (arith, here.long)
 
-pub overflow_sub-result : goal.overflow_sub-result
-overflow_sub-result c =
-    let here : Inside c.args.part.now c.args.glyph c.in-At.k = inside _ c.args.count _ c.requires c.range_of-found.ensures c.in-At.is in
-    omega (arith, here.starts)
+pub overflow_sub-glyph : goal.overflow_sub-glyph
+overflow_sub-glyph c = let here = inside _ _ _ c.requires c.in_ok-k.ensures in omega (arith, here.starts)
 
-pub returns-in-At : goal.returns-in-At
-returns-in-At c = hit c.args.part.now c.args.count c.args.glyph c.requires c.range_of-found.ensures c.in-At.is c.u16_at-start.ensures c.u16_at-index.ensures
-
-pub returns-in-Nowhere : goal.returns-in-Nowhere
-returns-in-Nowhere c = miss c.args.part.now c.args.count c.args.glyph c.requires c.range_of-found.ensures c.in-Nowhere.is
+pub returns : goal.returns
+returns c = hit _ _ _ c.requires c.in_ok-k.ensures c.u16_at-start.ensures (c.from-index.ensures ∙ c.u16_at.ensures) c.from.ensures

@@ -80,7 +80,7 @@ overflow_add-at c =
     omega (arith, fit.ordered, fit.room)
 
 pub loop-k-preserved : goal.loop-k-preserved
-loop-k-preserved c = turn c.loop-k.invariant c.loop-k-test.true c.u16_at-start.ensures c.u16_at-end.ensures c.run_into.auto.out c.run_into.ensures
+loop-k-preserved c = turn c.loop-k.invariant c.loop-k-test.true (c.from-start.ensures ∙ c.u16_at.ensures) (c.from-end.ensures ∙ c.u16_at-in-loop-k.ensures) c.run_into.auto.out c.run_into.ensures
 
 pub returns : goal.returns
 returns c = done c.loop-k.invariant c.loop-k-test.false

@@ -1,5 +1,4 @@
 -- `in_ranges::run_into` meets its contract: one number is written a turn. Assumes nothing.
-use Prim.Native.Nat.{◌-◌}
 use Rattle.folds.proofs.Writing.{write_start, write_turn, write_stop}
 use Rattle.ot_coverage_reader.proofs.in_ranges.run_into.Goals as goal
 

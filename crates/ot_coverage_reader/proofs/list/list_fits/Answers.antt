@@ -2,7 +2,7 @@
 use mathlib.Core.Path.{◌≡◌, sym, ap, ◌∙◌}
 use mathlib.Core.Bool.{true, false}
 use mathlib.Core.List.{List}
-use Prim.Native.Nat.{ℕ, ◌+◌, ◌-◌, ◌*◌, ◌≤◌, ◌<◌}
+use Prim.Native.Nat.{ℕ, ◌+◌, ◌*◌, ◌≤◌, ◌<◌}
 use native.Mathlib.Omega.{arith}
 use lib.ListN.{length}
 use Rattle.folds.proofs.Folds.{before_none, before_more}
@@ -38,10 +38,10 @@ pub loop-k-init : goal.loop-k-init
 loop-k-init c = start _ _ c.if-part-count.false
 
 pub returns-then-glyph-next : goal.returns-then-glyph-next
-returns-then-glyph-next c = stop c.loop-k.invariant c.loop-k-test.true c.u16_at-glyph.ensures c.if-glyph-next.true
+returns-then-glyph-next c = stop c.loop-k.invariant c.loop-k-test.true (c.from-glyph.ensures ∙ c.u16_at.ensures) c.if-glyph-next.true
 
 pub loop-k-preserved : goal.loop-k-preserved
-loop-k-preserved c = turn c.loop-k.invariant c.loop-k-test.true c.u16_at-glyph.ensures c.if-glyph-next.false
+loop-k-preserved c = turn c.loop-k.invariant c.loop-k-test.true (c.from-glyph.ensures ∙ c.u16_at.ensures) c.if-glyph-next.false
 
 pub returns : goal.returns
 returns c = done c.loop-k.invariant c.loop-k-test.false

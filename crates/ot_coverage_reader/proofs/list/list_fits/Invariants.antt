@@ -1,7 +1,7 @@
 -- `list::list_fits` meets its contract. In the loop the glyphs passed rise, and `next` is one above the last of them. Assumes nothing.
 use mathlib.Core.Path.{◌≡◌}
 use mathlib.Core.List.{List}
-use Prim.Native.Nat.{ℕ, ◌+◌, ◌-◌, ◌*◌, ◌≤◌}
+use Prim.Native.Nat.{ℕ, ◌+◌, ◌*◌, ◌≤◌}
 use lib.ListN.{length}
 use Rattle.folds.specs.Folds.{before}
 use Rattle.folds.proofs.Halving.{Rising}
@@ -16,6 +16,3 @@ pub record Inv (part : List ℕ) (count next k : ℕ) : Type 0 where
 
 abbrev pub invariant-loop-k : goal.invariant-loop-k
 invariant-loop-k l = Inv l.part l.count l.next l.k
-
-abbrev pub decreases-loop-k : goal.decreases-loop-k
-decreases-loop-k l = l.count - l.k

@@ -1,6 +1,6 @@
 -- `list::list_into` meets its contract: one glyph is written a turn. Assumes nothing.
 use mathlib.Core.List.{List}
-use Prim.Native.Nat.{ℕ, ◌+◌, ◌-◌, ◌≤◌}
+use Prim.Native.Nat.{ℕ, ◌+◌, ◌≤◌}
 use lib.ListN.{length}
 use Rattle.folds.proofs.Writing.{Writing}
 use Rattle.ot_layouts.specs.Coverage.{glyph_at}
@@ -14,6 +14,3 @@ pub record Inv (part : List ℕ) (count : ℕ) (out₀ out : List ℕ) (k : ℕ)
 
 abbrev pub invariant-loop-k : goal.invariant-loop-k
 invariant-loop-k l = Inv l.part l.count l.initial.out l.out l.k
-
-abbrev pub decreases-loop-k : goal.decreases-loop-k
-decreases-loop-k l = l.count - l.k

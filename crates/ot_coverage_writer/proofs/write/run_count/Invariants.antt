@@ -1,7 +1,7 @@
 -- `write::run_count` meets its contract. In the loop the runs counted and those from glyph `k` on are all. Assumes nothing.
 use mathlib.Core.Path.{◌≡◌}
 use mathlib.Core.List.{List}
-use Prim.Native.Nat.{ℕ, ◌+◌, ◌-◌, ◌≤◌}
+use Prim.Native.Nat.{ℕ, ◌+◌, ◌≤◌}
 use lib.ListN.{length}
 use Rattle.ot_layouts.specs.Coverage.{runs, plain}
 use Rattle.ot_coverage_writer.proofs.Tails.{tail}
@@ -14,6 +14,3 @@ pub record Inv (g : List ℕ) (count k : ℕ) : Type 0 where
 
 abbrev pub invariant-loop-k : goal.invariant-loop-k
 invariant-loop-k l = Inv l.glyphs l.count l.k
-
-abbrev pub decreases-loop-k : goal.decreases-loop-k
-decreases-loop-k l = length l.glyphs - l.k

@@ -1,7 +1,7 @@
 -- `write::write_list` meets its contract. In the loop the first `k` glyphs stand behind the head. Assumes nothing.
 use mathlib.Core.Path.{◌≡◌}
 use mathlib.Core.List.{List}
-use Prim.Native.Nat.{ℕ, ◌+◌, ◌-◌, ◌*◌, ◌≤◌}
+use Prim.Native.Nat.{ℕ, ◌+◌, ◌*◌, ◌≤◌}
 use lib.ListN.{length, take}
 use Rattle.folds.specs.Lists.{put}
 use Rattle.ot_layouts.specs.Numbers.{words}
@@ -15,6 +15,3 @@ pub record Inv (g out₀ out : List ℕ) (first k : ℕ) : Type 0 where
 
 abbrev pub invariant-loop-k : goal.invariant-loop-k
 invariant-loop-k l = Inv l.glyphs l.initial.out l.out l.first l.k
-
-abbrev pub decreases-loop-k : goal.decreases-loop-k
-decreases-loop-k l = length l.glyphs - l.k

@@ -115,8 +115,8 @@ put_range-requires c =
     let room_at : c.loop-k.end + 6 ≤ length c.put_head.new.out = more c.loop-k.invariant c.loop-k-test.true (ends) in
     omega (arith, room_at)
 
-pub overflow_add-end-else-joins_next : goal.overflow_add-end-else-joins_next
-overflow_add-end-else-joins_next c =
+pub overflow_add-end-in-loop-k : goal.overflow_add-end-in-loop-k
+overflow_add-end-in-loop-k c =
     let ends : (joins_next c.args.glyphs.now c.loop-k.k ≡ false) = sym c.joins_next.ensures ∙ c.if-joins_next.false in
     let room_at : c.loop-k.end + 6 ≤ length c.put_head.new.out = more c.loop-k.invariant c.loop-k-test.true (ends) in
     omega (arith, room_at)

@@ -1,7 +1,7 @@
 -- `write::write_ranges` meets its contract. In the loop the ranges written and those of the glyphs from `from` on are all, and the glyphs from `from` to `k` follow one another. Assumes nothing.
 use mathlib.Core.Path.{◌≡◌}
 use mathlib.Core.List.{List, ◌++◌}
-use Prim.Native.Nat.{ℕ, ◌+◌, ◌-◌, ◌*◌, ◌≤◌, ◌<◌}
+use Prim.Native.Nat.{ℕ, ◌+◌, ◌*◌, ◌≤◌, ◌<◌}
 use lib.ListN.{length, get_or}
 use Rattle.folds.specs.Lists.{put}
 use Rattle.ot_layouts.specs.Coverage.{runs, plain, cover_ranges}
@@ -23,6 +23,3 @@ pub record Inv (g out₀ out : List ℕ) (at end from k : ℕ) : Type 0 where
 
 abbrev pub invariant-loop-k : goal.invariant-loop-k
 invariant-loop-k l = Inv l.glyphs l.initial.out l.out (l.at + 4) l.end l.from l.k
-
-abbrev pub decreases-loop-k : goal.decreases-loop-k
-decreases-loop-k l = length l.glyphs - l.k

@@ -8,18 +8,13 @@ bytes_of-requires c =
     coverage_inside k
 
 pub glyphs_into-requires : goal.glyphs_into-requires
-glyphs_into-requires c = let (l, n, t, k) = c.requires in let all = cover_ready k (c.bytes_of.ensures l n) in record { part_value = all.0; part_in_bounds = all.1 }
+glyphs_into-requires c =
+    let (l, n, t, k) = c.requires in let all = cover_ready k (c.bytes_of.ensures l n) in record { part_value = all.0; part_in_bounds = all.1 }
 
 pub number_u16-requires : goal.number_u16-requires
 number_u16-requires c =
     let (l, n, t, k) = c.requires in
     few_places k (c.bytes_of.ensures l n) c.glyphs_into.ensures (λ i. (c.slice_known-then-layout-eq1-1.given i).fits)
-
-pub shape_of-glyphs-then-layout-eq1 : goal.shape_of-glyphs-then-layout-eq1
-shape_of-glyphs-then-layout-eq1 c = c.glyphs-1.given
-
-pub shape_of-classes-then-layout-eq1 : goal.shape_of-classes-then-layout-eq1
-shape_of-classes-then-layout-eq1 c = c.classes-1.given
 
 pub returns-then-layout-eq1 : goal.returns-then-layout-eq1
 returns-then-layout-eq1 c l n t k =
@@ -30,12 +25,6 @@ pub order_parts-requires : goal.order_parts-requires
 order_parts-requires c =
     let (l, n, t, k) = c.requires in
     by_class_lem k c.if-layout-eq1.false (λ i. (c.shared_slice_known-1.given i).fits)
-
-pub shape_of-glyphs : goal.shape_of-glyphs
-shape_of-glyphs c = c.glyphs-2-1.given
-
-pub shape_of-classes : goal.shape_of-classes
-shape_of-classes c = c.classes-2-1.given
 
 pub returns : goal.returns
 returns c l n t k = by_parts k c.if-layout-eq1.false (λ i. (c.shared_slice_known-1.given i).fits) c.order_parts.ensures

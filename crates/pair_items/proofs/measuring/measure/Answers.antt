@@ -10,7 +10,13 @@ pub next_row-next-requires : goal.next_row-next-requires
 next_row-next-requires c = (at_in_order c.requires.by_index.5, c.requires.by_index.5.first.within, rows_before c.requires.by_index.5 c.requires.by_index.4)
 
 pub subgraph_size-size-requires : goal.subgraph_size-size-requires
-subgraph_size-size-requires c = (c.next_row-next.ensures.within, (_, record { bytes = c.requires.by_index.0; is_sound = c.requires.by_index.5.is_sound; marks = c.requires.by_index.5.marks; early = c.requires.epoch_bound.0 }), measured_offsets c.requires.by_index.5 c.requires.by_index.4 c.requires.epoch_bound.1 c.next_row-next.ensures)
+subgraph_size-size-requires c =
+    let by_index_5 = c.requires.by_index.5 in
+    let next_is = c.next_row-next.ensures in (
+      next_is.within,
+      (_, record { bytes = c.requires.by_index.0; is_sound = by_index_5.is_sound; marks = by_index_5.marks; early = c.requires.epoch_bound.0 }),
+      measured_offsets by_index_5 c.requires.by_index.4 c.requires.epoch_bound.1 next_is,
+    )
 
 pub returns : goal.returns
 returns c b sh a i q x = measured x q c.requires.epoch_bound.1 c.next_row-next.ensures (c.subgraph_size-size.ensures b _ x.marks)

@@ -3,7 +3,15 @@ use Rattle.pair_items.proofs.ItemSizes.{stays_measured, marks_here, offsets_here
 use Rattle.pair_items.proofs.measuring.measure_at_cut.Goals as goal
 
 pub subgraph_size-requires : goal.subgraph_size-requires
-subgraph_size-requires c = (c.requires.by_index.4.after.first.within, (_, record { bytes = c.requires.by_index.0; is_sound = c.requires.by_index.4.after.is_sound; marks = c.requires.by_index.4.after.marks; early = c.requires.epoch_bound }), offsets_here c.requires.by_index.4)
+subgraph_size-requires c =
+    let by_index_4 = c.requires.by_index.4 in (
+      by_index_4.after.first.within,
+      (
+        _,
+        record { bytes = c.requires.by_index.0; is_sound = by_index_4.after.is_sound; marks = by_index_4.after.marks; early = c.requires.epoch_bound },
+      ),
+      offsets_here by_index_4,
+    )
 
 pub returns-then-edition-eq2 : goal.returns-then-edition-eq2
 returns-then-edition-eq2 c b t sh i x =

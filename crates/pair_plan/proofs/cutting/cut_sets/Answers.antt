@@ -10,5 +10,8 @@ compute_format1_split_points-requires c = (c.requires.0, sets_ready c.requires.1
 
 pub returns : goal.returns
 returns c =
-    let settings = c.args.settings in
-    record { cuts_sets = λ b k. sets_placed k c.info_of-info.ensures settings (c.compute_format1_split_points.ensures.places1 b); sets_tell = λ b k. sets_tell_lem k c.info_of-info.ensures (c.compute_format1_split_points.ensures.tells1 b) }
+    let found = c.compute_format1_split_points.ensures in
+    record {
+      cuts_sets = λ b k. sets_placed k c.info_of-info.ensures c.args.settings (found.places1 b);
+      sets_tell = λ b k. sets_tell_lem k c.info_of-info.ensures (found.tells1 b);
+    }

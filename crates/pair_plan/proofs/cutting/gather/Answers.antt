@@ -8,13 +8,19 @@ pub bytes_of-requires : goal.bytes_of-requires
 bytes_of-requires c = coverage_inside c.requires.by_index.3
 
 pub glyphs_into-requires : goal.glyphs_into-requires
-glyphs_into-requires c = let (l, n, t, k) = c.requires.by_index in let all = cover_ready k (c.bytes_of.ensures l n) in record { part_value = all.0; part_in_bounds = all.1 }
+glyphs_into-requires c =
+    let (l, n, t, k) = c.requires.by_index in
+    let all = cover_ready k (c.bytes_of.ensures l n) in
+    record { part_value = all.0; part_in_bounds = all.1 }
 
 pub bytes_of-requires-2 : goal.bytes_of-requires-2
 bytes_of-requires-2 c = class1_inside c.requires.by_index.3
 
 pub classes_into-requires : goal.classes_into-requires
-classes_into-requires c = let (l, n, t, k) = c.requires.by_index in let all = classes_ready k (c.bytes_of.ensures l n) c.glyphs_into.ensures (c.bytes_of-2.ensures l n) in record { part_value = all.0; ascending = all.1.0; glyphs_in_bounds = all.1.1 }
+classes_into-requires c =
+    let (l, n, t, k) = c.requires.by_index in
+    let all = classes_ready k (c.bytes_of.ensures l n) c.glyphs_into.ensures (c.bytes_of-2.ensures l n) in
+    record { part_value = all.0; ascending = all.1.0; glyphs_in_bounds = all.1.1 }
 
 pub order_by_class-requires : goal.order_by_class-requires
 order_by_class-requires c =

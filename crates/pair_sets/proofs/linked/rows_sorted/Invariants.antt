@@ -1,5 +1,5 @@
 -- `pair_sets::linked::rows_sorted` meets its contract: all rows passed lead to sorted sets. Assumes nothing.
-use Prim.Native.Nat.{ℕ, ◌+◌, ◌-◌}
+use Prim.Native.Nat.{ℕ, ◌+◌}
 use mathlib.Core.Path.{◌≡◌}
 use mathlib.Core.Bool.{Bool}
 use mathlib.Core.List.{List}
@@ -15,6 +15,3 @@ leads_at b o l size first k i = leads_sorted (lent b o l k) size (first + i)
 
 abbrev pub invariant-loop-i : goal.invariant-loop-i
 invariant-loop-i l = ((k : List ℕ) → Passed (leads_at l.«data» l.objects l.links l.size l.first k) l.count l.i) × (length l.seen ≡ length l.initial.seen)
-
-abbrev pub decreases-loop-i : goal.decreases-loop-i
-decreases-loop-i l = l.count - l.i

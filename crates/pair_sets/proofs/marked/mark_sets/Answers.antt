@@ -1,6 +1,5 @@
 -- `pair_sets::marked::mark_sets` meets its contract: what the rows before `k` lead to has a mark. Assumes nothing.
 use borrow.Author.Rules.{rules}
-use Prim.Native.Nat.{◌-◌}
 use mathlib.Core.Path.{◌≡◌, refl}
 use native.Mathlib.Omega.{arith}
 use Rattle.pair_sets.proofs.Marks.{none_marked}
@@ -13,11 +12,6 @@ pub mark_set-requires : goal.mark_set-requires
 mark_set-requires c =
     let k = c.loop-k.k in
     rw c.loop-k.invariant.3 (c.requires.by_index.0 k (omega arith))
-
-pub overflow_add-k : goal.overflow_add-k
-overflow_add-k c =
-    let k = c.loop-k.k in
-    omega (arith, (c.requires.by_index.0 k (omega arith)).small)
 
 pub loop-k-preserved : goal.loop-k-preserved
 loop-k-preserved c =

@@ -1,12 +1,9 @@
 -- `pair_sets::marked::mark_sets` meets its contract: what the rows before `k` lead to has a mark. Assumes nothing.
-use Prim.Native.Nat.{◌-◌, ◌≤◌}
+use Prim.Native.Nat.{◌≤◌}
 use mathlib.Core.Path.{◌≡◌}
 use lib.ListN.{length}
 use Rattle.pair_sets.specs.Marked.{MarksSets}
 use Rattle.pair_sets.proofs.marked.mark_sets.Given as goal
 
 abbrev pub invariant-loop-k : goal.invariant-loop-k
-invariant-loop-k l = (l.rows.first ≤ l.k) × (l.k ≤ l.rows.after) × MarksSets l.links l.rows.first l.k l.marks × (length l.marks ≡ length l.initial.marks)
-
-abbrev pub decreases-loop-k : goal.decreases-loop-k
-decreases-loop-k l = l.rows.after - l.k
+invariant-loop-k l = (l.fn.rows.first ≤ l.k) × (l.k ≤ l.fn.rows.after) × MarksSets l.links l.fn.rows.first l.k l.marks × (length l.marks ≡ length l.initial.marks)

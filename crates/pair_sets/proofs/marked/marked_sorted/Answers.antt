@@ -1,7 +1,5 @@
 -- `pair_sets::marked::marked_sorted` meets its contract: the objects below `i` are sorted sets or have no mark. Assumes nothing.
-use Prim.Native.Nat.{◌-◌}
 use Rattle.store_reader.proofs.Checks.{start, turn, stop, fail}
-use Rattle.pair_sets.specs.Marked.{mark_sorted}
 use mathlib.Core.Path.{ap}
 use mathlib.Core.Bool.{not}
 use Rattle.pair_sets.proofs.marked.marked_sorted.Goals as goal

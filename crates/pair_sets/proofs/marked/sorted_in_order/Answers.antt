@@ -8,7 +8,7 @@ use Rattle.pair_sets.proofs.Marks.{marks_decide}
 use Rattle.pair_sets.proofs.marked.sorted_in_order.Goals as goal
 
 pub mark_sets-requires : goal.mark_sets-requires
-mark_sets-requires c = record { by_index = (λ k l. subst (λ (n : ℕ). RowLeads c.args.links.now n k) (sym c.marks-1.given) (c.requires.by_index.0 k l), c.requires.by_index.1); marks_value = c.clear_u32.ensures ∙ ap (λ (n : ℕ). replicate n 0) (sym c.marks-1.given) }
+mark_sets-requires c = record { by_index = (λ k l. subst (λ (n : ℕ). RowLeads c.args.links.now n k) (sym c.marks-1.given) (c.requires.by_index.0 k l), c.requires.by_index.1); marks_value = (c.fill.ensures.after (λ y e. e)) ∙ ap (λ (n : ℕ). replicate n 0) (sym c.marks-1.given) }
 
 pub marked_sorted-requires : goal.marked_sorted-requires
 marked_sorted-requires c = (λ i l. c.requires.by_index_2.0 i (subst (λ (n : ℕ). i < n) (c.marks-2-1.given ∙ c.marks-1.given) l), c.requires.by_index_2.1)

@@ -1,9 +1,0 @@
--- `vectors::input::read_full` reads no more than its slice holds. Assumes nothing.
-use Rattle.std.proofs.Common.{length, ◌-◌, ◌≤◌, ◌≡◌}
-use Rattle.vectors.proofs.input.read_full.Given as goal
-
-abbrev pub invariant-loop-done : goal.invariant-loop-done
-invariant-loop-done g l = (length l.out ≡ length l.initial.out) × (l.done ≤ length l.out)
-
-abbrev pub decreases-loop-done : goal.decreases-loop-done
-decreases-loop-done g l = length l.initial.out - l.done

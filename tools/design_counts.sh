@@ -1,0 +1,20 @@
+#!/bin/sh
+# Counts of the places of each point in src/, run at the top of the repository.
+src() { find crates/*/src -name '*.rt' -exec cat {} +; }
+echo "1a own enums:            $(src | grep -cE '^ *(pub(\([a-z]+\))? )?enum ')"
+echo "1b of them, shaped like Option or Result: $(src | awk '/^ *(pub )?enum /{n=0;u=0;inside=1;next} inside&&/^ *\}/{ if(n==2&&u>=1)c++; inside=0} inside&&/[A-Za-z]+(\(|,| \{)/{n++; if(/\(|\{/)u++} END{print c+0}')"
+echo "1c structs with a flag beside values: $(src | awk '/^ *(pub )?struct /{inside=1;next} inside&&/^ *\}/{inside=0} inside&&/: bool,/{c++} END{print c+0}')"
+echo "1d functions that answer a refusal by its number: $(src | awk '/fn [a-z_0-9]+/{name=$0} /number_of\(Answer::|number_of\(answer\)/{ if(name!=last){c++; last=name} } END{print c+0}')"
+echo "2a function names with a width or a number that makes twins: $(src | grep -cE 'fn [a-z_]+_(u8|u16|u32|bytes|numbers|format1|format2)\b')"
+echo "2b types of one name in two crates or more: $(for c in crates/*/; do grep -rhoE '^ *(pub )?(struct|enum) [A-Z][A-Za-z]*' $c/src 2>/dev/null | awk '{print $NF}' | sort -u; done | sort | uniq -d | wc -l)"
+echo "2c functions of one name in two crates or more: $(for c in crates/*/; do case $c in crates/splitter/|crates/splitter_c/|crates/vectors/|crates/store_runs/) continue;; esac; grep -rhoE '^ *(pub )?fn [a-z_0-9]+' $c/src 2>/dev/null | awk '{print $NF}' | sort -u; done | sort | uniq -d | wc -l)"
+echo "3a while and loop:       $(src | grep -cE '^ *(while|loop)\b')"
+echo "3b indices counted by hand (x += 1;): $(src | grep -cE '^ *[a-z_]+ \+= 1;')"
+echo "4a conversions by hand (fn wide, number_of, signed, lesser, greater, least): $(src | grep -cE 'fn (wide|number_of|signed|lesser|greater|least|joined_u16|value_of|key_of)\b')"
+echo "4b widening by as:       $(src | grep -cE ' as (usize|u64|u32|i32)\b')"
+echo "5a parameter lists with the four store slices: $(src | awk '/fn [a-z_0-9]+/{s=$0; while(s!~/\{ *$/ && s!~/\)/ && (getline l)>0) s=s l; if(s ~ /objects: &/ && s ~ /links: &/) c++} END{print c+0}')"
+echo "5b parameter lists with three or more scratch slices: $(src | awk '/fn [a-z_0-9]+/{s=$0; while(s!~/\{ *$/ && s!~/\)/ && (getline l)>0) s=s l; n=0; if(s~/walk: &/)n++; if(s~/glyph_set: &|[( ]set: &/)n++; if(s~/glyphs: &/)n++; if(s~/classes: &/)n++; if(s~/cuts: &/)n++; if(n>=3) c++} END{print c+0}')"
+echo "5c functions of eight parameters or more: $(src | awk '/fn [a-z_0-9]+/{s=$0; while(s!~/\)/ && (getline l)>0) s=s l; n=gsub(/: /,": ",s); if(n>=8) c++} END{print c+0}')"
+echo "6a arrays of a fixed length: $(src | grep -cE '\[0[a-z0-9]*; [0-9]+\]|: &?(mut )?\[[ui][0-9]+; [0-9]+\]')"
+echo "6b halvings by hand:     $(src | grep -cE '(lo|from) \+ \((hi|to) - (lo|from)\) / 2')"
+echo "7a matches on which reader or holder to ask: $(src | grep -cE '^ *(ArrayKind|Holder|PartKind)::[A-Za-z]+ =>')"
