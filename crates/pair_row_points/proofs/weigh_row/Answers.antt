@@ -57,29 +57,17 @@ measure_at_cut-size-requires c =
 
 pub overflow_add-info-then-is_due : goal.overflow_add-info-then-is_due
 overflow_add-info-then-is_due c =
-    let inside = c.requires.0 in
     let v = c.requires.1.2 in
-    let b = c.requires.1.0 in
-    let measured_is = c.measure-measured.ensures in
-    let most : (c.measure-measured.result.size ≤ 16777216) × (c.args.info.item ≤ 16777216) =
-    ((measured_is b _ _ c.args.i (c.item_end-end.ensures ∙ (row_ends v inside).0) v.at).most, row_most v inside) in
-    let most-again : (c.measure_at_cut-size.result ≤ 16777216) =
-    let y = measured_is b _ _ c.args.i (c.item_end-end.ensures ∙ (row_ends v inside).0) v.at in
-    (c.measure_at_cut-size.ensures b _ _ _ (at_cut (row_short v inside) v.at y)).most most.0 in
-    omega (arith, most-again, most.1)
+    let row = c.measure-measured.ensures c.requires.1.0 _ _ c.args.i (c.item_end-end.ensures ∙ (row_ends v c.requires.0).0) v.at in
+    let afresh = c.measure_at_cut-size.ensures c.requires.1.0 _ _ _ (at_cut (row_short v c.requires.0) v.at row) in
+    omega (arith, afresh.most row.most, row_most v c.requires.0)
 
 pub cut-requires : goal.cut-requires
 cut-requires c =
-    let inside = c.requires.0 in
     let v = c.requires.1.2 in
-    let b = c.requires.1.0 in
-    let measured_is = c.measure-measured.ensures in
-    let most : (c.measure-measured.result.size ≤ 16777216) × (c.args.info.item ≤ 16777216) =
-    ((measured_is b _ _ c.args.i (c.item_end-end.ensures ∙ (row_ends v inside).0) v.at).most, row_most v inside) in
-    let most-again : (c.measure_at_cut-size.result ≤ 16777216) =
-    let y = measured_is b _ _ c.args.i (c.item_end-end.ensures ∙ (row_ends v inside).0) v.at in
-    (c.measure_at_cut-size.ensures b _ _ _ (at_cut (row_short v inside) v.at y)).most most.0 in
-    (omega (arith, most-again, most.1), omega arith, cut_room v.table.described _ v.filled inside)
+    let row = c.measure-measured.ensures c.requires.1.0 _ _ c.args.i (c.item_end-end.ensures ∙ (row_ends v c.requires.0).0) v.at in
+    let afresh = c.measure_at_cut-size.ensures c.requires.1.0 _ _ _ (at_cut (row_short v c.requires.0) v.at row) in
+    (omega (arith, afresh.most row.most, row_most v c.requires.0), omega arith, cut_room v.table.described _ v.filled c.requires.0)
 
 pub restart-requires : goal.restart-requires
 restart-requires c =

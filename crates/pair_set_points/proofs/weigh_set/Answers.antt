@@ -56,27 +56,17 @@ measure_at_cut-size-requires c =
 
 pub overflow_add-size : goal.overflow_add-size
 overflow_add-size c =
-    let inside = c.requires.0 in
     let v = c.requires.1.2 in
-    let b = c.requires.1.0 in
-    let most : (c.measure-set.result.size ≤ 16777216) =
-    (c.measure-set.ensures b _ _ c.args.i (c.item_end-end.ensures ∙ (set-ends v inside).0) v.at).most in
-    let most-again : (c.measure_at_cut-size.result ≤ 16777216) =
-    let y = c.measure-set.ensures b _ _ c.args.i (c.item_end-end.ensures ∙ (set-ends v inside).0) v.at in
-    (c.measure_at_cut-size.ensures b _ _ _ (at_cut (short v inside) v.at y)).most (most) in
-    omega (arith, most-again)
+    let set = c.measure-set.ensures c.requires.1.0 _ _ c.args.i (c.item_end-end.ensures ∙ (set-ends v c.requires.0).0) v.at in
+    let afresh = c.measure_at_cut-size.ensures c.requires.1.0 _ _ _ (at_cut (short v c.requires.0) v.at set) in
+    omega (arith, afresh.most set.most)
 
 pub cut-requires : goal.cut-requires
 cut-requires c =
-    let inside = c.requires.0 in
     let v = c.requires.1.2 in
-    let b = c.requires.1.0 in
-    let most : (c.measure-set.result.size ≤ 16777216) =
-    (c.measure-set.ensures b _ _ c.args.i (c.item_end-end.ensures ∙ (set-ends v inside).0) v.at).most in
-    let most-again : (c.measure_at_cut-size.result ≤ 16777216) =
-    let y = c.measure-set.ensures b _ _ c.args.i (c.item_end-end.ensures ∙ (set-ends v inside).0) v.at in
-    (c.measure_at_cut-size.ensures b _ _ _ (at_cut (short v inside) v.at y)).most (most) in
-    (omega (arith, most-again), omega arith, cut_room v.table.described _ v.filled inside)
+    let set = c.measure-set.ensures c.requires.1.0 _ _ c.args.i (c.item_end-end.ensures ∙ (set-ends v c.requires.0).0) v.at in
+    let afresh = c.measure_at_cut-size.ensures c.requires.1.0 _ _ _ (at_cut (short v c.requires.0) v.at set) in
+    (omega (arith, afresh.most set.most), omega arith, cut_room v.table.described _ v.filled c.requires.0)
 
 pub returns-then-is_due : goal.returns-then-is_due
 returns-then-is_due c =
