@@ -17,6 +17,16 @@ pub struct Plan<T> {
     pub cuts: usize,
 }
 
+// Copies the places to the front of the list. One by one: a copy of the library calls `memmove`, which the archive for C would then need from outside.
+fn copy_places(cuts: &[u16], places: &mut [u16])
+    requires { length cuts.now ≤ length places.old }
+    ensures { left places ≡ put (came places) 0 cuts.now }
+{
+    for k in 0..cuts.len() {
+        places[k] = cuts[k];
+    }
+}
+
 // Lists the places, if the list is long enough, and says how many they are.
 pub fn list_places(cuts: &[u16], places: &mut [u16]) -> Result<u32, Answer>
     requires { length cuts.now < 65536 }
@@ -26,7 +36,7 @@ pub fn list_places(cuts: &[u16], places: &mut [u16]) -> Result<u32, Answer>
     if places.len() < count {
         return Err(Answer::NoRoom);
     }
-    places[..count].copy_from_slice(cuts);
+    copy_places(cuts, places);
     Ok(count as u32)
 }
 

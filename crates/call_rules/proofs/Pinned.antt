@@ -1,6 +1,7 @@
 -- Answers, scratch and outcomes held against small cases, as one check; each line pins what its comment says. Assumes nothing.
-use Rattle.std.specs.Prelude.{Option, Some, None}
-use Prim.Native.Nat.{ℕ, ◌-◌, ◌*◌}
+use Rattle.std.specs.Prelude.{Option, Some, None, Result, Ok, Err, ◌⊎◌}
+use Rattle.std.proofs.Common.{inl, inr}
+use Prim.Native.Nat.{ℕ, ◌+◌, ◌-◌, ◌*◌}
 use mathlib.Core.Path.{◌≡◌, refl}
 use mathlib.Core.Bool.{Bool, true, false, not}
 use mathlib.Core.List.{List, [], ◌∷◌, map}
@@ -13,6 +14,7 @@ use Rattle.folds.proofs.Compared as compared
 use Rattle.folds.proofs.Compared.{same, every}
 use Rattle.store_rules.specs.Store as Store
 use Rattle.store_rules.specs.Store.{Store, per_link}
+use Rattle.call_rules.specs.declared.Answer.{Answer}
 use Rattle.call_rules.specs.declared.Answer.TheVariants.{
   Done,
   BadEdition,
@@ -29,7 +31,7 @@ use Rattle.call_rules.specs.declared.Answer.TheVariants.{
   NoRoom,
 }
 use Rattle.call_rules.specs.Answers as Answers
-use Rattle.call_rules.specs.Answers.{number, case, first_case}
+use Rattle.call_rules.specs.Answers.{number, refusal, numbered, answer_of, count_of, case, first_case}
 use Rattle.call_rules.specs.Settings as Settings
 use Rattle.call_rules.specs.Settings.{settings_of, settings_cases}
 use Rattle.call_rules.specs.Scratch as Scratch
@@ -44,6 +46,18 @@ use Rattle.call_rules.specs.Outcomes.{Outcome, outcome, done, settle}
 unfoldable pub answered : Option ℕ → ℕ
 answered (Some n) = n
 answered None = 99
+
+-- a step that has made a number, and one that has the call's answer
+abbrev made : ℕ → Result ℕ Answer
+made n = Ok n
+
+abbrev refused : Answer → Result ℕ Answer
+refused a = Err a
+
+-- on one side the number, on the other one more
+unfoldable pub either_one : ℕ ⊎ ℕ → ℕ
+either_one (inl n) = n
+either_one (inr n) = n + 1
 
 -- a store with so many bytes in use
 unfoldable pub store : ℕ → Store
@@ -96,6 +110,10 @@ pins =
     (number Done ∷ number BadEdition ∷ number Unsound ∷ number NoTable ∷ number BadList ∷ number BadTable ∷ number BadParts ∷ number FewGlyphs ∷ number ShortScratch
     ∷ number BadLinks ∷ number UnsortedSets ∷ number ManySubtables ∷ number NoRoom ∷ [])
     (0 ∷ 12 ∷ 1 ∷ 2 ∷ 9 ∷ 3 ∷ 4 ∷ 5 ∷ 6 ∷ 7 ∷ 11 ∷ 10 ∷ 8 ∷ [])
+    -- `refusal`, `numbered`, `answer_of`, `count_of`: of what was made, and of an answer
+    ∷ same (answered (refusal (made 5)) ∷ either_one (numbered (made 5)) ∷ answer_of (made 5) ∷ count_of (made 5) ∷ []) (99 ∷ 6 ∷ 0 ∷ 5 ∷ [])
+    ∷ same (answered (refusal (refused NoRoom)) ∷ either_one (numbered (refused NoRoom)) ∷ answer_of (refused NoRoom) ∷ count_of (refused NoRoom) ∷ [])
+    (8 ∷ 8 ∷ 8 ∷ 0 ∷ [])
     -- `first_case`: the first that applies
     ∷ eqb (answered (first_case (case NoTable false ∷ case BadLinks true ∷ case NoRoom true ∷ []))) 7
     ∷ eqb (answered (first_case (case NoTable false ∷ []))) 99
@@ -141,5 +159,5 @@ pins =
     ∷ []
 
 pub pinned : every pins ≡ true
-unfolding Lists.computes compared.computes Store.computes Answers.computes Settings.computes Scratch.computes goal.computes Outcomes.computes answered store holds zeroed leaves too_short too_little pins
+unfolding Lists.computes compared.computes Store.computes Answers.computes Settings.computes Scratch.computes goal.computes Outcomes.computes answered either_one store holds zeroed leaves too_short too_little pins
 pinned = refl

@@ -1,8 +1,6 @@
 -- What a split and its lookups need, counted. Assumes nothing.
 use Rattle.std.specs.Prelude.{ℕ, ◌≤◌, ◌≡◌, true, false, List, length, Result, Ok, Err}
 use Rattle.store_rules.specs.Store.{Store}
-use Rattle.call_rules.specs.declared.Answer.{Answer}
-use Rattle.call_rules.specs.declared.Answer.TheVariants.{ManySubtables}
 use Rattle.pair_rules.specs.Written.{new_tables}
 use Rattle.pair_checks.specs.declared.PairTable.{PairTable}
 use Rattle.pair_carrying.specs.Arranging.{Arranging}
@@ -21,10 +19,9 @@ pub record MeasuringAll (s : Store) (t : ℕ) (p : PairTable) (gs ks cs ps : Lis
 -- the covered glyphs are arranged, and both are measured
 pub record BothMeasured (s : Store) (t : ℕ) (gs ks cs ps : List ℕ) (m : Measures) : Type 0 where
   pub split : Measured s t gs ks cs m.split
-  pub fits : counts_fit s t (new_tables s t cs) ps ≡ true
   pub lookups : m.lookups ≡ lookups_need s t (new_tables s t cs) ps
 
--- or one of the lookups would have more subtables than its count can say, which is 10
-pub record MeasuredAll (s : Store) (t : ℕ) (gs ks cs ps : List ℕ) (r : Result Measures Answer) : Type 0 where
-  pub refuses : (a : Answer) → r ≡ Err a → (a ≡ ManySubtables) × (counts_fit s t (new_tables s t cs) ps ≡ false)
-  pub measures : (m : Measures) → r ≡ Ok m → BothMeasured s t gs ks cs ps m
+-- so they are in an error too, which says that one of the lookups would have more subtables than its count can say
+pub record MeasuredAll (s : Store) (t : ℕ) (gs ks cs ps : List ℕ) (r : Result Measures Measures) : Type 0 where
+  pub over : (m : Measures) → r ≡ Err m → BothMeasured s t gs ks cs ps m × (counts_fit s t (new_tables s t cs) ps ≡ false)
+  pub fit : (m : Measures) → r ≡ Ok m → BothMeasured s t gs ks cs ps m × (counts_fit s t (new_tables s t cs) ps ≡ true)

@@ -3,7 +3,7 @@ ghost use Rattle.folds.specs.Moments.{left};
 ghost use Rattle.store_rules.specs.Moments.{store_came_with, store_now_with};
 ghost use Rattle.lookup_carrying.specs.Measuring.{MeasuringAll, MeasuredAll};
 
-use call_rules::{Answer, Needs};
+use call_rules::Needs;
 use lookup_new_objects::measure;
 use pair_carrying::measuring::measure_needs;
 use pair_checks::PairTable;
@@ -16,7 +16,7 @@ pub struct Measures {
 }
 
 // Arranges the covered glyphs of a table by the tables that `cuts` make of it, and measures these and the lookups that they are entered in.
-// It is refused where one of the lookups would have more subtables than its count can say.
+// They are an error where one of the lookups would have more subtables than its count can say.
 pub fn measure_all(
     data: &[u8],
     objects: &[u32],
@@ -28,14 +28,13 @@ pub fn measure_all(
     glyphs: &mut [u16],
     classes: &mut [u16],
     cuts: &[u16],
-) -> Result<Measures, Answer>
+) -> Result<Measures, Measures>
     requires { MeasuringAll (store_now_with «data» objects links counts) table opened glyphs.old classes.old cuts.now lookups.now }
     ensures { MeasuredAll (store_came_with «data» objects links counts) table (left glyphs) (left classes) cuts.now lookups.now result }
 {
     let split = measure_needs(data, objects, opened, glyphs, classes, cuts);
-    let needed = measure(data, objects, links, counts, table, cuts.len(), lookups)?;
-    Ok(Measures {
-        split,
-        lookups: needed,
-    })
+    match measure(data, objects, links, counts, table, cuts.len(), lookups) {
+        Ok(lookups) => Ok(Measures { split, lookups }),
+        Err(lookups) => Err(Measures { split, lookups }),
+    }
 }

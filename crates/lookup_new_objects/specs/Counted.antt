@@ -5,8 +5,6 @@ use Rattle.ot_layouts.specs.Lookup.{subtable_count}
 use Rattle.store_rules.specs.Store.{Store, per_link, row_child, sound, bytes_of}
 use Rattle.store_rules.specs.SlotLinks.{links_from}
 use Rattle.store_reader.specs.declared.LinkRows.{LinkRows}
-use Rattle.call_rules.specs.declared.Answer.{Answer}
-use Rattle.call_rules.specs.declared.Answer.TheVariants.{ManySubtables}
 use Rattle.call_rules.specs.declared.Needs.{Needs}
 use Rattle.lookup_rules.specs.Listed.{subtable_slots}
 use Rattle.lookup_rules.specs.Written.{new_lookup, listings, counts_fit, lookups_need}
@@ -58,6 +56,6 @@ pub record Measuring (s : Store) (k : ℕ) (ps : List ℕ) : Type 0 where
   pub few : k ≤ 65536
   pub short : length ps ≤ 65536
 
--- for a caller: 10 where the count of one cannot be said, or else what 8 counts
-abbrev pub needs_measured : Store → ℕ → List ℕ → List ℕ → Result Needs Answer
-needs_measured s t us ps = cond (counts_fit s t us ps) (Ok (lookups_need s t us ps)) (Err ManySubtables)
+-- for a caller: what 8 counts, and whether 10 applies, which is where the count of one cannot be said
+abbrev pub needs_measured : Store → ℕ → List ℕ → List ℕ → Result Needs Needs
+needs_measured s t us ps = cond (counts_fit s t us ps) (Ok (lookups_need s t us ps)) (Err (lookups_need s t us ps))

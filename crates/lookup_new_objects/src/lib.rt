@@ -12,7 +12,7 @@ ghost use Rattle.lookup_new_objects.specs.Counted.{listed_in, lookup_with, Sized
 ghost use Rattle.lookup_new_objects.specs.Written.{LookupCopyReady, NewLookupReady, WritingLookups};
 
 use buffers::{copy_bytes, zero_bytes};
-use call_rules::{Answer, Needs};
+use call_rules::Needs;
 use ot_lookup::subtable_count;
 use ot_wire::put_u16;
 use store_object_rows::put_object;
@@ -64,7 +64,7 @@ fn measure_lookup(
     }
 }
 
-// What the new lookups for `lookups` need, where there are so many new tables. It is refused where one has more subtables than its count can say.
+// What the new lookups for `lookups` need, where there are so many new tables: an error where one has more subtables than its count can say.
 pub fn measure(
     data: &[u8],
     objects: &[u32],
@@ -73,26 +73,26 @@ pub fn measure(
     table: u32,
     tables: usize,
     lookups: &[u32],
-) -> Result<Needs, Answer>
+) -> Result<Needs, Needs>
     requires { Measuring (store_now_with «data» objects links counts) tables lookups.now }
     ensures { (us : List ℕ) → length us ≡ tables → result ≡ needs_measured (store_came_with «data» objects links counts) table us lookups.now }
 {
+    let mut fits = true;
     let mut needed = 0;
     let mut bytes = 0;
     for &lookup in lookups {
         let size = measure_lookup(data, objects, links, counts, table, tables, lookup);
-        if 65535 < size.subtables {
-            return Err(Answer::ManySubtables);
-        }
+        fits = fits && size.subtables <= 65535;
         needed += size.links;
         bytes += size.bytes;
     }
-    Ok(Needs {
+    let needs = Needs {
         objects: lookups.len(),
         links: needed,
         bytes,
         entries: 0,
-    })
+    };
+    if fits { Ok(needs) } else { Err(needs) }
 }
 
 // Writes the bytes of a new lookup of so many subtables at byte `at`: those of its old one, which stands from `head` up to `tail`, but for the count and for

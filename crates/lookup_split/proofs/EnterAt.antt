@@ -9,20 +9,21 @@ use lib.ListN.{length}
 use Rattle.folds.proofs.Each.{each_at}
 use Rattle.store_rules.specs.Store.{Store, lent}
 use Rattle.store_rules.proofs.Sound.{Fits, sound_fits}
-use Rattle.call_rules.specs.declared.Answer.TheVariants.{NoRoom}
+use Rattle.call_rules.specs.declared.Answer.TheVariants.{ManySubtables, NoRoom}
 use Rattle.call_rules.specs.declared.Needs.{Needs}
 use Rattle.call_rules.specs.Answers.{number, first_case}
 use Rattle.call_rules.specs.Needs.{InUse, lent_of, counts_of, short_by, room_short, together}
 use Rattle.call_rules.specs.Scratch.{Scratch, cleared}
 use Rattle.call_rules.specs.Outcomes.{done, settle, outcome}
 use Rattle.call_rules.proofs.Room.{sound_in_use}
-use Rattle.call_rules.specs.declared.Answer.{Answer}
 use Rattle.call_rules.specs.declared.Lent.{Lent}
 use Rattle.call_room.proofs.Together.{first_held}
 use Rattle.pair_checks.specs.declared.PairTable.{PairTable}
+use Rattle.pair_rules.specs.Written.{new_tables}
 use Rattle.pair_carrying.proofs.Counting.{tables_many}
 use Rattle.lookup_rules.specs.Listed.{rewritten}
 use Rattle.lookup_rules.specs.Rewritable.{EachRewritable}
+use Rattle.lookup_rules.specs.Written.{counts_fit}
 use Rattle.lookup_rules.proofs.Listed.{Named, each_named, rewritten_few}
 use Rattle.lookup_carrying.specs.declared.measuring.Measures.{Measures}
 use Rattle.lookup_carrying.specs.Measuring.{MeasuringAll, BothMeasured, MeasuredAll}
@@ -65,14 +66,17 @@ module _ {b o l : List ℕ} (c : List ℕ) {t : ℕ} {p : PairTable} {gs ks cs m
     Leaves r k s' list' =
         (w : Scratch) → outcome r k s' list' (cleared w) ≡ entered_unless (room_cases (lent b o l c) t cs ps list) (lent b o l c) t cs ps w list
 
-    module _ {gs' ks' : List ℕ} {r : Result Measures Answer} (d : MeasuredAll s t gs' ks' cs ps r) where
-      pub too_many : {a : Answer} → r ≡ Err a → Leaves (number a) 0 s list
+    module _ {gs' ks' : List ℕ} {r : Result Measures Measures} (d : MeasuredAll s t gs' ks' cs ps r) where
+      pub too_many : {m : Measures} → r ≡ Err m → Leaves (number ManySubtables) 0 s list
       unfolding first_case settle
-      too_many {a} y w = let (many, over) = d.refuses a y in rw (many, over)
+      too_many {m} y w = let (both, over) = d.over m y in rw over
 
       module _ {m : Measures} (y : r ≡ Ok m) {short : Bool} (e : short ≡ short_by (lent_of s list) c (together m.split m.lookups)) where
         abbrev measured : BothMeasured s t gs' ks' cs ps m
-        measured = d.measures m y
+        measured = let (both, within) = d.fit m y in both
+
+        within : counts_fit s t (new_tables s t cs) ps ≡ true
+        within = let (both, within) = d.fit m y in within
 
         both : together m.split m.lookups ≡ all_needed s t cs ps
         both = ap₂ (λ (x y : Needs). together x y) measured.split.needs measured.lookups
@@ -86,7 +90,7 @@ module _ {b o l : List ℕ} (c : List ℕ) {t : ℕ} {p : PairTable} {gs ks cs m
 
         pub no_room_lem : short ≡ true → Leaves (number NoRoom) 0 s list
         unfolding first_case settle
-        no_room_lem z w = let full : room_short s list (all_needed s t cs ps) ≡ true = room ∙ z in rw (measured.fits, full)
+        no_room_lem z w = let full : room_short s list (all_needed s t cs ps) ≡ true = room ∙ z in rw (within, full)
 
         module _ (z : short ≡ false) where
           pub can_carry : CarryingAll s t p m.split gs' ks' cs list marks ps
@@ -102,7 +106,7 @@ module _ {b o l : List ℕ} (c : List ℕ) {t : ℕ} {p : PairTable} {gs ks cs m
                 few = k.few;
                 linked = k.linked;
                 found = k.found;
-                fits = measured.fits;
+                fits = within;
                 room = room ∙ z;
               }
 
@@ -110,4 +114,4 @@ module _ {b o l : List ℕ} (c : List ℕ) {t : ℕ} {p : PairTable} {gs ks cs m
           unfolding first_case settle done
           all-entered x w =
               let enough : room_short s list (all_needed s t cs ps) ≡ false = room ∙ z in
-              rw (measured.fits, enough, x.store, x.list_is, tables_many s t cs)
+              rw (within, enough, x.store, x.list_is, tables_many s t cs)

@@ -45,9 +45,11 @@ fn enter_at(
         ≡ entered_unless (room_cases (store_came «data» objects links counts) table cuts.now lookups.now (came new_tables))
         (store_came «data» objects links counts) table cuts.now lookups.now w (came new_tables) }
 {
-    let measures = measure_all(
+    let Ok(measures) = measure_all(
         data, objects, links, *counts, table, opened, lookups, glyphs, classes, cuts,
-    )?;
+    ) else {
+        return Err(Answer::ManySubtables);
+    };
     let lent = Lent::of(data, objects, links, new_tables);
     let split = measures.split;
     let entered = measures.lookups;

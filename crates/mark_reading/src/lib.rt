@@ -15,7 +15,7 @@ ghost use Rattle.mark_reading.specs.Reading.{attached_as, place_below, attach_at
 
 mod anchors;
 
-use anchors::Anchors;
+pub use anchors::Anchors;
 use glyph_parts::{Part, place_in};
 use mark_checks::{MarkTable, check_table};
 use ot_wire::u16_at;

@@ -8,6 +8,7 @@ ghost use Rattle.folds.specs.Moments.{came, left};
 ghost use Rattle.ot_class_def_writer.specs.Entries.{entries_of};
 
 use crate::covered::Entries;
+use crate::named::run_last;
 use ot_ranges::put_range;
 use ot_wire::put_u16;
 
@@ -24,7 +25,7 @@ impl Entries<'_> {
         while k < self.glyphs.len() {
             let class = self.classes[k];
             if self.first < class {
-                let last = self.run_last(k);
+                let last = run_last(self.glyphs, self.classes, k);
                 put_range(
                     out,
                     end,

@@ -18,14 +18,14 @@ pub fn reduced(class: u16, first: u16) -> u16
     class.saturating_sub(first)
 }
 
-impl Entries<'_> {
-    // Whether entry `k` is that of the glyph.
-    pub fn stands(&self, k: usize, glyph: usize) -> bool
-        ensures { result ≡ (ltb k (length self.now.glyphs.now) && eqb (get_or self.now.glyphs.now k 0) glyph) }
-    {
-        k < self.glyphs.len() && usize::from(self.glyphs[k]) == glyph
-    }
+// Whether entry `k` is that of the glyph.
+pub fn stands(glyphs: &[u16], k: usize, glyph: usize) -> bool
+    ensures { result ≡ (ltb k (length glyphs.now) && eqb (get_or glyphs.now k 0) glyph) }
+{
+    k < glyphs.len() && usize::from(glyphs[k]) == glyph
+}
 
+impl Entries<'_> {
     // Writes the class of each glyph from the first named to the last, 0 for those between.
     pub fn put_classes(&self, outline: Outline, out: &mut [u8], at: usize)
         requires outlines { OutlineOf self.now outline }
@@ -36,7 +36,7 @@ impl Entries<'_> {
         let span = outline.span;
         let mut k = outline.from;
         for j in 0..span {
-            if self.stands(k, start + j) {
+            if stands(self.glyphs, k, start + j) {
                 put_u16(out, at + 2 * j, reduced(self.classes[k], self.first));
                 k += 1;
                 continue;

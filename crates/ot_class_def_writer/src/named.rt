@@ -16,29 +16,54 @@ pub struct Outline {
     pub span: usize,
 }
 
-impl Entries<'_> {
-    // Whether the entry behind `k` has the next glyph and the same class.
-    pub fn joined(&self, k: usize) -> bool
-        requires k_in_bounds { k < length self.now.glyphs.now }
-        ensures { result ≡ joins_at self.now.glyphs.now self.now.classes.now k }
-    {
-        k + 1 < self.glyphs.len()
-            && self.classes[k] == self.classes[k + 1]
-            && u32::from(self.glyphs[k]) + 1 == u32::from(self.glyphs[k + 1])
-    }
+// Whether the entry behind `k` has the next glyph and the same class.
+pub fn joined(glyphs: &[u16], classes: &[u16], k: usize) -> bool
+    requires classes_len { length classes.now ≡ length glyphs.now }
+    requires k_in_bounds { k < length glyphs.now }
+    ensures { result ≡ joins_at glyphs.now classes.now k }
+{
+    k + 1 < glyphs.len()
+        && classes[k] == classes[k + 1]
+        && u32::from(glyphs[k]) + 1 == u32::from(glyphs[k + 1])
+}
 
-    // The last entry of the run that has entry `k`.
-    pub fn run_last(&self, k: usize) -> usize
-        requires k_in_bounds { k < length self.now.glyphs.now }
-        ensures { RunTo self.now.glyphs.now self.now.classes.now k result }
-    {
-        let mut last = k;
-        while self.joined(last) {
-            last += 1;
+// The last entry of the run that has entry `k`.
+pub fn run_last(glyphs: &[u16], classes: &[u16], k: usize) -> usize
+    requires classes_len { length classes.now ≡ length glyphs.now }
+    requires k_in_bounds { k < length glyphs.now }
+    ensures { RunTo glyphs.now classes.now k result }
+{
+    let mut last = k;
+    // Entry by entry, as long as they join.
+    while joined(glyphs, classes, last) {
+        last += 1;
+    }
+    last
+}
+
+// The first entry that is named, or the number of entries.
+pub fn first_named(classes: &[u16], first: u16) -> usize
+    ensures { FirstNamed classes.now first result }
+{
+    classes
+        .iter()
+        .position(|class| first < *class)
+        .unwrap_or(classes.len())
+}
+
+// One past the last entry that is named, or 0.
+pub fn last_named(classes: &[u16], first: u16) -> usize
+    ensures { LastNamed classes.now first result }
+{
+    for last in (0..classes.len()).rev() {
+        if first < classes[last] {
+            return last + 1;
         }
-        last
     }
+    0
+}
 
+impl Entries<'_> {
     // How many runs the named entries make.
     pub fn count_runs(&self) -> usize
         ensures value { result ≡ length (runs (named (entries_of self.now))) }
@@ -49,7 +74,7 @@ impl Entries<'_> {
         // Run by run: a named run is stepped over at once.
         while k < self.glyphs.len() {
             if self.first < self.classes[k] {
-                k = self.run_last(k) + 1;
+                k = run_last(self.glyphs, self.classes, k) + 1;
                 count += 1;
             } else {
                 k += 1;
@@ -58,36 +83,15 @@ impl Entries<'_> {
         count
     }
 
-    // The first entry that is named, or the number of entries.
-    pub fn first_named(&self) -> usize
-        ensures { FirstNamed self.now.classes.now self.now.first result }
-    {
-        self.classes
-            .iter()
-            .position(|class| self.first < *class)
-            .unwrap_or(self.classes.len())
-    }
-
-    // One past the last entry that is named, or 0.
-    pub fn last_named(&self) -> usize
-        ensures { LastNamed self.now.classes.now self.now.first result }
-    {
-        for last in (0..self.classes.len()).rev() {
-            if self.first < self.classes[last] {
-                return last + 1;
-            }
-        }
-        0
-    }
-
+    // What decides the format.
     pub fn outline(&self) -> Outline
         ensures { OutlineOf self.now result }
     {
         let glyphs = self.glyphs;
         let runs = self.count_runs();
-        let from = self.first_named();
+        let from = first_named(self.classes, self.first);
         if from < glyphs.len() {
-            let last = self.last_named() - 1;
+            let last = last_named(self.classes, self.first) - 1;
             let start = glyphs[from] as usize;
             let end = glyphs[last] as usize + 1;
             Outline {

@@ -1,10 +1,11 @@
 -- The numbers of some rows, rotated, are those of the rows rotated. Assumes nothing.
 use mathlib.Core.Path.{◌≡◌, sym, ap, ap₂, ◌∙◌}
-use mathlib.Core.List.{List, ◌++◌, append_assoc}
+use mathlib.Core.List.{List, [], ◌++◌, reverse, append_assoc, append-nil}
+use Rattle.std.proofs.lemmas.List.{length-reverse, reverse-append, reverse-reverse}
 use Prim.Native.Nat.{ℕ, ◌+◌, ◌-◌, ◌*◌, ◌≤◌}
 use native.Mathlib.Omega.{arith}
 use lib.ListN.{length, take, drop, length-append}
-use lib.Seq.{take_at, drop_at, drop-drop}
+use lib.Seq.{take_at, take-length, drop_at, drop-drop, drop-length, length-take-le}
 use borrow.Rule.Slice.PartMut.{put_mid, mid_of}
 use Rattle.folds.specs.Lists.{put, part}
 use Rattle.folds.proofs.WrittenPart.{part-written}
@@ -19,6 +20,43 @@ rows_part ls lo hi l h =
     ap (part ls (per_link * lo)) (sym (rows_long ls lo hi l))
     ∙ ap (λ (d : List ℕ). part d (per_link * lo) (per_link * lo + length (rows ls lo hi))) (sym (own_rows ls lo hi l h))
     ∙ part-written ls (per_link * lo) (rows ls lo hi) (omega arith)
+
+pub moved_fit : (ls : List ℕ) (a b m : ℕ) → a ≤ b → b ≤ m → per_link * m ≤ length ls
+    → per_link * (b - a) ≤ length (mid_of (per_link * a) (per_link * m - per_link * a) ls)
+moved_fit ls a b m ab bm room =
+    let long : length (mid_of (per_link * a) (per_link * m - per_link * a) ls) ≡ length (rows ls a m)
+    = ap (λ (x : List ℕ). length x) (rows_part ls a m (omega arith) room) in
+    omega (arith, long, rows_long ls a m (omega arith))
+
+-- the front n numbers reversed, then those behind them, and then all
+module _ (p : List ℕ) (n : ℕ) (room : n ≤ length p) {one : List ℕ} (first : one ≡ reverse (take n p)) where
+  abbrev halfway : List ℕ
+  halfway = one ++ drop n p
+
+  long : length one ≡ n
+  long = ap (λ (x : List ℕ). length x) first ∙ length-reverse (take n p) ∙ length-take-le n p room
+
+  abbrev rest : ℕ
+  rest = length halfway - n
+
+  whole : rest ≡ length (drop n p)
+  whole = omega (arith, length-append one (drop n p), long)
+
+  behind : drop n halfway ≡ drop n p
+  behind = drop_at one (drop n p) n long
+
+  pub turned : {two three : List ℕ} → two ≡ reverse (take rest (drop n halfway)) → three ≡ reverse (put_mid n rest halfway two)
+      → three ≡ drop n p ++ take n p
+  turned {two} {three} second last =
+      let mirrored : two ≡ reverse (drop n p)
+      = second ∙ ap₂ (λ (k : ℕ) (x : List ℕ). reverse (take k x)) whole behind ∙ ap reverse (take-length (drop n p)) in
+      let nothing : drop rest (drop n halfway) ≡ [] = ap₂ (λ (k : ℕ) (x : List ℕ). drop k x) whole behind ∙ drop-length (drop n p) in
+      last
+      ∙ ap₂ (λ (x y : List ℕ). reverse (x ++ (two ++ y))) (take_at one (drop n p) n long) nothing
+      ∙ ap (λ (x : List ℕ). reverse (one ++ x)) (append-nil two)
+      ∙ ap₂ (λ (x y : List ℕ). reverse (x ++ y)) first mirrored
+      ∙ reverse-append (reverse (take n p)) (reverse (drop n p))
+      ∙ ap₂ (λ (x y : List ℕ). x ++ y) (reverse-reverse (drop n p)) (reverse-reverse (take n p))
 
 pub rotated : (ls : List ℕ) (a b m : ℕ) → a ≤ b → b ≤ m → per_link * m ≤ length ls → {new : List ℕ}
     → (let mid = mid_of (per_link * a) (per_link * m - per_link * a) ls in new ≡ drop (per_link * (b - a)) mid ++ take (per_link * (b - a)) mid)

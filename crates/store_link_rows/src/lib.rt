@@ -110,7 +110,12 @@ pub fn rotate_rows(links: &mut [u32], a: usize, b: usize, m: usize)
     requires { (a ≤ b) × (b ≤ m) × (per_link * m ≤ length links.old) }
     ensures { left links ≡ put (came links) (per_link * a) (rows (came links) b m ++ rows (came links) a b) }
 {
-    links[PER_LINK * a..PER_LINK * m].rotate_left(PER_LINK * (b - a));
+    // By three reversals, since a rotation of the library takes room on the stack.
+    let part = &mut links[PER_LINK * a..PER_LINK * m];
+    let moved = PER_LINK * (b - a);
+    part[..moved].reverse();
+    part[moved..].reverse();
+    part.reverse();
 }
 
 // Where a table's link at `position` leads: its own parts, those at the positions `own`, are the objects from `first` on; any other leads to `child`.

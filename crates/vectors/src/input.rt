@@ -1,5 +1,5 @@
 // The stored text: its numbers, and the lists that it has in runs.
-ghost use Rattle.std.specs.Prelude.{◌≤◌, length};
+ghost use Rattle.std.specs.Prelude.{◌≤◌, IfOk, vec_len};
 
 use std::alloc::{AllocError, Global};
 use std::array;
@@ -85,11 +85,9 @@ impl<'a> Text<'a> {
     }
 
     // The next list: as many numbers as it says, or as there is room for. A run has at least one number, and ends with the list at the latest.
-    pub fn next_list<T: Entry>(
-        &mut self,
-        alloc: Global,
-        room: usize,
-    ) -> Result<Vec<T>, AllocError> {
+    pub fn next_list<T: Entry>(&mut self, alloc: Global, room: usize) -> Result<Vec<T>, AllocError>
+        ensures { IfOk result (λ list. vec_len list ≤ room) }
+    {
         let count = room.min(self.next_number() as usize);
         let mut list = Vec::with_capacity(alloc, count)?;
         while list.len() < count {

@@ -1,5 +1,4 @@
 -- `call_lists::list_places` meets its contract: by the room for the places. Assumes nothing.
-use Rattle.call_lists.proofs.Copying.{copied}
 use Rattle.call_lists.proofs.Handing.{handed_short, handed_places}
 use Rattle.call_lists.proofs.list_places.Goals as goal
 
@@ -11,4 +10,4 @@ returns-then-places-count c =
 pub returns : goal.returns
 returns c =
     let a = c.args in
-    handed_places a.cuts.now a.places.now c.if-places-count.false (copied _ _ c.copy_from_slice.ensures.after)
+    handed_places a.cuts.now a.places.now c.if-places-count.false c.copy_places.ensures

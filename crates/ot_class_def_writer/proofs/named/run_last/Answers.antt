@@ -1,4 +1,4 @@
--- `ot_class_def_writer::covered::Entries::run_last` meets its contract: each entry passed joins the next. Assumes nothing.
+-- `ot_class_def_writer::named::run_last` meets its contract: each entry passed joins the next. Assumes nothing.
 use Prim.Native.Nat.{ℕ, ◌+◌, ◌<◌}
 use mathlib.Core.Path.{◌≡◌, sym, ◌∙◌}
 use mathlib.Core.Bool.{true, false}
@@ -12,8 +12,8 @@ use lib.Dec.{ltb, eqb}
 use borrow.Author.Tests.{ltb-true}
 use Rattle.folds.proofs.Tests.{and_both}
 use Rattle.ot_class_def_writer.specs.Entries.{joins_at, RunTo}
-use Rattle.ot_class_def_writer.proofs.covered.Entries.run_last.Invariants.{Inv}
-use Rattle.ot_class_def_writer.proofs.covered.Entries.run_last.Goals as goal
+use Rattle.ot_class_def_writer.proofs.named.run_last.Invariants.{Inv}
+use Rattle.ot_class_def_writer.proofs.named.run_last.Goals as goal
 
 start : (gs cs : List ℕ) (k : ℕ) → k < length gs → Inv gs cs k k
 start gs cs k l = record { from = omega arith; within = l; joined = λ j a b. absurd (omega arith) }
