@@ -1,4 +1,6 @@
 // Stored calls beside those of the proved functions.
+ghost use Rattle.std.specs.Prelude.{◌≡◌, min};
+
 use crate::digest::Digest;
 use crate::input::{Entry, Text};
 use crate::report::Case;
@@ -74,11 +76,18 @@ pub fn call_agrees<T: Entry + Drop, R: Print, F: FnOnce(&mut Scratch, &mut [T]) 
     Ok((called, list))
 }
 
-// The first numbers of a list, so many, are those that stand next. All of these are read, as far as a list has room.
+// How many numbers of a list are stored, where so many are told: as far as a list has room.
+fn within_room(told: u32) -> usize
+    ensures { result ≡ min 8192 told }
+{
+    ROOM.min(told as usize)
+}
+
+// The first numbers of a list, so many, are those that stand next. All of these are read.
 fn is_next<T: Entry>(text: &mut Text<'_>, count: u32, list: &[T]) -> bool {
     let stored_count = text.next_number();
     let mut agrees = stored_count == count;
-    for k in 0..ROOM.min(stored_count as usize) {
+    for k in 0..within_room(stored_count) {
         let stored = text.next_number();
         agrees &= list.get(k).is_some_and(|number| {
             let number: u32 = (*number).into();

@@ -1,8 +1,7 @@
 // The stored text: its numbers, and the lists that it has in runs.
-ghost use Rattle.std.specs.Prelude.{◌≤◌, IfOk, vec_len};
+ghost use Rattle.std.specs.Prelude.{◌≤◌, ◌<◌, IfOk, IfSome, length, vec_len};
 
 use std::alloc::{AllocError, Global};
-use std::array;
 
 // A number of a list: of a stored one, which has 32 bits, it has the low ones.
 pub trait Entry: Copy + Into<u32> {
@@ -55,53 +54,67 @@ impl<'a> Text<'a> {
     // The next number. What stands before it and is no digit is passed over; behind the last number there are zeros. One that 32 bits do not hold is taken
     // modulo 2^32.
     pub fn next_number(&mut self) -> u32 {
-        self.next_while(|byte| !byte.is_ascii_digit());
-        let digits = self.next_while(|byte| byte.is_ascii_digit());
-        digits.iter().fold(0u32, |number, digit| {
-            number
-                .wrapping_mul(10)
-                .wrapping_add(u32::from(digit.wrapping_sub(b'0')))
-        })
+        self.skip_to_digit();
+        let mut number: u32 = 0;
+        // Digit by digit, up to what is none.
+        while let Some(digit) = self.next_digit() {
+            number = number.wrapping_mul(10).wrapping_add(digit);
+        }
+        number
     }
 
-    // The bytes before the first that is not so.
-    fn next_while<F: Fn(&u8) -> bool>(&mut self, is_so: F) -> &'a [u8]
-        requires { (f : F) (x : _) → F.pre f x }
+    fn skip_to_digit(&mut self) {
+        let front = self.rest.iter().take_while(|byte| !byte.is_ascii_digit());
+        self.rest = self.rest.split_at(front.count()).1;
+    }
+
+    // The value of the digit that stands next, if one does.
+    fn next_digit(&mut self) -> Option<u32>
+        ensures { IfSome result (λ digit. (digit < 10) × (length self.new.rest.now < length self.old.rest.now)) }
     {
-        let end = self.rest.iter().take_while(|byte| is_so(byte)).count();
-        let (front, rest) = self.rest.split_at(end);
+        let (&byte, rest) = self.rest.split_first()?;
+        if !byte.is_ascii_digit() {
+            return None;
+        }
         self.rest = rest;
-        front
+        Some(u32::from(byte - b'0'))
     }
 
-    // The next run: so many numbers, of one value.
-    fn next_run(&mut self) -> (usize, u32) {
+    // The next run of a list that has so many numbers to come: how many it has, one at least, and their value. It ends with the list at the latest.
+    fn next_run(&mut self, left: usize) -> (usize, u32)
+        requires { 0 < left }
+        ensures { (0 < result.0) × (result.0 ≤ left) }
+    {
         let first = self.next_number();
         if self.rest.first() == Some(&b'x') {
-            (first as usize, self.next_number())
+            ((first as usize).clamp(1, left), self.next_number())
         } else {
             (1, first)
         }
     }
 
-    // The next list: as many numbers as it says, or as there is room for. A run has at least one number, and ends with the list at the latest.
+    // The next list: as many numbers as it says, or as there is room for.
     pub fn next_list<T: Entry>(&mut self, alloc: Global, room: usize) -> Result<Vec<T>, AllocError>
         ensures { IfOk result (λ list. vec_len list ≤ room) }
     {
         let count = room.min(self.next_number() as usize);
         let mut list = Vec::with_capacity(alloc, count)?;
         while list.len() < count {
-            let (times, value) = self.next_run();
-            let times = times.clamp(1, count - list.len());
+            let (times, value) = self.next_run(count - list.len());
             list.resize(list.len() + times, T::low(value))?;
         }
         Ok(list)
     }
 
-    // The next list, of so many numbers at most, and zeros behind it.
-    pub fn next_array<const N: usize>(&mut self, alloc: Global) -> Result<[u32; N], AllocError> {
-        let list = self.next_list::<u32>(alloc, N)?;
-        Ok(array::from_fn(|k| list.get(k).copied().unwrap_or(0)))
+    // The same, of 32-bit numbers, laid at the front of a list that is lent.
+    pub fn lay_list(&mut self, list: &mut [u32]) {
+        let count = list.len().min(self.next_number() as usize);
+        let mut at = 0;
+        while at < count {
+            let (times, value) = self.next_run(count - at);
+            list[at..at + times].fill(value);
+            at += times;
+        }
     }
 }
 
@@ -114,7 +127,8 @@ mod tests {
         let mut text = Text::new(b"list 5 2x7 0x8 300 9x1 cuts 1 6");
         let list = text.next_list::<u8>(rt.alloc(), 8)?;
         assert_eq!(rt; list.as_slice(), [7, 7, 8, 44, 1].as_slice());
-        let array = text.next_array::<3>(rt.alloc())?;
+        let mut array = [0; 3];
+        text.lay_list(&mut array);
         assert_eq!(rt; array, [6, 0, 0]);
         assert!(rt; text.is_at_end());
         Ok(())

@@ -56,7 +56,7 @@ fn replay_case<R: Print>(
 ) -> io::Result<(Kind, Called)> {
     let mut store = Store::next(text, alloc)?;
     let mut readings = *text;
-    readings_agree(case, text, alloc, &store, &[])?;
+    readings_agree(case, text, &store, &[])?;
     let _ = call_agrees(
         case,
         text,
@@ -73,7 +73,7 @@ fn replay_case<R: Print>(
         "a new table",
         |scratch, list| { store.split(scratch, list) },
     )?;
-    readings_agree(case, &mut readings, alloc, &store, &new_tables)?;
+    readings_agree(case, &mut readings, &store, &new_tables)?;
     Ok((store.kind, split))
 }
 

@@ -2,7 +2,6 @@
 use crate::input::{Entry, Text};
 use crate::report::Case;
 use crate::store::{Numbers, Reading, Store};
-use std::alloc::{AllocError, Global};
 use std::io;
 
 // A reading of two glyphs as it is stored.
@@ -17,14 +16,20 @@ struct Stored {
 
 impl Stored {
     // The reading that stands next in a text.
-    fn next(text: &mut Text<'_>, alloc: Global) -> Result<Stored, AllocError> {
-        Ok(Stored {
-            first: u16::low(text.next_number()),
-            second: u16::low(text.next_number()),
-            answer: text.next_number(),
-            found: text.next_number(),
-            numbers: text.next_array(alloc)?,
-        })
+    fn next(text: &mut Text<'_>) -> Stored {
+        let first = u16::low(text.next_number());
+        let second = u16::low(text.next_number());
+        let answer = text.next_number();
+        let found = text.next_number();
+        let mut numbers = [0; 16];
+        text.lay_list(&mut numbers);
+        Stored {
+            first,
+            second,
+            answer,
+            found,
+            numbers,
+        }
     }
 
     // A reading is as stored.
@@ -63,7 +68,6 @@ impl Stored {
 pub fn readings_agree<R: Print>(
     case: &mut Case<'_, R>,
     text: &mut Text<'_>,
-    alloc: Global,
     store: &Store,
     new_tables: &[u32],
 ) -> io::Result<()> {
@@ -72,7 +76,7 @@ pub fn readings_agree<R: Print>(
             case.lacks();
             break;
         }
-        let stored = Stored::next(text, alloc)?;
+        let stored = Stored::next(text);
         let agrees = stored.is(&stored.again(store, new_tables));
         case.same("reading", "what two glyphs have", agrees)?;
     }

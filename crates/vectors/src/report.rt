@@ -1,4 +1,6 @@
 // What is counted and said.
+ghost use Rattle.std.specs.Prelude.{◌≡◌, ◌≤◌, ◌+◌};
+
 use crate::calls::Called;
 use crate::store::Kind;
 use std::{fmt, io};
@@ -40,7 +42,7 @@ impl<'a, R: Print> Case<'a, R> {
     }
 }
 
-// What came of the cases, as numbers of them.
+// What came of the cases, as numbers of them. No more differ than there are.
 #[derive(Drop)]
 pub struct Tally {
     cases: u32,
@@ -48,12 +50,15 @@ pub struct Tally {
     uncut: u64,
     refused: [u64; 12],
     of_marks: u64,
-    differing: u64,
+    differing: u32,
+    ghost few: { differing ≤ cases },
 }
 
 impl Tally {
     // The tally before so many cases are replayed.
-    pub fn new(cases: u32) -> Tally {
+    pub fn new(cases: u32) -> Tally
+        ensures { (result.cases ≡ cases) × (result.differing ≡ 0) }
+    {
         Tally {
             cases,
             cut: 0,
@@ -65,13 +70,17 @@ impl Tally {
     }
 
     // Adds a case of a kind of table and what its split answered. A number past the last refusal counts as that.
-    pub fn add(&mut self, kind: Kind, split: Called) {
-        let counted = match (split.count, split.answer) {
-            (0, 0) => &mut self.uncut,
-            (0, refusal) => &mut self.refused[refusal.clamp(1, 12) as usize - 1],
-            _ => &mut self.cut,
-        };
-        *counted = counted.saturating_add(1);
+    pub fn add(&mut self, kind: Kind, split: Called)
+        ensures { (self.new.cases ≡ self.old.cases) × (self.new.differing ≡ self.old.differing) }
+    {
+        match (split.count, split.answer) {
+            (0, 0) => self.uncut = self.uncut.saturating_add(1),
+            (0, refusal) => {
+                let refused = &mut self.refused[refusal.clamp(1, 12) as usize - 1];
+                *refused = refused.saturating_add(1);
+            }
+            _ => self.cut = self.cut.saturating_add(1),
+        }
         match kind {
             Kind::Pairs => {}
             Kind::Marks => self.of_marks = self.of_marks.saturating_add(1),
@@ -79,8 +88,11 @@ impl Tally {
     }
 
     // Adds cases that are not as stored, or not there.
-    pub fn add_differing(&mut self, count: u32) {
-        self.differing = self.differing.saturating_add(u64::from(count));
+    pub fn add_differing(&mut self, count: u32)
+        requires { self.old.differing + count ≤ self.old.cases }
+        ensures { (self.new.cases ≡ self.old.cases) × (self.new.differing ≡ self.old.differing + count) }
+    {
+        self.differing += count;
     }
 }
 

@@ -53,11 +53,16 @@ pub struct Store {
 impl Store {
     // The store that stands next in a text.
     pub fn next(text: &mut Text<'_>, alloc: Global) -> Result<Store, AllocError> {
+        let kind = Kind::of_lookup(text.next_number());
+        let table = text.next_number();
+        let edition = text.next_number();
+        let mut counts = [0; 3];
+        text.lay_list(&mut counts);
         Ok(Store {
-            kind: Kind::of_lookup(text.next_number()),
-            table: text.next_number(),
-            edition: text.next_number(),
-            counts: text.next_array(alloc)?,
+            kind,
+            table,
+            edition,
+            counts,
             data: text.next_list(alloc, 524288)?,
             objects: text.next_list(alloc, 16384)?,
             links: text.next_list(alloc, 32768)?,

@@ -1,5 +1,4 @@
 -- `call_lists::copy_places` meets its contract: the places passed stand at the front. Assumes nothing.
-use borrow.Author.Rules.{rules}
 use Rattle.call_lists.proofs.Copying.{copy_start, copy_turn, copy_stop}
 use Rattle.call_lists.proofs.copy_places.Goals as goal
 
