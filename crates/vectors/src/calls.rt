@@ -1,5 +1,5 @@
 // Stored calls beside those of the proved functions.
-ghost use Rattle.std.specs.Prelude.{◌≡◌, min};
+ghost use Rattle.std.specs.Prelude.{◌<◌};
 
 use crate::digest::Digest;
 use crate::input::{Entry, Text};
@@ -76,25 +76,24 @@ pub fn call_agrees<T: Entry + Drop, R: Print, F: FnOnce(&mut Scratch, &mut [T]) 
     Ok((called, list))
 }
 
-// How many numbers of a list are stored, where so many are told: as far as a list has room.
-fn within_room(told: u32) -> usize
-    ensures { result ≡ min 8192 told }
-{
-    ROOM.min(told as usize)
-}
-
-// The first numbers of a list, so many, are those that stand next. All of these are read.
+// The first numbers of a list, so many, are those that stand next. As many as are told of are read, as far as a list has room.
 fn is_next<T: Entry>(text: &mut Text<'_>, count: u32, list: &[T]) -> bool {
     let stored_count = text.next_number();
     let mut agrees = stored_count == count;
-    for k in 0..within_room(stored_count) {
-        let stored = text.next_number();
-        agrees &= list.get(k).is_some_and(|number| {
-            let number: u32 = (*number).into();
-            number == stored
-        });
+    for k in 0..ROOM.min(stored_count as usize) {
+        agrees &= has_at(list, k, text.next_number());
     }
     agrees
+}
+
+// A list has a number at a place, for which there is room.
+fn has_at<T: Entry>(list: &[T], k: usize, number: u32) -> bool
+    requires { k < 8192 }
+{
+    list.get(k).is_some_and(|entry| {
+        let entry: u32 = (*entry).into();
+        entry == number
+    })
 }
 
 #[cfg(test)]

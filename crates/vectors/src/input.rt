@@ -54,30 +54,16 @@ impl<'a> Text<'a> {
     // The next number. What stands before it and is no digit is passed over; behind the last number there are zeros. One that 32 bits do not hold is taken
     // modulo 2^32.
     pub fn next_number(&mut self) -> u32 {
-        self.skip_to_digit();
-        let mut number: u32 = 0;
-        // Digit by digit, up to what is none.
-        while let Some(digit) = self.next_digit() {
-            number = number.wrapping_mul(10).wrapping_add(digit);
-        }
-        number
-    }
-
-    fn skip_to_digit(&mut self) {
         let front = self.rest.iter().take_while(|byte| !byte.is_ascii_digit());
-        self.rest = self.rest.split_at(front.count()).1;
-    }
-
-    // The value of the digit that stands next, if one does.
-    fn next_digit(&mut self) -> Option<u32>
-        ensures { IfSome result (λ digit. (digit < 10) × (length self.new.rest.now < length self.old.rest.now)) }
-    {
-        let (&byte, rest) = self.rest.split_first()?;
-        if !byte.is_ascii_digit() {
-            return None;
+        let mut rest = self.rest.split_at(front.count()).1;
+        let mut number: u32 = 0;
+        // It goes on as long as digits come, and is no count.
+        while let Some((digit, behind)) = split_digit(rest) {
+            number = number.wrapping_mul(10).wrapping_add(digit);
+            rest = behind;
         }
         self.rest = rest;
-        Some(u32::from(byte - b'0'))
+        number
     }
 
     // The next run of a list that has so many numbers to come: how many it has, one at least, and their value. It ends with the list at the latest.
@@ -116,6 +102,17 @@ impl<'a> Text<'a> {
             at += times;
         }
     }
+}
+
+// The digit that stands first, by its value, and what stands behind it.
+fn split_digit(bytes: &[u8]) -> Option<(u32, &[u8])>
+    ensures { IfSome result (λ digit. (digit.0 < 10) × (length digit.1.now < length bytes.now)) }
+{
+    let (&byte, behind) = bytes.split_first()?;
+    if !byte.is_ascii_digit() {
+        return None;
+    }
+    Some((u32::from(byte - b'0'), behind))
 }
 
 #[cfg(test)]

@@ -3,4 +3,4 @@ use Rattle.std.proofs.Common.{length}
 use Rattle.vectors.proofs.input.Text.next_number.Given as goal
 
 abbrev pub decreases-loop-digit : goal.decreases-loop-digit
-decreases-loop-digit l = length l.self.rest.now
+decreases-loop-digit l = length l.rest
