@@ -12,7 +12,7 @@ use Rattle.pair_carrying.specs.Measuring.{Measured}
 use Rattle.lookup_rules.specs.Written.{counts_fit, lookups_need}
 use Rattle.lookup_new_objects.specs.Counted.{needs_measured}
 use Rattle.lookup_carrying.specs.declared.measuring.Measures.{Measures}
-use Rattle.lookup_carrying.specs.Measuring.{BothMeasured, MeasuredAll}
+use Rattle.lookup_carrying.specs.Measuring.{BothCounted, BothMeasured, MeasuredAll}
 
 -- both together
 abbrev both_needs : Needs → Needs → Measures
@@ -43,7 +43,7 @@ module _ (s : Store) (t : ℕ) (cs ps : List ℕ) {r : Result Needs Needs} (e : 
     pub all_over : r ≡ Err n → MeasuredAll s t gs ks cs ps (Err (both_needs split n))
     all_over y =
         let (needed, over) = counted_over y in
-        let both : BothMeasured s t gs ks cs ps (both_needs split n) = record { split = d; lookups = needed } in
+        let both : BothCounted s t gs ks cs ps (both_needs split n) = record { split = d; lookups = needed } in
         record {
           over = λ m z. let same : both_needs split n ≡ m = cc in rw (← same) (both, over);
           fit = λ m z. let x : ◌≡◌ {A = ℕ} 0 1 = cc in absurd (omega arith);
@@ -52,8 +52,8 @@ module _ (s : Store) (t : ℕ) (cs ps : List ℕ) {r : Result Needs Needs} (e : 
     pub all_fit : r ≡ Ok n → MeasuredAll s t gs ks cs ps (Ok (both_needs split n))
     all_fit y =
         let (needed, within) = counted_fit y in
-        let both : BothMeasured s t gs ks cs ps (both_needs split n) = record { split = d; lookups = needed } in
+        let both : BothMeasured s t gs ks cs ps (both_needs split n) = record { split = d; fits = within; lookups = needed } in
         record {
           over = λ m z. let x : ◌≡◌ {A = ℕ} 0 1 = cc in absurd (omega arith);
-          fit = λ m z. let same : both_needs split n ≡ m = cc in rw (← same) (both, within);
+          fit = λ m z. let same : both_needs split n ≡ m = cc in rw (← same) both;
         }

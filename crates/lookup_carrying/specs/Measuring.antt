@@ -16,12 +16,18 @@ pub record MeasuringAll (s : Store) (t : ℕ) (p : PairTable) (gs ks cs ps : Lis
   pub lookups : EachRewritable s ps
   pub short : length ps ≤ 65536
 
--- the covered glyphs are arranged, and both are measured
-pub record BothMeasured (s : Store) (t : ℕ) (gs ks cs ps : List ℕ) (m : Measures) : Type 0 where
+-- the covered glyphs are arranged, and what both need is counted
+pub record BothCounted (s : Store) (t : ℕ) (gs ks cs ps : List ℕ) (m : Measures) : Type 0 where
   pub split : Measured s t gs ks cs m.split
   pub lookups : m.lookups ≡ lookups_need s t (new_tables s t cs) ps
 
--- so they are in an error too, which says that one of the lookups would have more subtables than its count can say
+-- and each of the lookups can say how many subtables it has
+pub record BothMeasured (s : Store) (t : ℕ) (gs ks cs ps : List ℕ) (m : Measures) : Type 0 where
+  pub split : Measured s t gs ks cs m.split
+  pub fits : counts_fit s t (new_tables s t cs) ps ≡ true
+  pub lookups : m.lookups ≡ lookups_need s t (new_tables s t cs) ps
+
+-- both are counted in an error too, which says that one of the lookups would have more subtables than its count can say
 pub record MeasuredAll (s : Store) (t : ℕ) (gs ks cs ps : List ℕ) (r : Result Measures Measures) : Type 0 where
-  pub over : (m : Measures) → r ≡ Err m → BothMeasured s t gs ks cs ps m × (counts_fit s t (new_tables s t cs) ps ≡ false)
-  pub fit : (m : Measures) → r ≡ Ok m → BothMeasured s t gs ks cs ps m × (counts_fit s t (new_tables s t cs) ps ≡ true)
+  pub over : (m : Measures) → r ≡ Err m → BothCounted s t gs ks cs ps m × (counts_fit s t (new_tables s t cs) ps ≡ false)
+  pub fit : (m : Measures) → r ≡ Ok m → BothMeasured s t gs ks cs ps m

@@ -19,11 +19,9 @@ use Rattle.call_rules.proofs.Room.{sound_in_use}
 use Rattle.call_rules.specs.declared.Lent.{Lent}
 use Rattle.call_room.proofs.Together.{first_held}
 use Rattle.pair_checks.specs.declared.PairTable.{PairTable}
-use Rattle.pair_rules.specs.Written.{new_tables}
 use Rattle.pair_carrying.proofs.Counting.{tables_many}
 use Rattle.lookup_rules.specs.Listed.{rewritten}
 use Rattle.lookup_rules.specs.Rewritable.{EachRewritable}
-use Rattle.lookup_rules.specs.Written.{counts_fit}
 use Rattle.lookup_rules.proofs.Listed.{Named, each_named, rewritten_few}
 use Rattle.lookup_carrying.specs.declared.measuring.Measures.{Measures}
 use Rattle.lookup_carrying.specs.Measuring.{MeasuringAll, BothMeasured, MeasuredAll}
@@ -73,10 +71,7 @@ module _ {b o l : List ℕ} (c : List ℕ) {t : ℕ} {p : PairTable} {gs ks cs m
 
       module _ {m : Measures} (y : r ≡ Ok m) {short : Bool} (e : short ≡ short_by (lent_of s list) c (together m.split m.lookups)) where
         abbrev measured : BothMeasured s t gs' ks' cs ps m
-        measured = let (both, within) = d.fit m y in both
-
-        within : counts_fit s t (new_tables s t cs) ps ≡ true
-        within = let (both, within) = d.fit m y in within
+        measured = d.fit m y
 
         both : together m.split m.lookups ≡ all_needed s t cs ps
         both = ap₂ (λ (x y : Needs). together x y) measured.split.needs measured.lookups
@@ -90,7 +85,7 @@ module _ {b o l : List ℕ} (c : List ℕ) {t : ℕ} {p : PairTable} {gs ks cs m
 
         pub no_room_lem : short ≡ true → Leaves (number NoRoom) 0 s list
         unfolding first_case settle
-        no_room_lem z w = let full : room_short s list (all_needed s t cs ps) ≡ true = room ∙ z in rw (within, full)
+        no_room_lem z w = let full : room_short s list (all_needed s t cs ps) ≡ true = room ∙ z in rw (measured.fits, full)
 
         module _ (z : short ≡ false) where
           pub can_carry : CarryingAll s t p m.split gs' ks' cs list marks ps
@@ -106,7 +101,7 @@ module _ {b o l : List ℕ} (c : List ℕ) {t : ℕ} {p : PairTable} {gs ks cs m
                 few = k.few;
                 linked = k.linked;
                 found = k.found;
-                fits = within;
+                fits = measured.fits;
                 room = room ∙ z;
               }
 
@@ -114,4 +109,4 @@ module _ {b o l : List ℕ} (c : List ℕ) {t : ℕ} {p : PairTable} {gs ks cs m
           unfolding first_case settle done
           all-entered x w =
               let enough : room_short s list (all_needed s t cs ps) ≡ false = room ∙ z in
-              rw (within, enough, x.store, x.list_is, tables_many s t cs)
+              rw (measured.fits, enough, x.store, x.list_is, tables_many s t cs)
